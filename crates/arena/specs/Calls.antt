@@ -1,0 +1,104 @@
+-- What each public call answers and what it leaves in the arena, in document 01's order of refusals.
+-- A refusal is a case that hands back what came in.
+use Prim.Native.Nat.{ℕ}
+use mathlib.Core.Bool.{Bool, true, false}
+use mathlib.Core.List.{List}
+use lib.Dec.{ltb, leb}
+use lib.IntN.{ℤ}
+use lib.ListN.{length, getD}
+use Rattle.laws.specs.Tests.{if_then_else_, each}
+use Rattle.arena.specs.Node.{Node, column, literal, operation, nodeAt}
+use Rattle.arena.specs.Expression.{expressionAt}
+use Rattle.arena.specs.Arena.{Placed, placed, full, add, addExpression}
+use Rattle.arena.specs.Shift.{moved, canMove, shifted}
+use Rattle.arena.specs.Layout.{encode, decode, lawful}
+use Rattle.arena.specs.declared.Added.{Added}
+use Rattle.arena.specs.declared.Added.the-variants.{Number, Refused}
+use Rattle.arena.specs.declared.Read.{Read}
+use Rattle.arena.specs.declared.Read.the-variants.{Column, Literal, Operation, Refused as Read-Refused}
+use Rattle.arena.specs.declared.Child.{Child}
+use Rattle.arena.specs.declared.Child.the-variants.{Number as Child-Number, Absent, Refused as Child-Refused}
+
+-- what a call that changes an arena comes to: its answer, and the arena afterwards
+abbrev pub Outcome : Type 0
+Outcome = Added × List Node
+
+-- where there was no room, the refusal is 3 and the arena is as it was
+unfoldable pub answered : List Node → Placed ℕ → Outcome
+answered ns (placed i ms) = (Number i, ms)
+answered ns full = (Refused 3, ns)
+
+-- add a column, a literal, an operation
+unfoldable pub addColumn : ℕ → ℕ → List Node → Outcome
+addColumn name index ns = answered ns (add (column name index) ns)
+
+unfoldable pub addLiteral : ℕ → List Node → Outcome
+addLiteral value ns = answered ns (add (literal value) ns)
+
+unfoldable pub addOperation : ℕ → List ℕ → List Node → Outcome
+addOperation label children ns =
+    if each (λ k. ltb (getD children k 0) (length ns)) (length children) then
+    (if leb (length children) 8 then answered ns (add (operation label children) ns) else (Refused 2, ns))
+    else (Refused 1, ns)
+
+-- shift an expression by an offset
+unfoldable pub addOffset : ℕ → ℤ → List Node → Outcome
+addOffset e offset ns =
+    if ltb e (length ns) then
+    (if canMove (moved offset) (expressionAt ns e) then answered ns (addExpression (shifted (moved offset) (expressionAt ns e)) ns) else (Refused 10, ns))
+    else (Refused 1, ns)
+
+-- read a node
+unfoldable pub readOf : Node → Read
+readOf (column name index) = Column name index
+readOf (literal value) = Literal value
+readOf (operation label children) = Operation label (length children)
+
+unfoldable pub readNode : ℕ → List Node → Read
+readNode e ns = if ltb e (length ns) then readOf (nodeAt ns e) else Read-Refused 1
+
+-- read a child of a node; a place that the node doesn't have is no refusal, and the answer says that there is none
+unfoldable pub childrenOfNode : Node → List ℕ
+childrenOfNode (column name index) = mathlib.Core.List.[]
+childrenOfNode (literal value) = mathlib.Core.List.[]
+childrenOfNode (operation label children) = children
+
+unfoldable pub readChild : ℕ → ℕ → List Node → Child
+readChild e k ns =
+    if ltb e (length ns) then
+    (if ltb k (length (childrenOfNode (nodeAt ns e))) then Child-Number (getD (childrenOfNode (nodeAt ns e)) k 0) else Absent)
+    else Child-Refused 1
+
+-- a call on lent cells: 11 and the cells as they were where they are no arena; else what the call does to the arena in them
+unfoldable pub inCells : Outcome → Added × List ℕ
+inCells o = (o .0, encode (o .1))
+
+unfoldable pub lent : (List Node → Outcome) → List ℕ → Added × List ℕ
+lent call cells = if lawful cells then inCells (call (decode cells)) else (Refused 11, cells)
+
+-- the same for calls that only read
+unfoldable pub lentRead : (List Node → Read) → List ℕ → Read
+lentRead call cells = if lawful cells then call (decode cells) else Read-Refused 11
+
+unfoldable pub lentChild : (List Node → Child) → List ℕ → Child
+lentChild call cells = if lawful cells then call (decode cells) else Child-Refused 11
+
+-- the check alone: 0 or 11
+unfoldable pub checked : List ℕ → ℕ
+checked cells = if lawful cells then 0 else 11
+
+-- document 01's number of each answer: 0 is done
+abbrev pub addedNumber : Added → ℕ
+addedNumber (Number i) = 0
+addedNumber (Refused k) = k
+
+abbrev pub readNumber : Read → ℕ
+readNumber (Column name index) = 0
+readNumber (Literal value) = 0
+readNumber (Operation label children) = 0
+readNumber (Read-Refused k) = k
+
+abbrev pub childNumber : Child → ℕ
+childNumber (Child-Number i) = 0
+childNumber Absent = 0
+childNumber (Child-Refused k) = k

@@ -1,0 +1,45 @@
+-- What a number of an arena stands for: an expression, whole, as a tree.
+use Prim.Native.Nat.{ℕ, suc}
+use mathlib.Core.List.{List, [], _∷_, _++_}
+use lib.ListN.{getD}
+use Rattle.arena.specs.Node.{Node, column, literal, operation}
+
+mutual
+  pub data Expression : Type 0 where
+    col : (name index : ℕ) → Expression
+    lit : (value : ℕ) → Expression
+    op : (label : ℕ) (children : Expressions) → Expression
+
+  pub data Expressions : Type 0 where
+    ∅ : Expressions
+    _▹_ : Expression → Expressions → Expressions
+
+infixr 67 _▹_
+-- how many expressions there are
+unfoldable pub size : Expressions → ℕ
+size ∅ = 0
+size (e ▹ es) = suc (size es)
+
+-- those of the expressions es that have the numbers ks
+unfoldable pub those : List Expression → List ℕ → Expressions
+those es [] = ∅
+those es (k ∷ ks) = getD es k (lit 0) ▹ those es ks
+
+-- the expression of a node whose children are numbers of es
+unfoldable pub over : List Expression → Node → Expression
+over es (column name index) = col name index
+over es (literal value) = lit value
+over es (operation label children) = op label (those es children)
+
+-- es, and after them the expressions of the nodes ns, each over all that stand before it
+unfoldable pub grown : List Expression → List Node → List Expression
+grown es [] = es
+grown es (n ∷ ns) = grown (es ++ (over es n ∷ [])) ns
+
+-- the expressions of an arena, by number
+unfoldable pub expressions : List Node → List Expression
+expressions ns = grown [] ns
+
+-- the expression with a number
+abbrev pub expressionAt : List Node → ℕ → Expression
+expressionAt ns e = getD (expressions ns) e (lit 0)

@@ -1,0 +1,1 @@
+// No functions: definitions (specs/) and laws about them (proofs/) that several crates cite.
