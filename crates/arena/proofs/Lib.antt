@@ -1,3 +1,4 @@
 -- Laws of the definitions in specs/.
 pub mod Examples
 pub mod Nodes
+pub mod Trees

@@ -60,7 +60,7 @@ unfolding find
 find-none n ns e i l q = true-not-false (is-same q) (first-none (λ (j : ℕ). sameNode n (nodeAt ns j)) (length ns) e i l)
 
 -- the numbers of equal nodes of a sound arena are equal
-same-number : (ns : List Node) → Sound ns → (i j : ℕ) → i < length ns → j < length ns → nodeAt ns i ≡ nodeAt ns j → i ≡ j
+pub same-number : (ns : List Node) → Sound ns → (i j : ℕ) → i < length ns → j < length ns → nodeAt ns i ≡ nodeAt ns j → i ≡ j
 same-number ns s i j li lj e = at (ℕ-discrete i j) (decLt i j)
   where
     at : Dec (i ≡ j) → Dec (i < j) → i ≡ j
