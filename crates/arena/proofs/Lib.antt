@@ -2,3 +2,4 @@
 pub mod Examples
 pub mod Nodes
 pub mod Trees
+pub mod Growing
