@@ -3,3 +3,4 @@ pub mod Examples
 pub mod Nodes
 pub mod Trees
 pub mod Growing
+pub mod Values
