@@ -1,7 +1,7 @@
 -- Adding expressions: what is answered stands for what was added, and an expression that is there is found again.
-use Prim.Native.Nat.{ℕ, zero, suc, _+_, _<_, _≤_}
+use Prim.Native.Nat.{ℕ, zero, suc, _<_, _≤_}
 use mathlib.Core.List.{List, [], _∷_}
-use mathlib.Core.Path.{_≡_, refl, sym, ap, ap₂, _∙_, subst, subst₂}
+use mathlib.Core.Path.{_≡_, refl, sym, ap, ap₂, _∙_, subst₂}
 use native.Mathlib.Omega.{arith}
 use lib.ListN.{length, getD}
 use Rattle.arena.specs.Node.{Node, column, literal, operation, nodeAt}
@@ -25,13 +25,14 @@ pub record AddedExpressions (es : Expressions) (ns : List Node) (ks : List ℕ) 
   pub counted : length ks ≡ size es
   pub is : those (expressions ms) ks ≡ es
 
--- what is handed on was placed
+-- what was placed in between, where something is handed on
 record Between {A B : Type 0} (p : Placed A) (f : A → List Node → Placed B) (b : B) (os : List Node) : Type 0 where
   answer : A
   arena : List Node
   first : p ≡ placed answer arena
   then : f answer arena ≡ placed b os
 
+-- where the end was placed, so was the beginning
 between : {A B : Type 0} (p : Placed A) (f : A → List Node → Placed B) (b : B) (os : List Node) → andThen p f ≡ placed b os → Between p f b os
 unfolding andThen
 between (placed a ns) f b os e = record { answer = a; arena = ns; first = refl; then = e }
@@ -120,13 +121,14 @@ over-lit es (column a x) v e = absurd (let z : _≡_ {A = ℕ} 0 1 = cc in omega
 over-lit es (literal w) v e = cc
 over-lit es (operation l ks) v e = absurd (let z : _≡_ {A = ℕ} 0 1 = cc in omega arith)
 
--- a node that is an operation's expression is that operation over numbers of its children
+-- a node is an operation over lower numbers, which are those of the children
 record Over (es : List Expression) (i : ℕ) (n : Node) (label : ℕ) (children : Expressions) : Type 0 where
   numbers : List ℕ
   node : n ≡ operation label numbers
   lower : (k : ℕ) → k < length numbers → getD numbers k 0 < i
   is : those es numbers ≡ children
 
+-- a node that is an operation's expression is that operation over numbers of its children
 over-op : (es : List Expression) (i : ℕ) (n : Node) (label : ℕ) (children : Expressions) → Allowed i n → over es n ≡ op label children → Over es i n label children
 unfolding over Allowed
 over-op es i (column a x) label children p e = absurd (let z : _≡_ {A = ℕ} 0 1 = cc in omega arith)

@@ -1,22 +1,22 @@
 -- Nodes: their equality is the test's, finding, arenas that extend others, and adding a node.
-use Prim.Native.Nat.{ℕ, zero, suc, _+_, _<_, _≤_}
+use Prim.Native.Nat.{ℕ, _+_, _<_, _≤_}
 use mathlib.Core.Bool.{Bool, true, false, _&&_}
 use mathlib.Core.List.{List, [], _∷_, _++_, append-assoc, append-nil}
 use mathlib.Core.Option.{Option, none, some}
-use mathlib.Core.Path.{_≡_, refl, sym, ap, ap₂, _∙_, subst, subst₂}
+use mathlib.Core.Path.{_≡_, refl, sym, ap, _∙_, subst, subst₂}
 use native.Mathlib.Decide.{ℕ-discrete, decLt}
 use native.Mathlib.Omega.{arith}
 use borrow.Author.Tests.{eqb-true, eq-eqb, ltb-true}
 use lib.Dec.{eqb, ltb}
-use lib.ListN.{length, getD, length-append, List·getD-append}
+use lib.ListN.{length, length-append, List·getD-append}
 use lib.Seq.{getD-append-seam}
-use Rattle.laws.specs.Tests.{if_then_else_, first}
+use Rattle.laws.specs.Tests.{if_then_else_}
 use Rattle.laws.specs.Lists.{sameNumbers}
 use Rattle.laws.proofs.Booleans.{true-not-false, and-left, and-right, and-both}
 use Rattle.laws.proofs.First.{first-some, first-none, first-only}
 use Rattle.laws.proofs.Table.{same-numbers, numbers-same}
 use Rattle.arena.specs.Node.{Node, column, literal, operation, nodeAt, sameNode}
-use Rattle.arena.specs.Arena.{Allowed, Sound, Extends, Placed, placed, full, find, placedAt, add}
+use Rattle.arena.specs.Arena.{Allowed, Sound, Extends, placed, full, find, placedAt, add}
 
 -- two numbers that pass, one after the other
 both : (a b x y : ℕ) → (eqb a b && eqb x y) ≡ true → (a ≡ b) × (x ≡ y)
@@ -108,20 +108,24 @@ pub record AddedNode (n : Node) (ns : List Node) (i : ℕ) (ms : List Node) : Ty
   pub below : i < length ms
   pub is : nodeAt ms i ≡ n
 
--- a new node at the end
 module _ (n : Node) (ns : List Node) where
+  -- an arena with one node more
   abbrev one : List Node
   one = ns ++ (n ∷ [])
 
+  -- it extends the arena
   extends-one : Extends ns one
   extends-one = record { more = n ∷ []; is = refl }
 
+  -- it is longer by one
   length-one : length one ≡ length ns + 1
   length-one = length-append ns (n ∷ [])
 
+  -- the new node is the last
   last-one : nodeAt one (length ns) ≡ n
   last-one = getD-append-seam ns n [] (literal 0)
 
+  -- it is sound where the node is allowed, new, and finds room
   sound-one : Sound ns → Allowed (length ns) n → find n ns ≡ none → length ns < 1024 → Sound one
   sound-one s a f l = record {
     few = omega (arith, length-one);
@@ -143,6 +147,7 @@ module _ (n : Node) (ns : List Node) where
           let d : j < length ns = omega (arith, length-one) in
           s .distinct i j b d (sym (extends-node extends-one i (omega arith)) ∙ e ∙ extends-node extends-one j d)
 
+  -- so the node is added
   added-one : Sound ns → Allowed (length ns) n → find n ns ≡ none → length ns < 1024 → AddedNode n ns (length ns) one
   added-one s a f l = record { extends = extends-one; sound = sound-one s a f l; below = omega (arith, length-one); is = last-one }
 

@@ -1,12 +1,12 @@
 -- The expressions of an arena: one for each number, kept when the arena grows, different at different numbers, and small.
-use Prim.Native.Nat.{ℕ, zero, suc, _+_, _<_, _≤_}
+use Prim.Native.Nat.{ℕ, zero, suc, _+_, _<_}
 use mathlib.Core.List.{List, [], _∷_, _++_}
-use mathlib.Core.Path.{_≡_, refl, sym, ap, ap₂, _∙_, subst}
+use mathlib.Core.Path.{_≡_, refl, sym, ap, ap₂, _∙_}
 use native.Mathlib.Omega.{arith}
 use lib.ListN.{length, getD, take, drop, length-append, List·getD-append}
 use lib.Seq.{split-at, length-take-le, getD-at}
 use Rattle.arena.specs.Node.{Node, column, literal, operation, nodeAt}
-use Rattle.arena.specs.Expression.{Expression, Expressions, col, lit, op, ∅, _▹_, size, those, over, grown, expressions, expressionAt}
+use Rattle.arena.specs.Expression.{Expression, Expressions, lit, op, _▹_, size, those, over, grown, expressions, expressionAt}
 use Rattle.arena.specs.Arena.{Allowed, Sound, Extends, Small, AllSmall}
 use Rattle.arena.proofs.Nodes.{same-number}
 
@@ -29,12 +29,13 @@ over-cong es fs i (column name index) a h = refl
 over-cong es fs i (literal value) a h = refl
 over-cong es fs i (operation label ks) a h = ap (λ (c : Expressions). op label c) (those-cong es fs ks (λ k l. h (getD ks k 0) (a .1 k l)))
 
--- one expression for each node
+-- growing adds one expression for each node
 length-grown : (es : List Expression) (ns : List Node) → length (grown es ns) ≡ length es + length ns
 unfolding grown
 length-grown es [] = omega arith
 length-grown es (n ∷ ns) = omega (arith, length-grown (es ++ (over es n ∷ [])) ns, length-append es (over es n ∷ []))
 
+-- an arena has one expression for each number
 pub length-expressions : (ns : List Node) → length (expressions ns) ≡ length ns
 unfolding expressions
 length-expressions ns = omega (arith, length-grown [] ns)
@@ -45,6 +46,7 @@ unfolding grown
 grown-append es [] ms = refl
 grown-append es (n ∷ ns) ms = grown-append (es ++ (over es n ∷ [])) ns ms
 
+-- the expressions of an arena with more nodes are grown from its own
 pub expressions-append : (ns ms : List Node) → expressions (ns ++ ms) ≡ grown (expressions ns) ms
 unfolding expressions
 expressions-append ns ms = grown-append [] ns ms
@@ -127,6 +129,7 @@ module _ (ns : List Node) (s : Sound ns) where
       x : Extends (take i ns) ns
       x = record { more = nodeAt ns i ∷ drop (suc i) ns; is = split-at ns i (literal 0) l }
 
+  -- below a bound, different numbers are different expressions
   distinct-below : (n i j : ℕ) → i < n → j < n → i < length ns → j < length ns → expressionAt ns i ≡ expressionAt ns j → i ≡ j
   distinct-below zero i j a b li lj e = absurd (omega arith)
   distinct-below (suc n) i j a b li lj e =
@@ -139,6 +142,7 @@ module _ (ns : List Node) (s : Sound ns) where
   pub distinct-expressions : (i j : ℕ) → i < length ns → j < length ns → expressionAt ns i ≡ expressionAt ns j → i ≡ j
   distinct-expressions i j li lj e = distinct-below (length ns) i j li lj li lj e
 
+  -- below a bound, every expression is small
   small-below : (n i : ℕ) → i < n → i < length ns → Small (expressionAt ns i)
   small-below zero i a l = absurd (omega arith)
   small-below (suc n) i a l =

@@ -1,9 +1,9 @@
 -- Values of expressions: kept when the arena grows, and moved with the row when an expression is shifted; when a shift can be made, and what it makes.
-use Prim.Native.Nat.{ℕ, suc, _<_, _≤_}
-use mathlib.Core.Bool.{Bool, true, false, _&&_}
-use mathlib.Core.List.{List, [], _∷_}
+use Prim.Native.Nat.{ℕ, suc, _<_}
+use mathlib.Core.Bool.{Bool, true, false}
+use mathlib.Core.List.{List, _∷_}
 use mathlib.Core.Option.{Option, none, some, Option·getD}
-use mathlib.Core.Path.{_≡_, refl, sym, ap, ap₂, _∙_, subst}
+use mathlib.Core.Path.{_≡_, refl, ap, ap₂}
 use native.Mathlib.Omega.{arith}
 use borrow.Author.Tests.{ltb-true}
 use lib.Dec.{ltb}
@@ -31,6 +31,7 @@ mutual
   value-shifted to (lit v) m row = refl
   value-shifted to (op label es) m row = ap (λ vs. m .operation label vs) (values-shifted to es m row)
 
+  -- the same for expressions in a row
   pub values-shifted : {A : Type 0} (to : ℕ → Option ℕ) (es : Expressions) (m : Meaning A) (row : Row A) → values (allShifted to es) m row ≡ values es m (λ name index. row name (Option·getD (to index) index))
   values-shifted to ∅ m row = refl
   values-shifted to (e ▹ es) m row = ap₂ (λ v vs. v ∷ vs) (value-shifted to e m row) (values-shifted to es m row)
@@ -41,7 +42,7 @@ unfolding size allShifted
 size-shifted to ∅ = refl
 size-shifted to (e ▹ es) = ap suc (size-shifted to es)
 
--- an index that can move moves to where it is told
+-- an index that can move, by moves to 16 bits, has 16 bits afterwards
 index-small : (to : ℕ → Option ℕ) → ((i n : ℕ) → to i ≡ some n → n < 65536) → (i : ℕ) → isSome (to i) ≡ true → Option·getD (to i) i < 65536
 unfolding isSome
 index-small to h i c = go (to i) refl c
@@ -60,6 +61,7 @@ module _ (to : ℕ → Option ℕ) (h : (i n : ℕ) → to i ≡ some n → n < 
     shifted-small (lit v) s c = tt
     shifted-small (op label es) s c = (omega (arith, size-shifted to es), all-shifted-small es (s .1) c)
 
+    -- the same for expressions in a row
     pub all-shifted-small : (es : Expressions) → AllSmall es → allMove to es ≡ true → AllSmall (allShifted to es)
     all-shifted-small ∅ s c = tt
     all-shifted-small (e ▹ es) s c =
@@ -75,6 +77,7 @@ module _ (to from : ℕ → Option ℕ) (h : (i : ℕ) → i < 65536 → to i �
     canMove-cong (lit v) s = refl
     canMove-cong (op label es) s = allMove-cong es (s .1)
 
+    -- the same for expressions in a row
     pub allMove-cong : (es : Expressions) → AllSmall es → allMove to es ≡ allMove from es
     allMove-cong ∅ s = refl
     allMove-cong (e ▹ es) s = rw (canMove-cong e (s .0), allMove-cong es (s .1))
@@ -82,12 +85,13 @@ module _ (to from : ℕ → Option ℕ) (h : (i : ℕ) → i < 65536 → to i �
   mutual
     unfolding Small AllSmall shifted allShifted
 
-    -- and shift them to the same expressions
+    -- moves that agree on 16 bits make the same of small expressions
     pub shifted-cong : (e : Expression) → Small e → shifted to e ≡ shifted from e
     shifted-cong (col name index) s = rw (h index s)
     shifted-cong (lit v) s = refl
     shifted-cong (op label es) s = rw (allShifted-cong es (s .1))
 
+    -- the same for expressions in a row
     pub allShifted-cong : (es : Expressions) → AllSmall es → allShifted to es ≡ allShifted from es
     allShifted-cong ∅ s = refl
     allShifted-cong (e ▹ es) s = rw (shifted-cong e (s .0), allShifted-cong es (s .1))
