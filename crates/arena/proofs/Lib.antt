@@ -1,5 +1,12 @@
 -- Laws of the definitions in specs/.
 pub mod Examples
+pub mod Writing
+pub mod Answers
+pub mod Rows
+pub mod Layouts
+pub mod Placing
+pub mod NodeCells
+pub mod Lending
 pub mod Nodes
 pub mod Trees
 pub mod Growing

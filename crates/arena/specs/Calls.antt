@@ -7,7 +7,7 @@ use lib.Dec.{ltb, leb}
 use lib.IntN.{ℤ}
 use lib.ListN.{length, getD}
 use Rattle.laws.specs.Tests.{if_then_else_, each}
-use Rattle.arena.specs.Node.{Node, column, literal, operation, nodeAt}
+use Rattle.arena.specs.Node.{Node, column, literal, operation, nodeAt, childNumbers}
 use Rattle.arena.specs.Expression.{expressionAt}
 use Rattle.arena.specs.Arena.{Placed, placed, full, add, addExpression}
 use Rattle.arena.specs.Shift.{moved, canMove, shifted}
@@ -58,34 +58,27 @@ unfoldable pub readNode : ℕ → List Node → Read
 readNode e ns = if ltb e (length ns) then readOf (nodeAt ns e) else Read-Refused 1
 
 -- read a child of a node; a place that the node doesn't have is no refusal, and the answer says that there is none
-unfoldable pub childrenOfNode : Node → List ℕ
-childrenOfNode (column name index) = mathlib.Core.List.[]
-childrenOfNode (literal value) = mathlib.Core.List.[]
-childrenOfNode (operation label children) = children
-
 unfoldable pub readChild : ℕ → ℕ → List Node → Child
 readChild e k ns =
     if ltb e (length ns) then
-    (if ltb k (length (childrenOfNode (nodeAt ns e))) then Child-Number (getD (childrenOfNode (nodeAt ns e)) k 0) else Absent)
+    (if ltb k (length (childNumbers (nodeAt ns e))) then Child-Number (getD (childNumbers (nodeAt ns e)) k 0) else Absent)
     else Child-Refused 1
 
--- a call on lent cells: 11 and the cells as they were where they are no arena; else what the call does to the arena in them
+-- a call on lent cells: where they are no arena, the refusal; else the call on the arena in them
+unfoldable pub onLent : {A : Type 0} → A → (List Node → A) → List ℕ → A
+onLent refused call cells = if lawful cells then call (decode cells) else refused
+
+-- an outcome, laid out in cells
 unfoldable pub inCells : Outcome → Added × List ℕ
 inCells o = (o .0, encode (o .1))
 
-unfoldable pub lent : (List Node → Outcome) → List ℕ → Added × List ℕ
-lent call cells = if lawful cells then inCells (call (decode cells)) else (Refused 11, cells)
-
--- the same for calls that only read
-unfoldable pub lentRead : (List Node → Read) → List ℕ → Read
-lentRead call cells = if lawful cells then call (decode cells) else Read-Refused 11
-
-unfoldable pub lentChild : (List Node → Child) → List ℕ → Child
-lentChild call cells = if lawful cells then call (decode cells) else Child-Refused 11
+-- a call that changes the arena in lent cells: 11 and the cells as they were, or its outcome
+abbrev pub lent : (List Node → Outcome) → List ℕ → Added × List ℕ
+lent call cells = onLent (Refused 11, cells) (λ ns. inCells (call ns)) cells
 
 -- the check alone: 0 or 11
-unfoldable pub checked : List ℕ → ℕ
-checked cells = if lawful cells then 0 else 11
+abbrev pub checked : List ℕ → ℕ
+checked cells = onLent 11 (λ ns. 0) cells
 
 -- document 01's number of each answer: 0 is done
 abbrev pub addedNumber : Added → ℕ

@@ -2,7 +2,7 @@
 -- There are 11,265 cells of 32 bits. Cell 0 is the number of nodes. Node i has the 11 cells from 1 + 11·i on: its kind (1 column, 2 literal, 3 operation),
 -- its payload (of a column name · 65,536 + index, of a literal the value, of an operation the label), the number of its children, and 8 places for them. Every other cell is 0.
 use Prim.Native.Nat.{ℕ, _+_, _-_, _*_, _/_, _%_}
-use mathlib.Core.Bool.{Bool, true, false, not, _&&_, _||_}
+use mathlib.Core.Bool.{Bool, true, false, not, _&&_}
 use mathlib.Core.List.{List, [], _∷_, _++_}
 use mathlib.Core.Option.{Option, none, some}
 use lib.Dec.{eqb, ltb, leb}
@@ -62,16 +62,32 @@ sameRow cells i r = each (λ j. eqb (cellOf cells i j) (getD r j 0)) 11
 unfoldable pub rowBelow : List ℕ → ℕ → List ℕ → Option ℕ
 rowBelow cells n r = first (λ i. sameRow cells i r) n
 
--- a row may stand at number i: a known kind, at most 8 children, none on a leaf, each child below i, unused places 0
+-- how many children a node of a kind may have: none on a leaf, at most 8 on an operation; and there are three kinds
+unfoldable pub lawfulKind : ℕ → ℕ → Bool
+lawfulKind kind children =
+    if eqb kind 1 then eqb children 0 else
+    (if eqb kind 2 then eqb children 0 else
+    (if eqb kind 3 then leb children 8 else false))
+
+-- the first n children of a row are below i
+unfoldable pub childrenBelow : ℕ → ℕ → List ℕ → Bool
+childrenBelow i n r = each (λ k. ltb (getD r (3 + k) 0) i) n
+
+-- the places for children after the first n are 0
+unfoldable pub placesUnused : ℕ → List ℕ → Bool
+placesUnused n r = each (λ k. eqb (getD r (3 + n + k) 0) 0) (8 - n)
+
+-- a row may stand at number i: a lawful kind, each child below i, unused places 0
 unfoldable pub lawfulRow : ℕ → List ℕ → Bool
-lawfulRow i r =
-    ((eqb (getD r 0 0) 1 || eqb (getD r 0 0) 2) && eqb (getD r 2 0) 0 || eqb (getD r 0 0) 3 && leb (getD r 2 0) 8)
-    && each (λ k. ltb (getD r (3 + k) 0) i) (getD r 2 0)
-    && each (λ k. eqb (getD r (3 + getD r 2 0 + k) 0) 0) (8 - getD r 2 0)
+lawfulRow i r = lawfulKind (getD r 0 0) (getD r 2 0) && childrenBelow i (getD r 2 0) r && placesUnused (getD r 2 0) r
 
 -- node i is lawful, and no earlier node equals it
 unfoldable pub lawfulNode : List ℕ → ℕ → Bool
 lawfulNode cells i = lawfulRow i (rowOf cells i) && not (isSome (rowBelow cells i (rowOf cells i)))
+
+-- the cells after the first n nodes are 0
+unfoldable pub cellsUnused : ℕ → List ℕ → Bool
+cellsUnused n cells = each (λ k. eqb (getD cells (1 + 11 * n + k) 0) 0) (11264 - 11 * n)
 
 -- document 01's rule 11 for a lent arena: the count within its bound, each node lawful, each unused cell 0
 unfoldable pub lawful : List ℕ → Bool
@@ -79,4 +95,4 @@ lawful cells =
     eqb (length cells) 11265
     && leb (count cells) 1024
     && each (λ i. lawfulNode cells i) (count cells)
-    && each (λ k. eqb (getD cells (1 + 11 * count cells + k) 0) 0) (11264 - 11 * count cells)
+    && cellsUnused (count cells) cells

@@ -2,7 +2,7 @@
 -- An arena is a list of nodes. A node's place in the list, counted from 0, is its number.
 use Prim.Native.Nat.{ℕ}
 use mathlib.Core.Bool.{Bool, true, false, _&&_}
-use mathlib.Core.List.{List}
+use mathlib.Core.List.{List, []}
 use lib.Dec.{eqb}
 use lib.ListN.{getD}
 use Rattle.laws.specs.Lists.{sameNumbers}
@@ -15,6 +15,12 @@ pub data Node : Type 0 where
 -- the node with a number; past the end, which no call asks for, a literal
 abbrev pub nodeAt : List Node → ℕ → Node
 nodeAt ns i = getD ns i (literal 0)
+
+-- the numbers of a node's children; a leaf has none
+unfoldable pub childNumbers : Node → List ℕ
+childNumbers (column name index) = []
+childNumbers (literal value) = []
+childNumbers (operation label children) = children
 
 -- two nodes are equal: the same kind, the same numbers, the same children in the same order
 unfoldable pub sameNode : Node → Node → Bool

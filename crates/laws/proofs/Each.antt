@@ -52,3 +52,10 @@ pub each-cong : (p q : ℕ → Bool) (n : ℕ) → ((i : ℕ) → i < n → p i 
 unfolding each
 each-cong p q zero h = refl
 each-cong p q (suc n) h = rw (each-cong p q n (λ i l. h i (omega arith)), h n (omega arith))
+
+-- a loop that stops at a test that fails, and one that passes its end, in the words of their answers
+pub each-stops : (p : ℕ → Bool) (n i : ℕ) → i < n → p i ≡ false → false ≡ each p n
+each-stops p n i l f = sym (each-fails p n i l f)
+
+pub each-ends : (p : ℕ → Bool) (n i : ℕ) → i ≤ n → n ≤ i → each p i ≡ true → true ≡ each p n
+each-ends p n i a b h = let e : i ≡ n = omega arith in sym (subst (λ (k : ℕ). each p k ≡ true) e h)

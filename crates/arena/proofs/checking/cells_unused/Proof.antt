@@ -1,0 +1,91 @@
+use Prim.Native.Nat.{ℕ, _+_, _-_, _*_, _≤_, _<_}
+use mathlib.Core.Bool.{Bool, true, false}
+use mathlib.Core.List.{List}
+use mathlib.Core.Path.{_≡_, refl, sym, ap, _∙_}
+use native.Mathlib.Omega.{arith}
+use lib.Dec.{eqb, ltb, leb}
+use lib.ListN.{length, getD}
+use borrow.Author.Tests.{eq-eqb, ne-eqb, lt-ltb, le-ltb, eqb-true, eqb-false, not-true, not-false}
+use Rattle.laws.specs.Tests.{each}
+use Rattle.laws.proofs.Each.{each-none, each-more, each-stops, each-ends}
+use borrow.Author.Needs.{needs}
+use Rattle.arena.specs.Layout.{cellsUnused}
+use Rattle.arena.proofs.checking.cells_unused.Statement.{statement}
+use Rattle.arena.proofs.checking.cells_unused.Tie as tie
+use Rattle.arena.proofs.checking.cells_unused.Reads as reads
+use Rattle.arena.proofs.checking.cells_unused.Lts as lts
+
+-- cell k after the first n nodes is 0
+abbrev Unused : List ℕ → ℕ → ℕ → Bool
+Unused cells n k = eqb (getD cells (1 + 11 * n + k) 0) 0
+
+abbrev Inv-loop : tie.InvT-loop
+Inv-loop cells n k₀ k = (k ≤ (11264 - 11 * n)) × (each (Unused cells n) k ≡ true)
+
+abbrev μ-loop : tie.MeasureT-loop
+μ-loop cells n k₀ k = (11264 - 11 * n) - k
+
+loop-holds : tie.Need-loop-holds Inv-loop μ-loop
+loop-holds c =
+    (search needs, each-none (Unused (c .args .cells .now) (c .args .n)))
+
+mul-loop : tie.Need-mul-loop Inv-loop μ-loop
+mul-loop c = search needs
+
+sub-loop : tie.Need-sub-loop Inv-loop μ-loop
+sub-loop c = search needs
+
+mul-if1 : tie.Need-mul-if1 Inv-loop μ-loop
+mul-if1 c = search needs
+
+add-if1 : tie.Need-add-if1 Inv-loop μ-loop
+add-if1 c = search needs
+
+add-if1-2 : tie.Need-add-if1-2 Inv-loop μ-loop
+add-if1-2 c = search needs
+
+mul-if1-2 : tie.Need-mul-if1-2 Inv-loop μ-loop
+mul-if1-2 c = search needs
+
+element-copy-out-if1 : tie.Need-element-copy-out-if1 Inv-loop μ-loop
+element-copy-out-if1 c = search needs
+
+returns : tie.Need-returns Inv-loop μ-loop
+unfolding cellsUnused
+returns c =
+    each-stops (Unused (c .before .before .before .before .args .cells .now) (c .before .before .before .before .args .n)) (11264 - 11 * c .before .before .before .before .args .n) (c .before .before .before .loop .k) (search needs) (ne-eqb _ _ (c .if1 .taken))
+
+add-k : tie.Need-add-k Inv-loop μ-loop
+add-k c = search needs
+
+loop-less : tie.Need-loop-less Inv-loop μ-loop
+loop-less c = search needs
+
+loop-again : tie.Need-loop-again Inv-loop μ-loop
+loop-again c =
+    (search needs, each-more (Unused (c .before .before .before .before .args .cells .now) (c .before .before .before .before .args .n)) (c .before .before .before .loop .k) (c .before .before .before .loop .inv .1) (eq-eqb _ _ (c .if1 .left)))
+
+returns-2 : tie.Need-returns-2 Inv-loop μ-loop
+unfolding cellsUnused
+returns-2 c =
+    each-ends (Unused (c .before .before .args .cells .now) (c .before .before .args .n)) (11264 - 11 * c .before .before .args .n) (c .before .loop .k) (search needs) (search needs) (c .before .loop .inv .1)
+
+pub cells-unused-spec : {M : Type 1} → statement M
+cells-unused-spec =
+    tie.close
+    (tie.spec
+    Inv-loop
+    μ-loop
+    loop-holds
+    mul-loop
+    sub-loop
+    mul-if1
+    add-if1
+    add-if1-2
+    mul-if1-2
+    element-copy-out-if1
+    returns
+    add-k
+    loop-less
+    loop-again
+    returns-2)
