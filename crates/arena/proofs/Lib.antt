@@ -7,6 +7,10 @@ pub mod Layouts
 pub mod Placing
 pub mod NodeCells
 pub mod Lending
+pub mod Lifts
+pub mod Moves
+pub mod Walking
+pub mod Shifts
 pub mod Nodes
 pub mod Trees
 pub mod Growing

@@ -41,12 +41,14 @@ addOperation label children ns =
     (if leb (length children) 8 then answered ns (add (operation label children) ns) else (Refused 2, ns))
     else (Refused 1, ns)
 
+-- shift an expression that is there: 10 where a column leaves 0..65,535, else the missing nodes of the shifted expression are added
+unfoldable pub shiftedOutcome : ℕ → ℤ → List Node → Outcome
+shiftedOutcome e offset ns =
+    if canMove (moved offset) (expressionAt ns e) then answered ns (addExpression (shifted (moved offset) (expressionAt ns e)) ns) else (Refused 10, ns)
+
 -- shift an expression by an offset
 unfoldable pub addOffset : ℕ → ℤ → List Node → Outcome
-addOffset e offset ns =
-    if ltb e (length ns) then
-    (if canMove (moved offset) (expressionAt ns e) then answered ns (addExpression (shifted (moved offset) (expressionAt ns e)) ns) else (Refused 10, ns))
-    else (Refused 1, ns)
+addOffset e offset ns = if ltb e (length ns) then shiftedOutcome e offset ns else (Refused 1, ns)
 
 -- read a node
 unfoldable pub readOf : Node → Read

@@ -8,8 +8,8 @@ use lib.Dec.{ltb, leb, eqb}
 use lib.ListN.{length, getD, set}
 use lib.Seq.{paste}
 use Rattle.laws.specs.Tests.{if_then_else_}
-use Rattle.arena.specs.Node.{Node}
-use Rattle.arena.specs.Expression.{Expression, Expressions, expressionAt}
+use Rattle.arena.specs.Node.{Node, operation, nodeAt}
+use Rattle.arena.specs.Expression.{Expression, Expressions, ∅, _▹_, expressionAt, expressions, those}
 use Rattle.arena.specs.Arena.{Sound, Allowed, Extends, Placed, placed, full, addExpression, addExpressions}
 use Rattle.arena.specs.Shift.{canMove, shifted}
 use Rattle.arena.specs.Layout.{row, count, rowOf, nodeOf, childrenOf, decode}
@@ -61,11 +61,67 @@ unfoldable pub told : Added → List Node → Placed ℕ
 told (Number i) ns = placed i ns
 told (Refused k) ns = full
 
--- what the memo says is true: where it has an entry for a number, the entry less one is the number of the moved expression
-pub record Noted (to : ℕ → Option ℕ) (ns : List Node) (e entry : ℕ) : Type 0 where
+-- from the cells s to the cells t an expression was added, or there was no room; whichever, t is an arena that extends s
+pub record Grew (x : Expression) (s t : List ℕ) (answer : Added) : Type 0 where
+  pub holds : Holds t
+  pub extends : Extends (decode s) (decode t)
+  pub is : told answer (decode t) ≡ addExpression x (decode s)
+
+-- where the memo of a walk F has an entry for a number, the entry less one is the number of what F makes of the expression
+pub record Noted (F : Expression → Expression) (ns : List Node) (e entry : ℕ) : Type 0 where
   pub known : e < length ns
   pub old : entry - 1 < length ns
-  pub is : expressionAt ns (entry - 1) ≡ shifted to (expressionAt ns e)
+  pub is : expressionAt ns (entry - 1) ≡ F (expressionAt ns e)
 
-abbrev pub Memo : (ℕ → Option ℕ) → List Node → List ℕ → Type 0
-Memo to ns memo = (e : ℕ) → (getD memo e 0 ≡ 0 → ⊥) → Noted to ns e (getD memo e 0)
+-- what the memo says is true. A place with 0 says nothing
+abbrev pub Memo : (Expression → Expression) → List Node → List ℕ → Type 0
+Memo F ns memo = (e : ℕ) → (getD memo e 0 ≡ 0 → ⊥) → Noted F ns e (getD memo e 0)
+
+-- the memo with an answer for e
+unfoldable pub noted : List ℕ → ℕ → Added → List ℕ
+noted memo e (Number i) = set memo e (i + 1)
+noted memo e (Refused k) = memo
+
+-- what a walk F promises at node e: its expression was added, and the memo is true
+pub record Walked (F : Expression → Expression) (s t memo : List ℕ) (e : ℕ) (answer : Added) : Type 0 where
+  pub grew : Grew (F (expressionAt (decode s) e)) s t answer
+  pub memo-true : Memo F (decode t) memo
+
+-- F of each expression
+unfoldable pub mapAll : (Expression → Expression) → Expressions → Expressions
+mapAll F ∅ = ∅
+mapAll F (e ▹ es) = F e ▹ mapAll F es
+
+-- a walk over the children in a row as a placing: the numbers in the row afterwards, or no room
+unfoldable pub toldAll : Bool → List ℕ → List Node → Placed (List ℕ)
+toldAll true r ns = placed (childrenOf r) ns
+toldAll false r ns = full
+
+-- the row of an operation with the label and the children that r has
+abbrev pub operationRow : List ℕ → List ℕ → List ℕ
+operationRow r children = row (operation (getD r 1 0) children)
+
+-- what a walk F over the children in the row r promises: what F makes of them was added, and r′ is the operation's row over that
+pub record WalkedAll (F : Expression → Expression) (s t memo r r′ : List ℕ) (all : Bool) : Type 0 where
+  pub holds : Holds t
+  pub extends : Extends (decode s) (decode t)
+  pub memo-true : Memo F (decode t) memo
+  pub is : toldAll all r′ (decode t) ≡ addExpressions (mapAll F (those (expressions (decode s)) (childrenOf r))) (decode s)
+  pub row-is : all ≡ true → r′ ≡ operationRow r (childrenOf r′)
+
+-- the shift by a lift
+abbrev pub shiftedBy : ℕ → Expression → Expression
+shiftedBy lift e = shifted (lifted lift) e
+
+-- what the shift asks at node e
+pub record Ready (lift : ℕ) (s memo : List ℕ) (e : ℕ) : Type 0 where
+  pub known : Known s e
+  pub small : lift ≤ 200000
+  pub moves : canMove (lifted lift) (expressionAt (decode s) e) ≡ true
+  pub memo-true : Memo (shiftedBy lift) (decode s) memo
+
+-- what the shift of the children of node e asks: node e is an operation, and r its row
+pub record ReadyAll (lift : ℕ) (s memo r : List ℕ) (e : ℕ) : Type 0 where
+  pub ready : Ready lift s memo e
+  pub node : nodeAt (decode s) e ≡ operation (getD r 1 0) (childrenOf r)
+  pub row-is : r ≡ operationRow r (childrenOf r)
