@@ -6,8 +6,8 @@ use mathlib.Core.Path.{_≡_, refl}
 use lib.IntN.{ℤ, pos, negsuc}
 use Rattle.laws.specs.Tests.{each, first, firstFrom}
 use Rattle.laws.specs.Lists.{table, sameNumbers}
-use Rattle.arena.specs.Node.{Node, column, literal, operation, sameNode}
-use Rattle.arena.specs.Expression.{expressionAt, expressions, grown, over, those}
+use Rattle.arena.specs.Node.{Node, column, literal, operation, sameNode, made, madeAfter}
+use Rattle.arena.specs.Expression.{expressionAt, expressions, over, those}
 use Rattle.arena.specs.Arena.{Placed, placed, full, andThen, find, placedAt, add, addExpression, addExpressions}
 use Rattle.arena.specs.Shift.{within, moved, isSome, canMove, allMove, shifted, allShifted}
 use Rattle.arena.specs.Layout.{row, rows, encode, decode, rowOf, childrenOf, nodeOf}
@@ -20,16 +20,16 @@ three = column 0 0 ∷ column 1 1 ∷ operation 7 (0 ∷ 1 ∷ 0 ∷ []) ∷ []
 
 -- shifted by 5: the moved columns first, left to right, then the operation over them
 shift-five : addOffset 2 (pos 5) three ≡ (Number 5, three ++ (column 0 5 ∷ column 1 6 ∷ operation 7 (3 ∷ 4 ∷ 3 ∷ []) ∷ []))
-unfolding addOffset shiftedOutcome canMove allMove shifted allShifted moved within isSome expressions grown over those addExpression addExpressions andThen add placedAt find first firstFrom sameNode sameNumbers answered
+unfolding addOffset shiftedOutcome canMove allMove shifted allShifted moved within isSome expressions made madeAfter over those addExpression addExpressions andThen add placedAt find first firstFrom sameNode sameNumbers answered
 shift-five = refl
 
 -- by 0 it is the old number; below 0 it is refused
 shift-none : addOffset 2 (pos 0) three ≡ (Number 2, three)
-unfolding addOffset shiftedOutcome canMove allMove shifted allShifted moved within isSome expressions grown over those addExpression addExpressions andThen add placedAt find first firstFrom sameNode sameNumbers answered
+unfolding addOffset shiftedOutcome canMove allMove shifted allShifted moved within isSome expressions made madeAfter over those addExpression addExpressions andThen add placedAt find first firstFrom sameNode sameNumbers answered
 shift-none = refl
 
 shift-below : addOffset 2 (negsuc 0) three ≡ (Refused 10, three)
-unfolding addOffset shiftedOutcome canMove allMove shifted allShifted moved within isSome expressions grown over those addExpression addExpressions andThen add placedAt find first firstFrom sameNode sameNumbers answered
+unfolding addOffset shiftedOutcome canMove allMove shifted allShifted moved within isSome expressions made madeAfter over those addExpression addExpressions andThen add placedAt find first firstFrom sameNode sameNumbers answered
 shift-below = refl
 
 -- laid out and read back, it is the arena again

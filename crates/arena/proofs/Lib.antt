@@ -12,6 +12,7 @@ pub mod Moves
 pub mod Walking
 pub mod Shifts
 pub mod Nodes
+pub mod Made
 pub mod Trees
 pub mod Growing
 pub mod Values

@@ -1,14 +1,14 @@
 -- The expressions of an arena: one for each number, kept when the arena grows, different at different numbers, and small.
 use Prim.Native.Nat.{ℕ, zero, suc, _+_, _<_}
-use mathlib.Core.List.{List, [], _∷_, _++_}
+use mathlib.Core.List.{List, [], _∷_}
 use mathlib.Core.Path.{_≡_, refl, sym, ap, ap₂, _∙_}
 use native.Mathlib.Omega.{arith}
-use lib.ListN.{length, getD, take, drop, length-append, List·getD-append}
-use lib.Seq.{split-at, length-take-le, getD-at}
+use lib.ListN.{length, getD}
 use Rattle.arena.specs.Node.{Node, column, literal, operation, nodeAt}
-use Rattle.arena.specs.Expression.{Expression, Expressions, lit, op, _▹_, size, those, over, grown, expressions, expressionAt}
+use Rattle.arena.specs.Expression.{Expression, Expressions, lit, op, _▹_, size, those, over, expressions, expressionAt}
 use Rattle.arena.specs.Arena.{Allowed, Sound, Extends, Small, AllSmall}
 use Rattle.arena.proofs.Nodes.{same-number}
+use Rattle.arena.proofs.Made.{length-made, made-kept, made-is}
 
 -- there are as many expressions as are named
 pub size-those : (es : List Expression) (ks : List ℕ) → size (those es ks) ≡ length ks
@@ -29,49 +29,15 @@ over-cong es fs i (column name index) a h = refl
 over-cong es fs i (literal value) a h = refl
 over-cong es fs i (operation label ks) a h = ap (λ (c : Expressions). op label c) (those-cong es fs ks (λ k l. h (getD ks k 0) (a .1 k l)))
 
--- growing adds one expression for each node
-length-grown : (es : List Expression) (ns : List Node) → length (grown es ns) ≡ length es + length ns
-unfolding grown
-length-grown es [] = omega arith
-length-grown es (n ∷ ns) = omega (arith, length-grown (es ++ (over es n ∷ [])) ns, length-append es (over es n ∷ []))
-
 -- an arena has one expression for each number
 pub length-expressions : (ns : List Node) → length (expressions ns) ≡ length ns
 unfolding expressions
-length-expressions ns = omega (arith, length-grown [] ns)
-
--- growing goes on where it stopped
-grown-append : (es : List Expression) (ns ms : List Node) → grown es (ns ++ ms) ≡ grown (grown es ns) ms
-unfolding grown
-grown-append es [] ms = refl
-grown-append es (n ∷ ns) ms = grown-append (es ++ (over es n ∷ [])) ns ms
-
--- the expressions of an arena with more nodes are grown from its own
-pub expressions-append : (ns ms : List Node) → expressions (ns ++ ms) ≡ grown (expressions ns) ms
-unfolding expressions
-expressions-append ns ms = grown-append [] ns ms
-
--- growing keeps what is there
-grown-kept : (es : List Expression) (ns : List Node) (i : ℕ) → i < length es → getD (grown es ns) i (lit 0) ≡ getD es i (lit 0)
-unfolding grown
-grown-kept es [] i l = refl
-grown-kept es (n ∷ ns) i l = grown-kept (es ++ (over es n ∷ [])) ns i (omega (arith, length-append es (over es n ∷ []))) ∙ List·getD-append es (over es n ∷ []) (lit 0) i l
+length-expressions ns = length-made (λ es i n. over es n) (lit 0) ns
 
 -- an old number keeps its expression
 pub expression-kept : {ns ms : List Node} → Extends ns ms → (i : ℕ) → i < length ns → expressionAt ms i ≡ expressionAt ns i
-expression-kept {ns} x i l =
-    ap (λ (ms : List Node). expressionAt ms i) (x .is) ∙ ap (λ (es : List Expression). getD es i (lit 0)) (expressions-append ns (x .more))
-    ∙ grown-kept (expressions ns) (x .more) i (omega (arith, length-expressions ns))
-
--- after the nodes that stand before it, a node's expression is the node over theirs
-expression-next : (ns : List Node) (n : Node) (ms : List Node) → expressionAt (ns ++ n ∷ ms) (length ns) ≡ over (expressions ns) n
-unfolding grown
-expression-next ns n ms =
-    let es = expressions ns in
-    let l = length-expressions ns in
-    ap (λ (fs : List Expression). getD fs (length ns) (lit 0)) (expressions-append ns (n ∷ ms))
-    ∙ grown-kept (es ++ (over es n ∷ [])) ms (length ns) (omega (arith, length-append es (over es n ∷ [])))
-    ∙ getD-at es (over es n) [] (lit 0) (length ns) l
+unfolding expressions
+expression-kept x i l = made-kept (λ es i n. over es n) (lit 0) x i l
 
 -- those expressions are equal, and equal entries have equal numbers: the numbers named are equal
 those-same : (es : List Expression) (ks js : List ℕ)
@@ -117,17 +83,8 @@ over-small es i (operation label ks) a h = (omega (arith, size-those es ks), tho
 module _ (ns : List Node) (s : Sound ns) where
   -- a number's expression is its node over the arena's expressions
   pub expression-is : (i : ℕ) → i < length ns → expressionAt ns i ≡ over (expressions ns) (nodeAt ns i)
-  expression-is i l =
-      ap₂ {C = Expression} (λ ms k. expressionAt ms k) (split-at ns i (literal 0) l) (sym t)
-      ∙ expression-next (take i ns) (nodeAt ns i) (drop (suc i) ns)
-      ∙ over-cong (expressions (take i ns)) (expressions ns) i (nodeAt ns i) (s .allowed i l)
-      (λ k b. sym (expression-kept x k (omega (arith, t))))
-    where
-      t : length (take i ns) ≡ i
-      t = length-take-le i ns (omega arith)
-
-      x : Extends (take i ns) ns
-      x = record { more = nodeAt ns i ∷ drop (suc i) ns; is = split-at ns i (literal 0) l }
+  unfolding expressions
+  expression-is i l = made-is (λ es i n. over es n) (lit 0) ns s over-cong i l
 
   -- below a bound, different numbers are different expressions
   distinct-below : (n i j : ℕ) → i < n → j < n → i < length ns → j < length ns → expressionAt ns i ≡ expressionAt ns j → i ≡ j

@@ -1,8 +1,8 @@
 -- What a number of an arena stands for: an expression, whole, as a tree.
 use Prim.Native.Nat.{ℕ, suc}
-use mathlib.Core.List.{List, [], _∷_, _++_}
+use mathlib.Core.List.{List, [], _∷_}
 use lib.ListN.{getD}
-use Rattle.arena.specs.Node.{Node, column, literal, operation}
+use Rattle.arena.specs.Node.{Node, column, literal, operation, made}
 
 mutual
   pub data Expression : Type 0 where
@@ -31,14 +31,9 @@ over es (column name index) = col name index
 over es (literal value) = lit value
 over es (operation label children) = op label (those es children)
 
--- es, and after them the expressions of the nodes ns, each over all that stand before it
-unfoldable pub grown : List Expression → List Node → List Expression
-grown es [] = es
-grown es (n ∷ ns) = grown (es ++ (over es n ∷ [])) ns
-
--- the expressions of an arena, by number
+-- the expressions of an arena, by number: each node over the expressions of the nodes before it
 unfoldable pub expressions : List Node → List Expression
-expressions ns = grown [] ns
+expressions ns = made (λ es i n. over es n) ns
 
 -- the expression with a number
 abbrev pub expressionAt : List Node → ℕ → Expression

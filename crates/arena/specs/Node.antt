@@ -2,9 +2,9 @@
 -- An arena is a list of nodes. A node's place in the list, counted from 0, is its number.
 use Prim.Native.Nat.{ℕ}
 use mathlib.Core.Bool.{Bool, true, false, _&&_}
-use mathlib.Core.List.{List, []}
+use mathlib.Core.List.{List, [], _∷_, _++_}
 use lib.Dec.{eqb}
-use lib.ListN.{getD}
+use lib.ListN.{length, getD}
 use Rattle.laws.specs.Lists.{sameNumbers}
 
 pub data Node : Type 0 where
@@ -33,3 +33,12 @@ sameNode (literal v) (operation m ks) = false
 sameNode (operation l js) (column b y) = false
 sameNode (operation l js) (literal w) = false
 sameNode (operation l js) (operation m ks) = eqb l m && sameNumbers js ks
+
+-- xs, and after them what a rule makes of the nodes ns, each from all that stands before it and the node's number
+unfoldable pub madeAfter : {A : Type 0} → (List A → ℕ → Node → A) → List A → List Node → List A
+madeAfter rule xs [] = xs
+madeAfter rule xs (n ∷ ns) = madeAfter rule (xs ++ (rule xs (length xs) n ∷ [])) ns
+
+-- what a rule makes of each node of an arena, by number, from what it makes of the nodes before it
+unfoldable pub made : {A : Type 0} → (List A → ℕ → Node → A) → List Node → List A
+made rule ns = madeAfter rule [] ns
