@@ -1,0 +1,141 @@
+// Each public call of the arena, with its line: the call, its answer, and whether the cells are as they were.
+use crate::print;
+use arena::Read;
+ghost use mathlib.Core.Bool.{true};
+ghost use mathlib.Core.Path.{_≡_};
+ghost use Prim.Native.Nat.{ℕ, _<_};
+ghost use lib.ListN.{getD};
+
+// Each cell of one arena is that of the other. True is answered only then.
+pub fn same(a: &[u32; 11265], b: &[u32; 11265]) -> bool
+    ensures { λ r. ⌜ (r ≡ true → (k : ℕ) → k < 11265 → getD (now (a .entry)) k 0 ≡ getD (now (b .entry)) k 0) ⌝ }
+{
+    let mut i = 0;
+    while i < 11265 {
+        if a[i] != b[i] {
+            return false;
+        }
+        i += 1;
+    }
+    true
+}
+
+// The check.
+pub fn check(cells: &[u32; 11265]) {
+    print::words(b"check: ");
+    print::number(arena::check_arena(cells));
+    print::line(b"");
+}
+
+// Adds a column.
+pub fn column(cells: &mut [u32; 11265], name: u16, index: u16) {
+    let before = *cells;
+    print::words(b"add ");
+    print::column(name, index);
+    print::words(b": ");
+    print::added(arena::add_column(cells, name, index));
+    print::kept(same(&before, cells));
+}
+
+// Adds a literal.
+pub fn literal(cells: &mut [u32; 11265], value: u32) {
+    let before = *cells;
+    print::words(b"add ");
+    print::literal(value);
+    print::words(b": ");
+    print::added(arena::add_literal(cells, value));
+    print::kept(same(&before, cells));
+}
+
+// Adds an operation.
+pub fn operation(cells: &mut [u32; 11265], label: u32, children: &[u32]) {
+    let before = *cells;
+    print::words(b"add operation ");
+    print::number(label);
+    print::words(b" ");
+    print::list(children);
+    print::words(b": ");
+    print::added(arena::add_operation(cells, label, children));
+    print::kept(same(&before, cells));
+}
+
+// Reads a node, with its children.
+pub fn read(cells: &[u32; 11265], expr: u32) {
+    print::words(b"read ");
+    print::number(expr);
+    print::words(b": ");
+    let answer = arena::read_node(cells, expr);
+    print::node(answer);
+    match answer {
+        Read::Operation(_, n) => children(cells, expr, n),
+        _ => {}
+    }
+    print::line(b"");
+}
+
+// The first n children of an operation, in parentheses.
+fn children(cells: &[u32; 11265], expr: u32, n: u32) {
+    print::words(b" (");
+    let mut k = 0;
+    while k < n {
+        print::gap(k == 0);
+        print::child(arena::read_child(cells, expr, k));
+        k += 1;
+    }
+    print::words(b")");
+}
+
+// Reads the child of a node at a place.
+pub fn child(cells: &[u32; 11265], expr: u32, place: u32) {
+    print::words(b"child ");
+    print::number(expr);
+    print::words(b" ");
+    print::number(place);
+    print::words(b": ");
+    print::child(arena::read_child(cells, expr, place));
+    print::line(b"");
+}
+
+// The answer of a shift, and the end of its line.
+fn shift(cells: &mut [u32; 11265], expr: u32, offset: i64) {
+    let before = *cells;
+    print::words(b": ");
+    print::added(arena::add_offset_to_expr(cells, expr, offset));
+    print::kept(same(&before, cells));
+}
+
+// The first words of a shift's line.
+fn shifting(expr: u32) {
+    print::words(b"shift ");
+    print::number(expr);
+    print::words(b" by ");
+}
+
+// Shifts an expression up.
+pub fn up(cells: &mut [u32; 11265], expr: u32, by: u32) {
+    shifting(expr);
+    print::number(by);
+    shift(cells, expr, by as i64);
+}
+
+// Shifts an expression down.
+pub fn down(cells: &mut [u32; 11265], expr: u32, by: u32) {
+    shifting(expr);
+    print::words(b"-");
+    print::number(by);
+    shift(cells, expr, 0 - by as i64);
+}
+
+// Shifts an expression by the largest offset that there is.
+pub fn highest(cells: &mut [u32; 11265], expr: u32) {
+    shifting(expr);
+    print::words(b"9223372036854775807");
+    shift(cells, expr, 9223372036854775807);
+}
+
+// Shifts an expression by the smallest offset that there is.
+pub fn lowest(cells: &mut [u32; 11265], expr: u32) {
+    shifting(expr);
+    print::words(b"-9223372036854775808");
+    shift(cells, expr, -9223372036854775808);
+}
