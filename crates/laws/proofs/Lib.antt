@@ -3,3 +3,4 @@ pub mod Each
 pub mod First
 pub mod Table
 pub mod Booleans
+pub mod Determined
