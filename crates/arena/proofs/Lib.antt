@@ -16,3 +16,4 @@ pub mod Made
 pub mod Trees
 pub mod Growing
 pub mod Values
+pub mod Promises
