@@ -16,7 +16,7 @@ use Rattle.arena.specs.Arena.{Sound, Allowed, Extends, Small, AllSmall, 
 use Rattle.arena.specs.Shift.{isSome, moved, canMove, allMove, shifted, allShifted}
 use Rattle.arena.specs.Layout.{row, count, cellOf, rowOf, nodeOf, childrenOf, decode}
 use Rattle.arena.specs.Calls.{answered, inCells, shiftedOutcome}
-use Rattle.arena.specs.Inner.{Holds, Known, Coded, Placeable, lifted, told, Grew, Memo, Walked, mapAll, toldAll, operationRow, WalkedAll, shiftedBy, Ready, ReadyAll}
+use Rattle.arena.specs.Inner.{Holds, Known, Coded, Placeable, lifted, told, isRefused, Grew, Memo, Walked, mapAll, toldAll, operationRow, WalkedAll, shiftedBy, Ready, ReadyAll}
 use Rattle.arena.specs.declared.Added.{Added}
 use Rattle.arena.specs.declared.Added.the-variants.{Number, Refused}
 use Rattle.arena.proofs.Nodes.{extends-none, extends-both, extends-longer}
@@ -263,11 +263,13 @@ module _ (s : List ℕ) (e : ℕ) (offset : ℤ) (lift : ℕ) (known : Known s e
     shift-ready l n = record { known = known; small = l; moves = can; memo-true = memo-none (shiftedBy lift) (decode s) n }
 
     -- it has answered
-    pub shift-done : (t memo : List ℕ) (i : ℕ) → Walked (shiftedBy lift) s t memo e (Number i) → inCells (shiftedOutcome e offset (decode s)) ≡ (Number i, t)
-    unfolding inCells shiftedOutcome answered told
-    shift-done t memo i w = rw (can-is ∙ can, shift-is, ← w .grew .is, coded-cells t (w .grew .holds))
+    pub shift-done : (t memo : List ℕ) (a : Added) → isRefused a ≡ false → Walked (shiftedBy lift) s t memo e a → inCells (shiftedOutcome e offset (decode s)) ≡ (a, t)
+    unfolding inCells shiftedOutcome answered told isRefused
+    shift-done t memo (Number i) q w = rw (can-is ∙ can, shift-is, ← w .grew .is, coded-cells t (w .grew .holds))
+    shift-done t memo (Refused k) q w = absurd (true-not-false refl q)
 
     -- there was no room
-    pub shift-full : (t memo : List ℕ) (k : ℕ) → Walked (shiftedBy lift) s t memo e (Refused k) → inCells (shiftedOutcome e offset (decode s)) ≡ (Refused 3, s)
-    unfolding inCells shiftedOutcome answered told
-    shift-full t memo k w = rw (can-is ∙ can, shift-is, ← w .grew .is, coded-cells s (known .holds))
+    pub shift-full : (t memo : List ℕ) (a : Added) → isRefused a ≡ true → Walked (shiftedBy lift) s t memo e a → inCells (shiftedOutcome e offset (decode s)) ≡ (Refused 3, s)
+    unfolding inCells shiftedOutcome answered told isRefused
+    shift-full t memo (Number i) q w = absurd (true-not-false q refl)
+    shift-full t memo (Refused k) q w = rw (can-is ∙ can, shift-is, ← w .grew .is, coded-cells s (known .holds))

@@ -61,6 +61,11 @@ unfoldable pub told : Added → List Node → Placed ℕ
 told (Number i) ns = placed i ns
 told (Refused k) ns = full
 
+-- an answer is a refusal
+unfoldable pub isRefused : Added → Bool
+isRefused (Number i) = false
+isRefused (Refused k) = true
+
 -- from the cells s to the cells t an expression was added, or there was no room; whichever, t is an arena that extends s
 pub record Grew (x : Expression) (s t : List ℕ) (answer : Added) : Type 0 where
   pub holds : Holds t

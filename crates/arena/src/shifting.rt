@@ -20,7 +20,7 @@ ghost use Rattle.arena.specs.Shift.{moved, isSome, canMove};
 ghost use Rattle.arena.specs.Layout.{cellOf, decode};
 ghost use Rattle.arena.specs.Calls.{inCells, shiftedOutcome};
 ghost use Rattle.arena.specs.declared.Added.the-variants.{Number};
-ghost use Rattle.arena.specs.Inner.{Known, Grew, Ready, Walked, ReadyAll, WalkedAll, lifted, shiftedBy, noted};
+ghost use Rattle.arena.specs.Inner.{Known, Grew, Ready, Walked, ReadyAll, WalkedAll, lifted, shiftedBy, noted, isRefused};
 
 // The lift of an offset.
 fn lift_of(offset: i64) -> u32
@@ -172,6 +172,16 @@ fn shift(cells: &mut [u32; 11265], memo: &mut [u32; 1024], expr: u32, lift: u32)
     answer
 }
 
+// The walk found no room.
+fn refused(answer: Added) -> bool
+    ensures { λ r. ⌜ r ≡ isRefused answer ⌝ }
+{
+    match answer {
+        Added::Number(_) => false,
+        Added::Refused(_) => true,
+    }
+}
+
 // Shifts an expression by an offset: 10 where a column leaves its bounds, 3 where there is no room, and then
 // every cell is as it was.
 pub fn shift_in(cells: &mut [u32; 11265], expr: u32, offset: i64) -> Added
@@ -184,11 +194,10 @@ pub fn shift_in(cells: &mut [u32; 11265], expr: u32, offset: i64) -> Added
     }
     let saved = *cells;
     let mut memo = [0u32; 1024];
-    match shift(cells, &mut memo, expr, lift) {
-        Added::Number(i) => Added::Number(i),
-        Added::Refused(_) => {
-            *cells = saved;
-            Added::Refused(3)
-        }
+    let answer = shift(cells, &mut memo, expr, lift);
+    if refused(answer) {
+        *cells = saved;
+        return Added::Refused(3);
     }
+    answer
 }

@@ -5,7 +5,7 @@ use borrow.Author.Tests.{not-true, not-false}
 use lib.IntN.{ℤ}
 use mir.Facts.{toZ-ofZ}
 use Rattle.arena.specs.Shift.{moved}
-use Rattle.arena.specs.Inner.{lifted, shiftedBy, Walked}
+use Rattle.arena.specs.Inner.{lifted}
 use Rattle.arena.proofs.Shifts.{shift-out, shift-ready, shift-done, shift-full}
 use Rattle.arena.proofs.shifting.shift_in.Statement.{statement}
 use Rattle.arena.proofs.shifting.shift_in.Tie as tie
@@ -14,6 +14,7 @@ use Rattle.arena.proofs.shifting.shift_in.Lts as lts
 use Rattle.arena.proofs.cells.wide.Reads as wide-reads
 use Rattle.arena.proofs.shifting.can_move.Reads as can-move-reads
 use Rattle.arena.proofs.shifting.lift_of.Reads as lift-of-reads
+use Rattle.arena.proofs.shifting.refused.Reads as refused-reads
 use Rattle.arena.proofs.shifting.shift.Reads as shift-reads
 
 lift-of-requires : tie.Need-lift-of-requires
@@ -36,21 +37,18 @@ shift-requires c κs =
     let g : (i : ℕ) → i < 65536 → moved (c .before .before .before .before .before .before .before .before .args .offset) i ≡ lifted (c .before .before .before .before .before .before .before .lift-of .result) i = subst (λ (z : ℤ). (i : ℕ) → i < 65536 → moved z i ≡ lifted (c .before .before .before .before .before .before .before .lift-of .result) i) (toZ-ofZ (c .before .before .before .before .before .before .before .before .fits .offset)) (c .before .before .before .before .before .before .before .lift-of .ensures .1) in
     shift-ready (c .before .before .before .before .before .before .before .before .args .cells .now) (c .before .before .before .before .before .before .before .before .args .expr) (c .before .before .before .before .before .before .before .before .args .offset) (c .before .before .before .before .before .before .before .lift-of .result) (c .before .before .before .before .before .before .before .before .pre) g (sym (rw (c .before .before .before .before .before .wide .ensures) at (c .before .before .before .before .can-move .ensures)) ∙ not-false _ (c .before .before .before .if1 .left)) (c .before .before .before .before .before .before .before .lift-of .ensures .0) 1024
 
-enum-known-i : tie.Need-enum-known-i
-enum-known-i c = search needs
-
-enum-told : tie.Need-enum-told
-enum-told c = search needs
+refused-requires : tie.Need-refused-requires
+refused-requires c κs = search needs
 
 returns-2 : tie.Need-returns-2
 returns-2 c =
-    let g : (i : ℕ) → i < 65536 → moved (c .before .before .before .before .before .before .before .before .before .before .before .before .args .offset) i ≡ lifted (c .before .before .before .before .before .before .before .before .before .before .before .lift-of .result) i = subst (λ (z : ℤ). (i : ℕ) → i < 65536 → moved z i ≡ lifted (c .before .before .before .before .before .before .before .before .before .before .before .lift-of .result) i) (toZ-ofZ (c .before .before .before .before .before .before .before .before .before .before .before .before .fits .offset)) (c .before .before .before .before .before .before .before .before .before .before .before .lift-of .ensures .1) in
-    sym (shift-done (c .before .before .before .before .before .before .before .before .before .before .before .before .args .cells .now) (c .before .before .before .before .before .before .before .before .before .before .before .before .args .expr) (c .before .before .before .before .before .before .before .before .before .before .before .before .args .offset) (c .before .before .before .before .before .before .before .before .before .before .before .lift-of .result) (c .before .before .before .before .before .before .before .before .before .before .before .before .pre) g (sym (rw (c .before .before .before .before .before .before .before .before .before .wide .ensures) at (c .before .before .before .before .before .before .before .before .can-move .ensures)) ∙ not-false _ (c .before .before .before .before .before .before .before .if1 .left)) (c .before .before .before .shift .last .0) (c .before .before .before .shift .last .1 .0) (c .before .i .given .0 .0) (subst (Walked (shiftedBy (c .before .before .before .before .before .before .before .before .before .before .before .lift-of .result)) (c .before .before .before .before .before .before .before .before .before .before .before .before .args .cells .now) (c .before .before .before .shift .last .0) (c .before .before .before .shift .last .1 .0) (c .before .before .before .before .before .before .before .before .before .before .before .before .args .expr)) (c .before .i .given .1) (c .before .before .before .shift .ensures)))
+    let g : (i : ℕ) → i < 65536 → moved (c .before .before .before .before .before .before .before .before .before .before .before .args .offset) i ≡ lifted (c .before .before .before .before .before .before .before .before .before .before .lift-of .result) i = subst (λ (z : ℤ). (i : ℕ) → i < 65536 → moved z i ≡ lifted (c .before .before .before .before .before .before .before .before .before .before .lift-of .result) i) (toZ-ofZ (c .before .before .before .before .before .before .before .before .before .before .before .fits .offset)) (c .before .before .before .before .before .before .before .before .before .before .lift-of .ensures .1) in
+    sym (shift-full (c .before .before .before .before .before .before .before .before .before .before .before .args .cells .now) (c .before .before .before .before .before .before .before .before .before .before .before .args .expr) (c .before .before .before .before .before .before .before .before .before .before .before .args .offset) (c .before .before .before .before .before .before .before .before .before .before .lift-of .result) (c .before .before .before .before .before .before .before .before .before .before .before .pre) g (sym (rw (c .before .before .before .before .before .before .before .before .wide .ensures) at (c .before .before .before .before .before .before .before .can-move .ensures)) ∙ not-false _ (c .before .before .before .before .before .before .if1 .left)) (c .before .before .shift .last .0) (c .before .before .shift .last .1 .0) (c .before .before .shift .result) (sym (c .before .refused .ensures) ∙ c .if2 .taken) (c .before .before .shift .ensures))
 
 returns-3 : tie.Need-returns-3
 returns-3 c =
     let g : (i : ℕ) → i < 65536 → moved (c .before .before .before .before .before .before .before .before .before .before .before .args .offset) i ≡ lifted (c .before .before .before .before .before .before .before .before .before .before .lift-of .result) i = subst (λ (z : ℤ). (i : ℕ) → i < 65536 → moved z i ≡ lifted (c .before .before .before .before .before .before .before .before .before .before .lift-of .result) i) (toZ-ofZ (c .before .before .before .before .before .before .before .before .before .before .before .fits .offset)) (c .before .before .before .before .before .before .before .before .before .before .lift-of .ensures .1) in
-    sym (shift-full (c .before .before .before .before .before .before .before .before .before .before .before .args .cells .now) (c .before .before .before .before .before .before .before .before .before .before .before .args .expr) (c .before .before .before .before .before .before .before .before .before .before .before .args .offset) (c .before .before .before .before .before .before .before .before .before .before .lift-of .result) (c .before .before .before .before .before .before .before .before .before .before .before .pre) g (sym (rw (c .before .before .before .before .before .before .before .before .wide .ensures) at (c .before .before .before .before .before .before .before .can-move .ensures)) ∙ not-false _ (c .before .before .before .before .before .before .if1 .left)) (c .before .before .shift .last .0) (c .before .before .shift .last .1 .0) (c .enum-told .given .0 .0) (subst (Walked (shiftedBy (c .before .before .before .before .before .before .before .before .before .before .lift-of .result)) (c .before .before .before .before .before .before .before .before .before .before .before .args .cells .now) (c .before .before .shift .last .0) (c .before .before .shift .last .1 .0) (c .before .before .before .before .before .before .before .before .before .before .before .args .expr)) (c .enum-told .given .1) (c .before .before .shift .ensures)))
+    sym (shift-done (c .before .before .before .before .before .before .before .before .before .before .before .args .cells .now) (c .before .before .before .before .before .before .before .before .before .before .before .args .expr) (c .before .before .before .before .before .before .before .before .before .before .before .args .offset) (c .before .before .before .before .before .before .before .before .before .before .lift-of .result) (c .before .before .before .before .before .before .before .before .before .before .before .pre) g (sym (rw (c .before .before .before .before .before .before .before .before .wide .ensures) at (c .before .before .before .before .before .before .before .can-move .ensures)) ∙ not-false _ (c .before .before .before .before .before .before .if1 .left)) (c .before .before .shift .last .0) (c .before .before .shift .last .1 .0) (c .before .before .shift .result) (sym (c .before .refused .ensures) ∙ c .if2 .left) (c .before .before .shift .ensures))
 
 pub shift-in-spec : {M : Type 1} → statement M
 shift-in-spec =
@@ -61,7 +59,6 @@ shift-in-spec =
     can-move-requires
     returns
     shift-requires
-    enum-known-i
-    enum-told
+    refused-requires
     returns-2
     returns-3)
