@@ -1,8 +1,8 @@
 -- A call on lent cells, by the check's answer; and a row that a public call adds.
 use Prim.Native.Nat.{ℕ, _<_, _≤_}
-use mathlib.Core.Bool.{Bool, true, false}
+use mathlib.Core.Bool.{true, false}
 use mathlib.Core.List.{List}
-use mathlib.Core.Path.{_≡_, refl, sym, ap, _∙_, subst}
+use mathlib.Core.Path.{_≡_, sym, ap, _∙_, subst}
 use lib.Dec.{ltb}
 use lib.ListN.{length, getD}
 use borrow.Author.Tests.{ltb-true}
@@ -12,8 +12,8 @@ use Rattle.arena.specs.Node.{Node, operation}
 use Rattle.arena.specs.Arena.{Allowed}
 use Rattle.arena.specs.Layout.{row, nodeOf, count, decode, lawful}
 use Rattle.arena.specs.Calls.{onLent}
-use Rattle.arena.specs.Inner.{Holds, Known, Placeable}
-use Rattle.arena.proofs.Rows.{node-row, row-coded}
+use Rattle.arena.specs.Inner.{Known, Placeable}
+use Rattle.arena.proofs.Rows.{node-row}
 use Rattle.arena.proofs.Layouts.{length-decode, lawful-holds}
 
 module _ {A : Type 0} (refused : A) (call : List Node → A) (s : List ℕ) where

@@ -1,20 +1,17 @@
 -- The cells of a node, said of the node.
-use Prim.Native.Nat.{ℕ, _+_, _*_, _/_, _%_, _<_, _≤_}
-use mathlib.Core.Bool.{Bool, true, false}
-use mathlib.Core.List.{List, [], _∷_}
-use mathlib.Core.Path.{_≡_, refl, sym, ap, _∙_, subst}
+use Prim.Native.Nat.{ℕ, _+_, _/_, _%_, _<_, _≤_}
+use mathlib.Core.List.{List}
+use mathlib.Core.Path.{_≡_, refl, sym, ap, _∙_}
 use native.Mathlib.Omega.{arith}
 use borrow.Author.Tests.{eq-eqb, ne-eqb}
-use lib.Dec.{eqb}
 use lib.ListN.{length, getD}
 use Rattle.laws.specs.Lists.{table}
 use Rattle.laws.proofs.Table.{length-table, getD-table}
 use Rattle.arena.specs.Node.{Node, column, literal, operation, nodeAt, childNumbers}
 use Rattle.arena.specs.Arena.{Allowed}
-use Rattle.arena.specs.Layout.{row, rowOf, cellOf, count, childrenOf, nodeOf, decode}
+use Rattle.arena.specs.Layout.{row, rowOf, cellOf, childrenOf, nodeOf, decode}
 use Rattle.arena.specs.Calls.{readOf}
-use Rattle.arena.specs.Inner.{Holds, Known, Coded}
-use Rattle.arena.specs.declared.Read.{Read}
+use Rattle.arena.specs.Inner.{Known, Coded}
 use Rattle.arena.specs.declared.Read.the-variants.{Column, Literal, Operation}
 use Rattle.arena.proofs.Layouts.{length-decode, node-decode, at-row-of}
 

@@ -1,23 +1,20 @@
 -- Adding a row to the cells, said of the arena in them.
-use Prim.Native.Nat.{ℕ, _<_, _≤_, _+_}
+use Prim.Native.Nat.{ℕ, _<_}
 use mathlib.Core.Bool.{Bool, true, false}
 use mathlib.Core.List.{List, [], _∷_, _++_}
-use mathlib.Core.Option.{Option, none, some}
-use mathlib.Core.Path.{_≡_, refl, sym, ap, _∙_, subst}
+use mathlib.Core.Option.{none, some}
+use mathlib.Core.Path.{_≡_, refl, sym, _∙_}
 use native.Mathlib.Omega.{arith}
 use borrow.Author.Tests.{ltb-true, lt-ltb}
 use lib.Dec.{ltb}
 use lib.ListN.{length}
-use Rattle.laws.specs.Tests.{if_then_else_}
-use Rattle.laws.proofs.First.{First, first-some}
-use Rattle.arena.specs.Node.{Node}
-use Rattle.arena.specs.Arena.{Sound, Allowed, Placed, placed, full, find, placedAt, add}
-use Rattle.arena.specs.Layout.{sameRow, rowBelow, count, nodeOf, decode, encode}
+use Rattle.laws.proofs.First.{first-some}
+use Rattle.arena.specs.Arena.{Sound, Allowed, find, placedAt, add}
+use Rattle.arena.specs.Layout.{sameRow, rowBelow, count, nodeOf, decode}
 use Rattle.arena.specs.Calls.{answered, inCells, Outcome}
-use Rattle.arena.specs.Inner.{Holds, Coded, Placeable, appended}
-use Rattle.arena.specs.declared.Added.{Added}
-use Rattle.arena.specs.declared.Added.the-variants.{Number, Refused}
-use Rattle.arena.proofs.Nodes.{AddedNode, add-node}
+use Rattle.arena.specs.Inner.{Placeable, appended}
+use Rattle.arena.specs.declared.Added.the-variants.{Number}
+use Rattle.arena.proofs.Nodes.{add-node}
 use Rattle.arena.proofs.Rows.{coded-length}
 use Rattle.arena.proofs.Layouts.{length-decode, row-below-is, coded-cells, append-cells}
 

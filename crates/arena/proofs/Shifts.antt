@@ -1,9 +1,9 @@
 -- Shifting by a lift: what the walk needs at a column, at a literal and at an operation.
 use Prim.Native.Nat.{ℕ, suc, zero, _+_, _-_, _*_, _/_, _%_, _<_, _≤_}
-use mathlib.Core.Bool.{Bool, true, false, _&&_}
-use mathlib.Core.List.{List, [], _∷_, _++_}
-use mathlib.Core.Option.{Option, none, some, Option·getD}
-use mathlib.Core.Path.{_≡_, refl, sym, ap, ap₂, _∙_, subst}
+use mathlib.Core.Bool.{Bool, true, false}
+use mathlib.Core.List.{List, [], _∷_}
+use mathlib.Core.Option.{Option, some}
+use mathlib.Core.Path.{_≡_, refl, sym, ap, _∙_, subst}
 use native.Mathlib.Omega.{arith}
 use borrow.Author.Tests.{leb-true, ltb-true}
 use lib.Dec.{leb, ltb}
@@ -12,21 +12,21 @@ use lib.ListN.{length, getD, set, replicate}
 use Rattle.laws.proofs.Booleans.{and-left, and-right, true-not-false}
 use Rattle.arena.specs.Node.{Node, column, literal, operation, nodeAt}
 use Rattle.arena.specs.Expression.{Expression, Expressions, col, lit, op, ∅, _▹_, expressions, expressionAt, those, over}
-use Rattle.arena.specs.Arena.{Sound, Allowed, Extends, Small, AllSmall, Placed, placed, full, andThen, add, addExpression, addExpressions}
+use Rattle.arena.specs.Arena.{Sound, Allowed, Small, AllSmall, placed, andThen, add, addExpression}
 use Rattle.arena.specs.Shift.{isSome, moved, canMove, allMove, shifted, allShifted}
 use Rattle.arena.specs.Layout.{row, count, cellOf, rowOf, nodeOf, childrenOf, decode}
 use Rattle.arena.specs.Calls.{answered, inCells, shiftedOutcome}
-use Rattle.arena.specs.Inner.{Holds, Known, Coded, Placeable, lifted, told, isRefused, Grew, Memo, Walked, mapAll, toldAll, operationRow, WalkedAll, shiftedBy, Ready, ReadyAll}
+use Rattle.arena.specs.Inner.{Known, Placeable, lifted, told, isRefused, Grew, Walked, mapAll, toldAll, WalkedAll, shiftedBy, Ready, ReadyAll}
 use Rattle.arena.specs.declared.Added.{Added}
 use Rattle.arena.specs.declared.Added.the-variants.{Number, Refused}
 use Rattle.arena.proofs.Nodes.{extends-none, extends-both, extends-longer}
 use Rattle.arena.proofs.Trees.{expression-is, expression-kept, expression-small}
 use Rattle.arena.proofs.Growing.{AddedExpressions, add-expressions, add-expression-old}
 use Rattle.arena.proofs.Values.{shifted-small, canMove-cong, shifted-cong}
-use Rattle.arena.proofs.Rows.{node-row, row-coded}
+use Rattle.arena.proofs.Rows.{node-row}
 use Rattle.arena.proofs.Layouts.{length-decode, node-decode, at-row-of, coded-cells}
 use Rattle.arena.proofs.NodeCells.{node-column, node-literal, node-operation}
-use Rattle.arena.proofs.Walking.{PlacedRow, placed-row, Through, memo-none, memo-kept}
+use Rattle.arena.proofs.Walking.{PlacedRow, Through, memo-none, memo-kept}
 
 -- an index that moves
 pub record Moves (lift index : ℕ) : Type 0 where

@@ -1,8 +1,7 @@
 -- Walks that rewrite an expression and add what they make of it, for any rewriting F: placing, the memo, and the loop over a node's children.
-use Prim.Native.Nat.{ℕ, zero, suc, _+_, _-_, _*_, _<_, _≤_}
-use mathlib.Core.Bool.{Bool, true, false}
+use Prim.Native.Nat.{ℕ, zero, suc, _+_, _-_, _<_}
+use mathlib.Core.Bool.{true, false}
 use mathlib.Core.List.{List, [], _∷_, _++_, append-nil, append-assoc}
-use mathlib.Core.Logic.{_⊎_, inl, inr}
 use mathlib.Core.Path.{_≡_, refl, sym, ap, _∙_, subst}
 use native.Mathlib.Decide.{ℕ-discrete, decLt}
 use native.Mathlib.Nat.{add-comm}
@@ -10,19 +9,18 @@ use native.Mathlib.Numerals.{add-one, add-three}
 use native.Mathlib.Omega.{arith}
 use lib.ListN.{length, getD, set, drop, replicate, length-append, List·getD-append}
 use lib.Seq.{getD-set-other, getD-set-same, set-out, drop-cons, drop-length, set-at, getD-at, append-snoc}
-use Rattle.laws.specs.Lists.{table}
 use Rattle.laws.proofs.Table.{length-table, table-is, table-cong}
-use Rattle.arena.specs.Node.{Node, operation, nodeAt}
-use Rattle.arena.specs.Expression.{Expression, Expressions, ∅, _▹_, op, expressions, expressionAt, those}
-use Rattle.arena.specs.Arena.{Sound, Allowed, Extends, Small, AllSmall, Placed, placed, full, andThen, add, addExpression, addExpressions}
-use Rattle.arena.specs.Layout.{row, count, nodeOf, childrenOf, decode, encode}
+use Rattle.arena.specs.Node.{Node, operation}
+use Rattle.arena.specs.Expression.{Expression, expressions, expressionAt, those}
+use Rattle.arena.specs.Arena.{Extends, Small, Placed, placed, full, andThen, add, addExpression, addExpressions}
+use Rattle.arena.specs.Layout.{row, nodeOf, childrenOf, decode, encode}
 use Rattle.arena.specs.Calls.{answered, inCells}
 use Rattle.arena.specs.Inner.{Holds, Placeable, told, Grew, Noted, Memo, noted, Walked, mapAll, toldAll, operationRow, WalkedAll}
 use Rattle.arena.specs.declared.Added.{Added}
 use Rattle.arena.specs.declared.Added.the-variants.{Number, Refused}
-use Rattle.arena.proofs.Nodes.{AddedNode, add-node, extends-none, extends-both, extends-longer}
-use Rattle.arena.proofs.Trees.{expression-kept, length-expressions}
-use Rattle.arena.proofs.Growing.{AddedExpression, add-expression, add-expression-old}
+use Rattle.arena.proofs.Nodes.{add-node, extends-none, extends-both, extends-longer}
+use Rattle.arena.proofs.Trees.{expression-kept}
+use Rattle.arena.proofs.Growing.{add-expression, add-expression-old}
 use Rattle.arena.proofs.Layouts.{length-decode, coded-cells, decode-encode, encode-holds}
 
 -- ---- placing

@@ -1,7 +1,6 @@
 -- What each public call answers and what it leaves in the arena, in document 01's order of refusals.
 -- A refusal is a case that hands back what came in.
 use Prim.Native.Nat.{ℕ}
-use mathlib.Core.Bool.{Bool, true, false}
 use mathlib.Core.List.{List}
 use lib.Dec.{ltb, leb}
 use lib.IntN.{ℤ}

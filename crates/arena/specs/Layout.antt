@@ -2,9 +2,9 @@
 -- There are 11,265 cells of 32 bits. Cell 0 is the number of nodes. Node i has the 11 cells from 1 + 11·i on: its kind (1 column, 2 literal, 3 operation),
 -- its payload (of a column name · 65,536 + index, of a literal the value, of an operation the label), the number of its children, and 8 places for them. Every other cell is 0.
 use Prim.Native.Nat.{ℕ, _+_, _-_, _*_, _/_, _%_}
-use mathlib.Core.Bool.{Bool, true, false, not, _&&_}
+use mathlib.Core.Bool.{Bool, false, not, _&&_}
 use mathlib.Core.List.{List, [], _∷_, _++_}
-use mathlib.Core.Option.{Option, none, some}
+use mathlib.Core.Option.{Option, none}
 use lib.Dec.{eqb, ltb, leb}
 use lib.ListN.{length, getD, replicate}
 use Rattle.laws.specs.Tests.{if_then_else_, each, first}

@@ -1,7 +1,7 @@
 -- A node, as document 01 has it ("Expressions"): a column with a name number and an index, a literal with a value number, or an operation with a label and the numbers of its children.
 -- An arena is a list of nodes. A node's place in the list, counted from 0, is its number.
 use Prim.Native.Nat.{ℕ}
-use mathlib.Core.Bool.{Bool, true, false, _&&_}
+use mathlib.Core.Bool.{Bool, false, _&&_}
 use mathlib.Core.List.{List, [], _∷_, _++_}
 use lib.Dec.{eqb}
 use lib.ListN.{length, getD}

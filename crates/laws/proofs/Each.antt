@@ -1,11 +1,9 @@
 -- "For all numbers below n": from its parts, to its parts, and for another test that agrees.
 use Prim.Native.Nat.{ℕ, zero, suc, _+_, _<_, _≤_}
 use mathlib.Core.Bool.{Bool, true, false, _&&_}
-use mathlib.Core.Path.{_≡_, refl, sym, ap, _∙_, subst}
-use mathlib.Core.Logic.{_⊎_, inl, inr}
+use mathlib.Core.Path.{_≡_, refl, sym, subst}
 use native.Mathlib.Numerals.{add-one}
 use native.Mathlib.Omega.{arith}
-use native.Mathlib.Nat.{le-of-lt, le-refl}
 use native.Mathlib.Decide.{ℕ-discrete}
 use Rattle.laws.specs.Tests.{each}
 use Rattle.laws.proofs.Booleans.{and-left, and-right, and-both, and-fails-left, and-fails-right}

@@ -1,26 +1,16 @@
-use Prim.Native.Nat.{ℕ, _≤_, _<_}
-use mathlib.Core.Bool.{Bool, true, false}
-use mathlib.Core.List.{List}
-use mathlib.Core.Path.{_≡_, refl, sym, ap, subst, _∙_}
-use native.Mathlib.Omega.{arith}
+-- `arena::add_column` meets its contract.
+use mathlib.Core.Bool.{true}
+use mathlib.Core.Path.{_≡_, sym, _∙_}
 use borrow.Author.Needs.{needs}
-use borrow.Author.Tests.{not-true, not-false, lt-ltb, le-ltb, le-leb, lt-leb}
-use lib.Dec.{ltb, leb}
-use lib.ListN.{length, getD}
-use Rattle.laws.specs.Tests.{each}
-use Rattle.arena.specs.Node.{Node, column, literal, operation}
-use Rattle.arena.specs.Arena.{Allowed, add}
-use Rattle.arena.specs.Layout.{count, decode, lawful}
-use Rattle.arena.specs.Calls.{answered, inCells, addColumn}
+use borrow.Author.Tests.{not-true, not-false}
+use Rattle.arena.specs.Node.{column}
+use Rattle.arena.specs.Arena.{Allowed}
+use Rattle.arena.specs.Layout.{lawful}
+use Rattle.arena.specs.Calls.{inCells, addColumn}
 use Rattle.arena.specs.declared.Added.the-variants.{Refused}
 use Rattle.arena.proofs.Lending.{on-none, on-arena, node-of, placeable}
 use Rattle.arena.proofs.add_column.Statement.{statement}
 use Rattle.arena.proofs.add_column.Tie as tie
-use Rattle.arena.proofs.add_column.Reads as reads
-use Rattle.arena.proofs.add_column.Lts as lts
-use Rattle.arena.proofs.adding.column_row.Reads as column-row-reads
-use Rattle.arena.proofs.adding.place.Reads as place-reads
-use Rattle.arena.proofs.checking.lawful_arena.Reads as lawful-arena-reads
 
 lawful-arena-requires : tie.Need-lawful-arena-requires
 lawful-arena-requires c κs = search needs

@@ -1,6 +1,6 @@
-use Prim.Native.Nat.{ℕ, _≤_, _<_}
+-- `arena::add_offset_to_expr` meets its contract.
 use mathlib.Core.Bool.{true, false}
-use mathlib.Core.Path.{_≡_, refl, sym, subst, _∙_}
+use mathlib.Core.Path.{_≡_, sym, subst, _∙_}
 use native.Mathlib.Omega.{arith}
 use borrow.Author.Needs.{needs}
 use borrow.Author.Tests.{not-true, not-false, lt-ltb, le-ltb}
@@ -15,12 +15,6 @@ use Rattle.arena.proofs.Layouts.{length-decode, coded-cells, lawful-hol
 use Rattle.arena.proofs.Lending.{on-none, on-arena, known}
 use Rattle.arena.proofs.add_offset_to_expr.Statement.{statement}
 use Rattle.arena.proofs.add_offset_to_expr.Tie as tie
-use Rattle.arena.proofs.add_offset_to_expr.Reads as reads
-use Rattle.arena.proofs.add_offset_to_expr.Lts as lts
-use Rattle.arena.proofs.cells.node_count.Reads as node-count-reads
-use Rattle.arena.proofs.cells.wide.Reads as wide-reads
-use Rattle.arena.proofs.checking.lawful_arena.Reads as lawful-arena-reads
-use Rattle.arena.proofs.shifting.shift_in.Reads as shift-in-reads
 
 lawful-arena-requires : tie.Need-lawful-arena-requires
 lawful-arena-requires c κs = search needs

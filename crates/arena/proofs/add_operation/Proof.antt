@@ -1,13 +1,10 @@
-use Prim.Native.Nat.{ℕ, _≤_, _<_}
-use mathlib.Core.Bool.{Bool, true, false}
-use mathlib.Core.List.{List}
-use mathlib.Core.Path.{_≡_, refl, sym, ap, subst, _∙_}
-use native.Mathlib.Omega.{arith}
+-- `arena::add_operation` meets its contract.
+use mathlib.Core.Bool.{true, false}
+use mathlib.Core.Path.{_≡_, sym, _∙_}
 use borrow.Author.Needs.{needs}
-use borrow.Author.Tests.{not-true, not-false, lt-ltb, le-ltb, le-leb, lt-leb}
+use borrow.Author.Tests.{not-true, not-false, le-leb, lt-leb}
 use lib.Dec.{ltb, leb}
 use lib.ListN.{length, getD}
-use Rattle.arena.specs.Node.{nodeAt, childNumbers}
 use Rattle.arena.specs.Layout.{count, decode, lawful}
 use Rattle.laws.specs.Tests.{each}
 use Rattle.arena.specs.Node.{operation}
@@ -18,13 +15,6 @@ use Rattle.arena.proofs.Layouts.{length-decode, coded-cells, lawful-hol
 use Rattle.arena.proofs.Lending.{on-none, on-arena, node-of, placeable, operation-allowed}
 use Rattle.arena.proofs.add_operation.Statement.{statement}
 use Rattle.arena.proofs.add_operation.Tie as tie
-use Rattle.arena.proofs.add_operation.Reads as reads
-use Rattle.arena.proofs.add_operation.Lts as lts
-use Rattle.arena.proofs.adding.all_below.Reads as all-below-reads
-use Rattle.arena.proofs.adding.operation_row.Reads as operation-row-reads
-use Rattle.arena.proofs.adding.place.Reads as place-reads
-use Rattle.arena.proofs.cells.node_count.Reads as node-count-reads
-use Rattle.arena.proofs.checking.lawful_arena.Reads as lawful-arena-reads
 
 lawful-arena-requires : tie.Need-lawful-arena-requires
 lawful-arena-requires c κs = search needs

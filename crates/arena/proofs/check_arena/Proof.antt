@@ -1,12 +1,9 @@
-use mathlib.Core.Path.{_≡_, sym, _∙_}
+-- `arena::check_arena` meets its contract.
+use mathlib.Core.Path.{sym, _∙_}
 use borrow.Author.Needs.{needs}
 use Rattle.arena.proofs.Lending.{on-none, on-arena}
-use Rattle.arena.specs.Calls.{checked}
 use Rattle.arena.proofs.check_arena.Statement.{statement}
 use Rattle.arena.proofs.check_arena.Tie as tie
-use Rattle.arena.proofs.check_arena.Reads as reads
-use Rattle.arena.proofs.check_arena.Lts as lts
-use Rattle.arena.proofs.checking.lawful_arena.Reads as lawful-arena-reads
 
 lawful-arena-requires : tie.Need-lawful-arena-requires
 lawful-arena-requires c κs = search needs

@@ -1,27 +1,19 @@
-use Prim.Native.Nat.{ℕ, _≤_, _<_}
-use mathlib.Core.Bool.{Bool, true, false}
-use mathlib.Core.List.{List}
-use mathlib.Core.Path.{_≡_, refl, sym, ap, subst, _∙_}
+-- `arena::read_child` meets its contract.
+use mathlib.Core.Bool.{true, false}
+use mathlib.Core.Path.{_≡_, sym, _∙_}
 use native.Mathlib.Omega.{arith}
 use borrow.Author.Needs.{needs}
-use borrow.Author.Tests.{not-true, not-false, lt-ltb, le-ltb, le-leb, lt-leb}
-use lib.Dec.{ltb, leb}
+use borrow.Author.Tests.{not-true, not-false, lt-ltb, le-ltb}
+use lib.Dec.{ltb}
 use lib.ListN.{length, getD}
 use Rattle.arena.specs.Node.{nodeAt, childNumbers}
-use Rattle.arena.specs.Layout.{count, decode, lawful}
+use Rattle.arena.specs.Layout.{decode, lawful}
 use Rattle.arena.specs.Calls.{readChild}
 use Rattle.arena.specs.declared.Child.the-variants.{Refused}
 use Rattle.arena.proofs.Layouts.{length-decode}
 use Rattle.arena.proofs.Lending.{on-none, on-arena, known}
 use Rattle.arena.proofs.read_child.Statement.{statement}
 use Rattle.arena.proofs.read_child.Tie as tie
-use Rattle.arena.proofs.read_child.Reads as reads
-use Rattle.arena.proofs.read_child.Lts as lts
-use Rattle.arena.proofs.cells.node_count.Reads as node-count-reads
-use Rattle.arena.proofs.cells.wide.Reads as wide-reads
-use Rattle.arena.proofs.checking.lawful_arena.Reads as lawful-arena-reads
-use Rattle.arena.proofs.reading.child_count.Reads as child-count-reads
-use Rattle.arena.proofs.reading.child_in.Reads as child-in-reads
 
 lawful-arena-requires : tie.Need-lawful-arena-requires
 lawful-arena-requires c κs = search needs

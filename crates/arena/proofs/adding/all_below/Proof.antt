@@ -1,19 +1,17 @@
-use Prim.Native.Nat.{ℕ, _+_, _-_, _*_, _≤_, _<_}
-use mathlib.Core.Bool.{Bool, true, false}
+-- `arena::adding::all_below` meets its contract.
+use Prim.Native.Nat.{ℕ, _-_, _≤_}
+use mathlib.Core.Bool.{Bool, true}
 use mathlib.Core.List.{List}
-use mathlib.Core.Path.{_≡_, refl, sym, ap, _∙_}
+use mathlib.Core.Path.{_≡_}
 use native.Mathlib.Omega.{arith}
-use lib.Dec.{eqb, ltb, leb}
+use lib.Dec.{ltb}
 use lib.ListN.{length, getD}
-use borrow.Author.Tests.{eq-eqb, ne-eqb, lt-ltb, le-ltb, eqb-true, eqb-false, not-true, not-false}
+use borrow.Author.Tests.{lt-ltb, le-ltb}
 use Rattle.laws.specs.Tests.{each}
 use Rattle.laws.proofs.Each.{each-none, each-more, each-stops, each-ends}
 use borrow.Author.Needs.{needs}
 use Rattle.arena.proofs.adding.all_below.Statement.{statement}
 use Rattle.arena.proofs.adding.all_below.Tie as tie
-use Rattle.arena.proofs.adding.all_below.Reads as reads
-use Rattle.arena.proofs.adding.all_below.Lts as lts
-use Rattle.arena.proofs.cells.wide.Reads as wide-reads
 
 -- number k is below n
 abbrev Below : List ℕ → ℕ → ℕ → Bool

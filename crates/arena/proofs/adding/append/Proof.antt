@@ -1,6 +1,5 @@
-use Prim.Native.Nat.{ℕ, _+_, _-_, _*_, _≤_, _<_}
-use mathlib.Core.Bool.{Bool, true, false}
-use mathlib.Core.Path.{_≡_, refl, sym, ap, _∙_}
+-- `arena::adding::append` meets its contract.
+use Prim.Native.Nat.{_≤_, _<_}
 use native.Mathlib.Omega.{arith}
 use borrow.Author.Needs.{needs}
 use borrow.Author.Tests.{lt-ltb, le-ltb}
@@ -8,11 +7,6 @@ use Rattle.arena.specs.Layout.{count}
 use Rattle.arena.specs.Inner.{appended}
 use Rattle.arena.proofs.adding.append.Statement.{statement}
 use Rattle.arena.proofs.adding.append.Tie as tie
-use Rattle.arena.proofs.adding.append.Reads as reads
-use Rattle.arena.proofs.adding.append.Lts as lts
-use Rattle.arena.proofs.adding.write_row.Reads as write-row-reads
-use Rattle.arena.proofs.cells.narrow.Reads as narrow-reads
-use Rattle.arena.proofs.cells.node_count.Reads as node-count-reads
 
 node-count-requires : tie.Need-node-count-requires
 node-count-requires c κs = search needs

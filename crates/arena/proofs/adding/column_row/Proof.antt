@@ -1,9 +1,8 @@
+-- `arena::adding::column_row` meets its contract.
 use Rattle.arena.specs.Layout.{row}
 use borrow.Author.Needs.{needs}
 use Rattle.arena.proofs.adding.column_row.Statement.{statement}
 use Rattle.arena.proofs.adding.column_row.Tie as tie
-use Rattle.arena.proofs.adding.column_row.Reads as reads
-use Rattle.arena.proofs.adding.column_row.Lts as lts
 
 mul-t4 : tie.Need-mul-t4
 mul-t4 c = search needs

@@ -1,9 +1,8 @@
+-- `arena::adding::literal_row` meets its contract.
 use Rattle.arena.specs.Layout.{row}
 use borrow.Author.Needs.{needs}
 use Rattle.arena.proofs.adding.literal_row.Statement.{statement}
 use Rattle.arena.proofs.adding.literal_row.Tie as tie
-use Rattle.arena.proofs.adding.literal_row.Reads as reads
-use Rattle.arena.proofs.adding.literal_row.Lts as lts
 
 returns : tie.Need-returns
 unfolding row

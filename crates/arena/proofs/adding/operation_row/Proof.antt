@@ -1,17 +1,13 @@
-use Prim.Native.Nat.{ℕ, _+_, _-_, _*_, _≤_, _<_}
-use mathlib.Core.Bool.{Bool, true, false}
-use mathlib.Core.List.{List}
-use mathlib.Core.Path.{_≡_, refl, sym, ap, _∙_}
-use native.Mathlib.Omega.{arith}
-use lib.ListN.{length, getD}
+-- `arena::adding::operation_row` meets its contract.
+use Prim.Native.Nat.{_-_, _≤_}
+use mathlib.Core.Path.{_≡_, _∙_}
+use lib.ListN.{length}
 use borrow.Author.Needs.{needs}
-use Rattle.arena.proofs.Writing.{begun, begun-more, begun-done}
+use Rattle.arena.proofs.Writing.{begun-more, begun-done}
 use mathlib.Core.List.{_∷_, _++_}
 use lib.ListN.{take, replicate}
 use Rattle.arena.proofs.adding.operation_row.Statement.{statement}
 use Rattle.arena.proofs.adding.operation_row.Tie as tie
-use Rattle.arena.proofs.adding.operation_row.Reads as reads
-use Rattle.arena.proofs.adding.operation_row.Lts as lts
 
 abbrev Inv-loop : tie.InvT-loop
 Inv-loop label children n row₀ k₀ row k = (k ≤ length children) × (row ≡ 3 ∷ label ∷ length children ∷ (take k children ++ replicate (8 - k) 0))

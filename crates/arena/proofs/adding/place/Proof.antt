@@ -1,6 +1,7 @@
-use Prim.Native.Nat.{ℕ, _≤_, _<_}
+-- `arena::adding::place` meets its contract.
+use Prim.Native.Nat.{ℕ}
 use mathlib.Core.Option.{none, some}
-use mathlib.Core.Path.{_≡_, refl, sym, ap, _∙_}
+use mathlib.Core.Path.{_≡_, sym, ap, _∙_}
 use native.Mathlib.Omega.{arith}
 use borrow.Author.Needs.{needs}
 use Rattle.arena.specs.Layout.{count, rowBelow}
@@ -8,12 +9,6 @@ use Rattle.arena.proofs.Answers.{found-at, found-nothing}
 use Rattle.arena.proofs.Placing.{placeable-length, below-few, place-found, place-appended}
 use Rattle.arena.proofs.adding.place.Statement.{statement}
 use Rattle.arena.proofs.adding.place.Tie as tie
-use Rattle.arena.proofs.adding.place.Reads as reads
-use Rattle.arena.proofs.adding.place.Lts as lts
-use Rattle.arena.proofs.adding.append.Reads as append-reads
-use Rattle.arena.proofs.cells.narrow.Reads as narrow-reads
-use Rattle.arena.proofs.cells.node_count.Reads as node-count-reads
-use Rattle.arena.proofs.checking.row_below.Reads as row-below-reads
 
 node-count-requires : tie.Need-node-count-requires
 node-count-requires c κs = search needs

@@ -1,16 +1,12 @@
-use Prim.Native.Nat.{ℕ, _+_, _-_, _*_, _≤_, _<_}
-use mathlib.Core.Bool.{Bool, true, false}
-use mathlib.Core.List.{List}
-use mathlib.Core.Path.{_≡_, refl, sym, ap, _∙_}
+-- `arena::adding::write_row` meets its contract.
+use Prim.Native.Nat.{_-_, _≤_}
+use mathlib.Core.Path.{_≡_}
 use native.Mathlib.Omega.{arith}
-use lib.ListN.{length, getD}
 use borrow.Author.Needs.{needs}
 use native.Mathlib.Numerals.{add-one}
 use lib.Seq.{paste, paste-zero, paste-suc}
 use Rattle.arena.proofs.adding.write_row.Statement.{statement}
 use Rattle.arena.proofs.adding.write_row.Tie as tie
-use Rattle.arena.proofs.adding.write_row.Reads as reads
-use Rattle.arena.proofs.adding.write_row.Lts as lts
 
 abbrev Inv-loop : tie.InvT-loop
 Inv-loop cells₀ at row j₀ cells j = (j ≤ 11) × (cells ≡ paste cells₀ at row j)

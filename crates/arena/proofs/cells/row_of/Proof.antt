@@ -1,11 +1,9 @@
+-- `arena::cells::row_of` meets its contract.
 use borrow.Author.Needs.{needs}
 use Rattle.laws.specs.Lists.{table}
 use Rattle.arena.specs.Layout.{rowOf}
 use Rattle.arena.proofs.cells.row_of.Statement.{statement}
 use Rattle.arena.proofs.cells.row_of.Tie as tie
-use Rattle.arena.proofs.cells.row_of.Reads as reads
-use Rattle.arena.proofs.cells.row_of.Lts as lts
-use Rattle.arena.proofs.cells.cell_of.Reads as cell-of-reads
 
 cell-of-requires : tie.Need-cell-of-requires
 cell-of-requires c κs = search needs

@@ -1,6 +1,7 @@
-use Prim.Native.Nat.{ℕ, _+_, _-_, _*_, _≤_, _<_}
-use mathlib.Core.Bool.{Bool, true, false}
-use mathlib.Core.Path.{_≡_, refl, sym, ap, _∙_}
+-- `arena::checking::lawful_arena` meets its contract.
+use Prim.Native.Nat.{ℕ}
+use mathlib.Core.Bool.{true, false}
+use mathlib.Core.Path.{_≡_, sym, ap, _∙_}
 use native.Mathlib.Omega.{arith}
 use borrow.Author.Needs.{needs}
 use borrow.Author.Tests.{not-true, not-false, le-leb, lt-leb}
@@ -10,12 +11,6 @@ use Rattle.laws.specs.Tests.{each}
 use Rattle.arena.specs.Layout.{count, lawfulNode, cellsUnused, lawful}
 use Rattle.arena.proofs.checking.lawful_arena.Statement.{statement}
 use Rattle.arena.proofs.checking.lawful_arena.Tie as tie
-use Rattle.arena.proofs.checking.lawful_arena.Reads as reads
-use Rattle.arena.proofs.checking.lawful_arena.Lts as lts
-use Rattle.arena.proofs.cells.node_count.Reads as node-count-reads
-use Rattle.arena.proofs.checking.cells_unused.Reads as cells-unused-reads
-use Rattle.arena.proofs.checking.lawful_nodes.Reads as lawful-nodes-reads
-use Rattle.arena.proofs.checking.sized.Reads as sized-reads
 
 sized-requires : tie.Need-sized-requires
 sized-requires c κs = search needs

@@ -1,10 +1,8 @@
-use borrow.Author.Needs.{needs}
+-- `arena::checking::lawful_kind` meets its contract.
 use borrow.Author.Tests.{eq-eqb, ne-eqb}
 use Rattle.arena.specs.Layout.{lawfulKind}
 use Rattle.arena.proofs.checking.lawful_kind.Statement.{statement}
 use Rattle.arena.proofs.checking.lawful_kind.Tie as tie
-use Rattle.arena.proofs.checking.lawful_kind.Reads as reads
-use Rattle.arena.proofs.checking.lawful_kind.Lts as lts
 
 returns : tie.Need-returns
 unfolding lawfulKind

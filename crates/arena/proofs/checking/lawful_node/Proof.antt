@@ -1,22 +1,14 @@
-use Prim.Native.Nat.{ℕ, _+_, _-_, _*_, _≤_, _<_}
-use mathlib.Core.Bool.{Bool, true, false, and-false}
+-- `arena::checking::lawful_node` meets its contract.
+use mathlib.Core.Bool.{true, false, and-false}
 use mathlib.Core.Option.{none, some}
-use mathlib.Core.Path.{_≡_, refl, sym, ap, _∙_}
+use mathlib.Core.Path.{_≡_, sym, ap, _∙_}
 use borrow.Author.Needs.{needs}
 use borrow.Author.Tests.{not-true, not-false}
 use Rattle.arena.specs.Shift.{isSome}
 use Rattle.arena.specs.Layout.{rowOf, rowBelow, lawfulRow, lawfulNode}
 use Rattle.arena.proofs.Answers.{found-at, found-nothing}
-use mathlib.Core.List.{List}
-use native.Mathlib.Omega.{arith}
-use lib.ListN.{length, getD}
 use Rattle.arena.proofs.checking.lawful_node.Statement.{statement}
 use Rattle.arena.proofs.checking.lawful_node.Tie as tie
-use Rattle.arena.proofs.checking.lawful_node.Reads as reads
-use Rattle.arena.proofs.checking.lawful_node.Lts as lts
-use Rattle.arena.proofs.cells.row_of.Reads as row-of-reads
-use Rattle.arena.proofs.checking.lawful_row.Reads as lawful-row-reads
-use Rattle.arena.proofs.checking.row_below.Reads as row-below-reads
 
 row-of-requires : tie.Need-row-of-requires
 row-of-requires c κs = search needs

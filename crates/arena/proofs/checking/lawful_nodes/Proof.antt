@@ -1,6 +1,7 @@
-use Prim.Native.Nat.{ℕ, _+_, _-_, _*_, _≤_, _<_}
-use mathlib.Core.Bool.{Bool, true, false}
-use mathlib.Core.Path.{_≡_, refl, sym, ap, _∙_}
+-- `arena::checking::lawful_nodes` meets its contract.
+use Prim.Native.Nat.{_-_, _≤_}
+use mathlib.Core.Bool.{true}
+use mathlib.Core.Path.{_≡_, sym, _∙_}
 use borrow.Author.Needs.{needs}
 use borrow.Author.Tests.{not-true, not-false}
 use Rattle.laws.specs.Tests.{each}
@@ -8,9 +9,6 @@ use Rattle.laws.proofs.Each.{each-none, each-more, each-stops, each-ends}
 use Rattle.arena.specs.Layout.{lawfulNode}
 use Rattle.arena.proofs.checking.lawful_nodes.Statement.{statement}
 use Rattle.arena.proofs.checking.lawful_nodes.Tie as tie
-use Rattle.arena.proofs.checking.lawful_nodes.Reads as reads
-use Rattle.arena.proofs.checking.lawful_nodes.Lts as lts
-use Rattle.arena.proofs.checking.lawful_node.Reads as lawful-node-reads
 
 abbrev Inv-loop : tie.InvT-loop
 Inv-loop cells n i₀ i = (i ≤ n) × (each (λ i. lawfulNode cells i) i ≡ true)

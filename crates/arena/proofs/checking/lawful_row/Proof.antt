@@ -1,21 +1,15 @@
-use Prim.Native.Nat.{ℕ, _+_, _-_, _*_, _≤_, _<_}
-use mathlib.Core.Bool.{Bool, true, false}
-use mathlib.Core.List.{List}
-use mathlib.Core.Path.{_≡_, refl, sym, ap, _∙_}
+-- `arena::checking::lawful_row` meets its contract.
+use Prim.Native.Nat.{ℕ}
+use mathlib.Core.Bool.{true, false}
+use mathlib.Core.Path.{_≡_, sym, ap, _∙_}
 use native.Mathlib.Omega.{arith}
-use lib.ListN.{length, getD}
+use lib.ListN.{getD}
 use borrow.Author.Needs.{needs}
 use borrow.Author.Tests.{not-true, not-false}
 use Rattle.arena.specs.Layout.{lawfulKind, childrenBelow, placesUnused, lawfulRow}
 use Rattle.arena.proofs.Rows.{kind-few}
 use Rattle.arena.proofs.checking.lawful_row.Statement.{statement}
 use Rattle.arena.proofs.checking.lawful_row.Tie as tie
-use Rattle.arena.proofs.checking.lawful_row.Reads as reads
-use Rattle.arena.proofs.checking.lawful_row.Lts as lts
-use Rattle.arena.proofs.cells.wide.Reads as wide-reads
-use Rattle.arena.proofs.checking.children_below.Reads as children-below-reads
-use Rattle.arena.proofs.checking.lawful_kind.Reads as lawful-kind-reads
-use Rattle.arena.proofs.checking.places_unused.Reads as places-unused-reads
 
 element-copy-out-n : tie.Need-element-copy-out-n
 element-copy-out-n c = search needs

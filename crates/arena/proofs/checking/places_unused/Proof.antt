@@ -1,19 +1,17 @@
-use Prim.Native.Nat.{ℕ, _+_, _-_, _*_, _≤_, _<_}
-use mathlib.Core.Bool.{Bool, true, false}
+-- `arena::checking::places_unused` meets its contract.
+use Prim.Native.Nat.{ℕ, _+_, _-_, _≤_}
+use mathlib.Core.Bool.{Bool, true}
 use mathlib.Core.List.{List}
-use mathlib.Core.Path.{_≡_, refl, sym, ap, _∙_}
-use native.Mathlib.Omega.{arith}
-use lib.Dec.{eqb, ltb, leb}
-use lib.ListN.{length, getD}
-use borrow.Author.Tests.{eq-eqb, ne-eqb, lt-ltb, le-ltb, eqb-true, eqb-false, not-true, not-false}
+use mathlib.Core.Path.{_≡_}
+use lib.Dec.{eqb}
+use lib.ListN.{getD}
+use borrow.Author.Tests.{eq-eqb, ne-eqb}
 use Rattle.laws.specs.Tests.{each}
 use Rattle.laws.proofs.Each.{each-none, each-more, each-stops, each-ends}
 use borrow.Author.Needs.{needs}
 use Rattle.arena.specs.Layout.{placesUnused}
 use Rattle.arena.proofs.checking.places_unused.Statement.{statement}
 use Rattle.arena.proofs.checking.places_unused.Tie as tie
-use Rattle.arena.proofs.checking.places_unused.Reads as reads
-use Rattle.arena.proofs.checking.places_unused.Lts as lts
 
 -- place k after the first n is 0
 abbrev Unused : List ℕ → ℕ → ℕ → Bool

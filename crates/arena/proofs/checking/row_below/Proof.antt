@@ -1,9 +1,8 @@
-use Prim.Native.Nat.{ℕ, _+_, _-_, _*_, _≤_, _<_}
-use mathlib.Core.Bool.{Bool, true, false}
+-- `arena::checking::row_below` meets its contract.
+use Prim.Native.Nat.{ℕ, _-_, _≤_}
+use mathlib.Core.Bool.{Bool}
 use mathlib.Core.List.{List}
-use mathlib.Core.Path.{_≡_, refl, sym, ap, _∙_}
-use native.Mathlib.Omega.{arith}
-use lib.ListN.{length, getD}
+use mathlib.Core.Path.{_≡_, sym, ap, _∙_}
 use borrow.Author.Needs.{needs}
 use Rattle.laws.specs.Tests.{firstFrom}
 use Rattle.laws.proofs.First.{first-begins, first-hit, first-on, first-ends}
@@ -11,9 +10,6 @@ use Rattle.arena.specs.Layout.{sameRow, rowBelow}
 use Rattle.arena.specs.Inner.{foundAt}
 use Rattle.arena.proofs.checking.row_below.Statement.{statement}
 use Rattle.arena.proofs.checking.row_below.Tie as tie
-use Rattle.arena.proofs.checking.row_below.Reads as reads
-use Rattle.arena.proofs.checking.row_below.Lts as lts
-use Rattle.arena.proofs.checking.same_row.Reads as same-row-reads
 
 -- node i has the row
 abbrev Same : List ℕ → List ℕ → ℕ → Bool

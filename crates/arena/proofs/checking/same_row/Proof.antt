@@ -1,20 +1,17 @@
-use Prim.Native.Nat.{ℕ, _+_, _-_, _*_, _≤_, _<_}
-use mathlib.Core.Bool.{Bool, true, false}
+-- `arena::checking::same_row` meets its contract.
+use Prim.Native.Nat.{ℕ, _-_, _≤_}
+use mathlib.Core.Bool.{Bool, true}
 use mathlib.Core.List.{List}
-use mathlib.Core.Path.{_≡_, refl, sym, ap, _∙_}
-use native.Mathlib.Omega.{arith}
-use lib.Dec.{eqb, ltb, leb}
-use lib.ListN.{length, getD}
-use borrow.Author.Tests.{eq-eqb, ne-eqb, lt-ltb, le-ltb, eqb-true, eqb-false, not-true, not-false}
+use mathlib.Core.Path.{_≡_, sym, _∙_}
+use lib.Dec.{eqb}
+use lib.ListN.{getD}
+use borrow.Author.Tests.{eq-eqb, ne-eqb}
 use Rattle.laws.specs.Tests.{each}
 use Rattle.laws.proofs.Each.{each-none, each-more, each-stops, each-ends}
 use borrow.Author.Needs.{needs}
 use Rattle.arena.specs.Layout.{cellOf, sameRow}
 use Rattle.arena.proofs.checking.same_row.Statement.{statement}
 use Rattle.arena.proofs.checking.same_row.Tie as tie
-use Rattle.arena.proofs.checking.same_row.Reads as reads
-use Rattle.arena.proofs.checking.same_row.Lts as lts
-use Rattle.arena.proofs.cells.cell_of.Reads as cell-of-reads
 
 -- cell j of node i is cell j of the row
 abbrev Cell : List ℕ → ℕ → List ℕ → ℕ → Bool

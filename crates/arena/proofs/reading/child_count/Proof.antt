@@ -1,13 +1,10 @@
-use mathlib.Core.Path.{_≡_, sym, _∙_}
+-- `arena::reading::child_count` meets its contract.
+use mathlib.Core.Path.{sym, _∙_}
 use native.Mathlib.Omega.{arith}
 use borrow.Author.Needs.{needs}
 use Rattle.arena.proofs.NodeCells.{child-count}
 use Rattle.arena.proofs.reading.child_count.Statement.{statement}
 use Rattle.arena.proofs.reading.child_count.Tie as tie
-use Rattle.arena.proofs.reading.child_count.Reads as reads
-use Rattle.arena.proofs.reading.child_count.Lts as lts
-use Rattle.arena.proofs.cells.cell_of.Reads as cell-of-reads
-use Rattle.arena.proofs.cells.wide.Reads as wide-reads
 
 cell-of-requires : tie.Need-cell-of-requires
 cell-of-requires c κs =

@@ -1,12 +1,9 @@
-use mathlib.Core.Path.{_≡_, sym, _∙_}
+-- `arena::reading::child_in` meets its contract.
+use mathlib.Core.Path.{sym, _∙_}
 use native.Mathlib.Omega.{arith}
-use borrow.Author.Needs.{needs}
 use Rattle.arena.proofs.NodeCells.{child-count, children-few, child-at}
 use Rattle.arena.proofs.reading.child_in.Statement.{statement}
 use Rattle.arena.proofs.reading.child_in.Tie as tie
-use Rattle.arena.proofs.reading.child_in.Reads as reads
-use Rattle.arena.proofs.reading.child_in.Lts as lts
-use Rattle.arena.proofs.cells.cell_of.Reads as cell-of-reads
 
 add-cell-of : tie.Need-add-cell-of
 add-cell-of c =

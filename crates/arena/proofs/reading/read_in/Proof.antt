@@ -1,12 +1,10 @@
-use mathlib.Core.Path.{_≡_, sym, _∙_}
+-- `arena::reading::read_in` meets its contract.
+use mathlib.Core.Path.{sym, _∙_}
 use native.Mathlib.Omega.{arith}
 use borrow.Author.Needs.{needs}
 use Rattle.arena.proofs.NodeCells.{read-column, read-literal, read-operation}
 use Rattle.arena.proofs.reading.read_in.Statement.{statement}
 use Rattle.arena.proofs.reading.read_in.Tie as tie
-use Rattle.arena.proofs.reading.read_in.Reads as reads
-use Rattle.arena.proofs.reading.read_in.Lts as lts
-use Rattle.arena.proofs.cells.cell_of.Reads as cell-of-reads
 
 cell-of-requires : tie.Need-cell-of-requires
 cell-of-requires c κs =

@@ -1,3 +1,4 @@
+-- `arena::shifting::can_move` meets its contract.
 use Prim.Native.Nat.{ℕ, _-_, _≤_, _<_}
 use mathlib.Core.Bool.{Bool, false}
 use mathlib.Core.List.{List}
@@ -12,9 +13,6 @@ use Rattle.arena.specs.Inner.{lifted}
 use Rattle.arena.proofs.Moves.{known-lower, table-more}
 use Rattle.arena.proofs.shifting.can_move.Statement.{statement}
 use Rattle.arena.proofs.shifting.can_move.Tie as tie
-use Rattle.arena.proofs.shifting.can_move.Reads as reads
-use Rattle.arena.proofs.shifting.can_move.Lts as lts
-use Rattle.arena.proofs.shifting.node_moves.Reads as node-moves-reads
 
 -- the expression of node j can move
 abbrev Moves : List ℕ → ℕ → ℕ → Bool

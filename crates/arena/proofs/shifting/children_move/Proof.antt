@@ -1,3 +1,4 @@
+-- `arena::shifting::children_move` meets its contract.
 use Prim.Native.Nat.{ℕ, _-_, _≤_}
 use mathlib.Core.Bool.{Bool, true, false}
 use mathlib.Core.List.{List}
@@ -13,11 +14,6 @@ use Rattle.arena.specs.Layout.{decode}
 use Rattle.arena.proofs.Moves.{child-place}
 use Rattle.arena.proofs.shifting.children_move.Statement.{statement}
 use Rattle.arena.proofs.shifting.children_move.Tie as tie
-use Rattle.arena.proofs.shifting.children_move.Reads as reads
-use Rattle.arena.proofs.shifting.children_move.Lts as lts
-use Rattle.arena.proofs.cells.wide.Reads as wide-reads
-use Rattle.arena.proofs.reading.child_count.Reads as child-count-reads
-use Rattle.arena.proofs.reading.child_in.Reads as child-in-reads
 
 -- the children of node e
 abbrev Children : List ℕ → ℕ → List ℕ

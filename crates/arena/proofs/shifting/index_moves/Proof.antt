@@ -1,9 +1,8 @@
+-- `arena::shifting::index_moves` meets its contract.
 use borrow.Author.Needs.{needs}
 use Rattle.arena.proofs.Lifts.{moves-low, moves-end}
 use Rattle.arena.proofs.shifting.index_moves.Statement.{statement}
 use Rattle.arena.proofs.shifting.index_moves.Tie as tie
-use Rattle.arena.proofs.shifting.index_moves.Reads as reads
-use Rattle.arena.proofs.shifting.index_moves.Lts as lts
 
 add-if1 : tie.Need-add-if1
 add-if1 c = search needs

@@ -1,3 +1,4 @@
+-- `arena::shifting::lift_of` meets its contract.
 use Prim.Native.Nat.{ℕ, _≤_, _<_}
 use mathlib.Core.Path.{_≡_, sym, subst}
 use native.Mathlib.Omega.{arith}
@@ -12,8 +13,6 @@ use Rattle.arena.specs.Inner.{lifted}
 use Rattle.arena.proofs.Lifts.{offset-low, offset-high, lift-small, lift-moves, lift-sum, lift-again}
 use Rattle.arena.proofs.shifting.lift_of.Statement.{statement}
 use Rattle.arena.proofs.shifting.lift_of.Tie as tie
-use Rattle.arena.proofs.shifting.lift_of.Reads as reads
-use Rattle.arena.proofs.shifting.lift_of.Lts as lts
 
 returns : tie.Need-returns
 returns c =

@@ -1,3 +1,4 @@
+-- `arena::shifting::node_moves` meets its contract.
 use Prim.Native.Nat.{ℕ, _%_}
 use mathlib.Core.Path.{sym, ap, _∙_}
 use borrow.Author.Needs.{needs}
@@ -6,11 +7,6 @@ use Rattle.arena.specs.Inner.{lifted}
 use Rattle.arena.proofs.Moves.{column-moves, children-move}
 use Rattle.arena.proofs.shifting.node_moves.Statement.{statement}
 use Rattle.arena.proofs.shifting.node_moves.Tie as tie
-use Rattle.arena.proofs.shifting.node_moves.Reads as reads
-use Rattle.arena.proofs.shifting.node_moves.Lts as lts
-use Rattle.arena.proofs.cells.cell_of.Reads as cell-of-reads
-use Rattle.arena.proofs.shifting.children_move.Reads as children-move-reads
-use Rattle.arena.proofs.shifting.index_moves.Reads as index-moves-reads
 
 cell-of-requires : tie.Need-cell-of-requires
 cell-of-requires c κs = search needs

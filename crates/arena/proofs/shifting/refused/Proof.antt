@@ -1,10 +1,9 @@
-use mathlib.Core.Path.{_≡_, sym, ap}
+-- `arena::shifting::refused` meets its contract.
+use mathlib.Core.Path.{sym, ap}
 use borrow.Author.Needs.{needs}
 use Rattle.arena.specs.Inner.{isRefused}
 use Rattle.arena.proofs.shifting.refused.Statement.{statement}
 use Rattle.arena.proofs.shifting.refused.Tie as tie
-use Rattle.arena.proofs.shifting.refused.Reads as reads
-use Rattle.arena.proofs.shifting.refused.Lts as lts
 
 enum-told : tie.Need-enum-told
 enum-told c = search needs

@@ -1,16 +1,13 @@
+-- `arena::shifting::shift_column` meets its contract.
 use native.Mathlib.Omega.{arith}
 use borrow.Author.Needs.{needs}
 use lib.ListN.{getD}
 use mir.Syntax.{w32}
 use mir.Val.{Fits}
 use Rattle.arena.proofs.Walking.{placed-row}
-use Rattle.arena.proofs.Shifts.{Moves, column-moves, column-placeable, column-grew}
+use Rattle.arena.proofs.Shifts.{column-moves, column-placeable, column-grew}
 use Rattle.arena.proofs.shifting.shift_column.Statement.{statement}
 use Rattle.arena.proofs.shifting.shift_column.Tie as tie
-use Rattle.arena.proofs.shifting.shift_column.Reads as reads
-use Rattle.arena.proofs.shifting.shift_column.Lts as lts
-use Rattle.arena.proofs.adding.place.Reads as place-reads
-use Rattle.arena.proofs.cells.row_of.Reads as row-of-reads
 
 row-of-requires : tie.Need-row-of-requires
 row-of-requires c κs = search needs

@@ -1,3 +1,4 @@
+-- `arena::shifting::shift_in` meets its contract.
 use Prim.Native.Nat.{ℕ, _<_}
 use mathlib.Core.Path.{_≡_, sym, subst, _∙_}
 use borrow.Author.Needs.{needs}
@@ -9,13 +10,6 @@ use Rattle.arena.specs.Inner.{lifted}
 use Rattle.arena.proofs.Shifts.{shift-out, shift-ready, shift-done, shift-full}
 use Rattle.arena.proofs.shifting.shift_in.Statement.{statement}
 use Rattle.arena.proofs.shifting.shift_in.Tie as tie
-use Rattle.arena.proofs.shifting.shift_in.Reads as reads
-use Rattle.arena.proofs.shifting.shift_in.Lts as lts
-use Rattle.arena.proofs.cells.wide.Reads as wide-reads
-use Rattle.arena.proofs.shifting.can_move.Reads as can-move-reads
-use Rattle.arena.proofs.shifting.lift_of.Reads as lift-of-reads
-use Rattle.arena.proofs.shifting.refused.Reads as refused-reads
-use Rattle.arena.proofs.shifting.shift.Reads as shift-reads
 
 lift-of-requires : tie.Need-lift-of-requires
 lift-of-requires c κs = search needs
