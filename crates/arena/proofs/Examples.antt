@@ -2,12 +2,12 @@
 use mathlib.Core.List.{List, [], _∷_, _++_}
 use mathlib.Core.Path.{_≡_, refl}
 use lib.IntN.{pos, negsuc}
-use Rattle.laws.specs.Tests.{first, firstFrom}
+use Rattle.laws.specs.Tests.{first, firstFrom, isSome}
 use Rattle.laws.specs.Lists.{table, sameNumbers}
 use Rattle.arena.specs.Node.{Node, column, operation, sameNode, made, madeAfter}
 use Rattle.arena.specs.Expression.{expressions, over, those}
 use Rattle.arena.specs.Arena.{andThen, find, placedAt, add, addExpression, addExpressions}
-use Rattle.arena.specs.Shift.{within, moved, isSome, canMove, allMove, shifted, allShifted}
+use Rattle.arena.specs.Shift.{within, moved, canMove, allMove, shifted, allShifted}
 use Rattle.arena.specs.Layout.{row, rows, encode, decode, rowOf, childrenOf, nodeOf}
 use Rattle.arena.specs.Calls.{answered, shiftedOutcome, addOffset}
 use Rattle.arena.specs.declared.Added.the-variants.{Number, Refused}

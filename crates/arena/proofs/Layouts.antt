@@ -11,14 +11,13 @@ use borrow.Author.Tests.{eqb-true, eq-eqb, leb-true, le-leb}
 use lib.Dec.{eqb, leb}
 use lib.ListN.{length, getD, take, drop, set, replicate, length-append, length-replicate, length-set, List·getD-append}
 use lib.Seq.{ext-getD, getD-at, getD-set-same, getD-set-other, getD-take, getD-drop, length-take-le, paste, length-paste, length-paste-head}
-use Rattle.laws.specs.Tests.{each, first}
+use Rattle.laws.specs.Tests.{each, first, isSome}
 use Rattle.laws.proofs.Booleans.{true-not-false, and-left, and-right, and-both, same-test}
 use Rattle.laws.proofs.Each.{each-all, each-holds}
 use Rattle.laws.proofs.First.{first-none, first-missing, first-cong}
 use Rattle.laws.proofs.Table.{length-table, getD-table, table-is}
 use Rattle.arena.specs.Node.{Node, literal, nodeAt, sameNode}
 use Rattle.arena.specs.Arena.{Allowed, Sound, find}
-use Rattle.arena.specs.Shift.{isSome}
 use Rattle.arena.specs.Layout.{row, rows, encode, count, cellOf, rowOf, nodeOf, decode, sameRow, rowBelow, lawfulRow, lawfulNode, cellsUnused, lawful}
 use Rattle.arena.specs.Inner.{Coded, Holds}
 use Rattle.arena.proofs.Nodes.{same-node, node-same}

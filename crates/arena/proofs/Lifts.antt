@@ -13,7 +13,8 @@ use mir.Facts.{toZ-ofZ}
 use mir.Syntax.{w64}
 use mir.Val.{toZ, ofZ}
 use Rattle.laws.proofs.Booleans.{true-not-false}
-use Rattle.arena.specs.Shift.{within, moved, isSome}
+use Rattle.arena.specs.Shift.{within, moved}
+use Rattle.laws.specs.Tests.{isSome}
 use Rattle.arena.specs.Inner.{lifted}
 
 -- where a lift moves an index, by the sum of the two

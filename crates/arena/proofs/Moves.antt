@@ -8,12 +8,12 @@ use native.Mathlib.Decide.{ℕ-discrete}
 use native.Mathlib.Omega.{arith}
 use lib.ListN.{length, getD, set}
 use lib.Seq.{getD-set-same, getD-set-other}
-use Rattle.laws.specs.Tests.{each}
+use Rattle.laws.specs.Tests.{each, isSome}
 use Rattle.laws.proofs.Each.{each-cong}
 use Rattle.arena.specs.Node.{Node, column, literal, operation, nodeAt, childNumbers}
 use Rattle.arena.specs.Expression.{Expression, lit, those, over, expressions, expressionAt}
 use Rattle.arena.specs.Arena.{Allowed}
-use Rattle.arena.specs.Shift.{isSome, canMove, allMove}
+use Rattle.arena.specs.Shift.{canMove, allMove}
 use Rattle.arena.specs.Layout.{cellOf, rowOf, nodeOf, decode}
 use Rattle.arena.specs.Inner.{Known}
 use Rattle.arena.proofs.Layouts.{length-decode, node-decode, at-row-of}

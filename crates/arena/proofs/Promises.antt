@@ -9,16 +9,16 @@ use borrow.Author.Tests.{ltb-true, ltb-false, lt-ltb, le-ltb, leb-true, le-leb}
 use lib.Dec.{ltb, leb}
 use lib.IntN.{ℤ, pos}
 use lib.ListN.{length, getD}
-use Rattle.laws.specs.Tests.{if_then_else_, each}
+use Rattle.laws.specs.Tests.{if_then_else_, each, isSome}
 use Rattle.laws.proofs.Booleans.{and-both}
 use Rattle.laws.proofs.Each.{each-holds, each-all}
 use Rattle.arena.specs.Node.{Node, column, operation, nodeAt}
 use Rattle.arena.specs.Expression.{Expression, Expressions, col, lit, op, ∅, _▹_, those, over, expressions, expressionAt}
 use Rattle.arena.specs.Value.{Row, Meaning, value}
 use Rattle.arena.specs.Arena.{Allowed, Sound, Extends, Small, Placed, placed, full, find, placedAt, add, addExpression}
-use Rattle.arena.specs.Shift.{within, moved, isSome, canMove, allMove, shifted, allShifted}
+use Rattle.arena.specs.Shift.{within, moved, canMove, allMove, shifted, allShifted}
 use Rattle.arena.specs.Layout.{encode, decode, lawful}
-use Rattle.arena.specs.Calls.{Outcome, answered, addColumn, addLiteral, addOperation, shiftedOutcome, addOffset, inCells, lent}
+use Rattle.arena.specs.Calls.{Outcome, answered, addColumn, addLiteral, addOperation, shiftedOutcome, addOffset, inCells, lent, addedNumber}
 use Rattle.arena.specs.declared.Added.{Added}
 use Rattle.arena.specs.declared.Added.the-variants.{Number, Refused}
 use Rattle.arena.proofs.Nodes.{find-some, find-none, extends-none, extends-longer, extends-node, AddedNode, add-node, add-old}
@@ -32,15 +32,15 @@ use Rattle.arena.proofs.Lending.{on-none, on-arena}
 pub record Kept (ns : List Node) (o : Outcome) : Type 0 where
   pub sound : Sound (o .1)
   pub extends : Extends ns (o .1)
-  pub refused : (k : ℕ) → o .0 ≡ Refused k → o .1 ≡ ns
+  pub refused : (addedNumber (o .0) ≡ 0 → ⊥) → o .1 ≡ ns
 
 -- a call that adds nothing keeps the arena
 kept-none : (a : Added) (ns : List Node) → Sound ns → Kept ns (a, ns)
-kept-none a ns s = record { sound = s; extends = extends-none ns; refused = λ k e. refl }
+kept-none a ns s = record { sound = s; extends = extends-none ns; refused = λ h. refl }
 
 -- a call that answers a number keeps it too, in a sound extension
 kept-number : (i : ℕ) (ns ms : List Node) → Sound ms → Extends ns ms → Kept ns (Number i, ms)
-kept-number i ns ms s x = record { sound = s; extends = x; refused = λ k e. absurd (let z : _≡_ {A = ℕ} 0 1 = cc in omega arith) }
+kept-number i ns ms s x = record { sound = s; extends = x; refused = λ h. absurd (h refl) }
 
 -- adding a node that may have the next number keeps the arena
 node-kept : (n : Node) (ns : List Node) → Sound ns → Allowed (length ns) n → Kept ns (answered ns (add n ns))
@@ -281,16 +281,16 @@ module _ (call : List Node → Outcome) (keeps : (ns : List Node) → Sound ns �
       (holds-lawful (encode (call (decode cells) .1)) (encode-holds (call (decode cells) .1) (k .sound)))
 
   -- a refusal leaves every cell as it was, also where the cells are no arena
-  pub lent-refused : (cells : List ℕ) (k : ℕ) → lent call cells .0 ≡ Refused k → lent call cells .1 ≡ cells
+  pub lent-refused : (cells : List ℕ) → (addedNumber (lent call cells .0) ≡ 0 → ⊥) → lent call cells .1 ≡ cells
   unfolding inCells
-  lent-refused cells k q = go (lawful cells) refl
+  lent-refused cells q = go (lawful cells) refl
     where
       go : (b : Bool) → lawful cells ≡ b → lent call cells .1 ≡ cells
       go true e =
           let h = lawful-holds cells e in
           let o = on-arena {A = Added × List ℕ} (Refused 11, cells) (λ ns. inCells (call ns)) cells e in
           ap (λ (r : Added × List ℕ). r .1) o
-          ∙ ap encode (keeps (decode cells) (h .sound) .refused k (sym (ap (λ (r : Added × List ℕ). r .0) o) ∙ q))
+          ∙ ap encode (keeps (decode cells) (h .sound) .refused (λ z. q (ap (λ (r : Added × List ℕ). addedNumber (r .0)) o ∙ z)))
           ∙ coded-cells cells h
       go false e = ap (λ (r : Added × List ℕ). r .1) (on-none {A = Added × List ℕ} (Refused 11, cells) (λ ns. inCells (call ns)) cells e)
 

@@ -13,7 +13,8 @@ use Rattle.laws.proofs.Booleans.{and-left, and-right, true-not-false}
 use Rattle.arena.specs.Node.{Node, column, literal, operation, nodeAt}
 use Rattle.arena.specs.Expression.{Expression, Expressions, col, lit, op, ∅, _▹_, expressions, expressionAt, those, over}
 use Rattle.arena.specs.Arena.{Sound, Allowed, Small, AllSmall, placed, andThen, add, addExpression}
-use Rattle.arena.specs.Shift.{isSome, moved, canMove, allMove, shifted, allShifted}
+use Rattle.arena.specs.Shift.{moved, canMove, allMove, shifted, allShifted}
+use Rattle.laws.specs.Tests.{isSome}
 use Rattle.arena.specs.Layout.{row, count, cellOf, rowOf, nodeOf, childrenOf, decode}
 use Rattle.arena.specs.Calls.{answered, inCells, shiftedOutcome}
 use Rattle.arena.specs.Inner.{Known, Placeable, lifted, told, isRefused, Grew, Walked, mapAll, toldAll, WalkedAll, shiftedBy, Ready, ReadyAll}

@@ -9,13 +9,13 @@ use borrow.Author.Tests.{ltb-true}
 use lib.Dec.{ltb}
 use lib.IntN.{ℤ, pos, negsuc, _+ℤ_}
 use lib.ListN.{length}
-use Rattle.laws.specs.Tests.{if_then_else_}
+use Rattle.laws.specs.Tests.{if_then_else_, isSome}
 use Rattle.laws.proofs.Booleans.{true-not-false, and-left, and-right}
 use Rattle.arena.specs.Node.{Node}
 use Rattle.arena.specs.Expression.{Expression, Expressions, col, lit, op, ∅, _▹_, size, expressionAt}
 use Rattle.arena.specs.Value.{Row, Meaning, value, values}
 use Rattle.arena.specs.Arena.{Extends, Small, AllSmall}
-use Rattle.arena.specs.Shift.{within, moved, isSome, canMove, allMove, shifted, allShifted}
+use Rattle.arena.specs.Shift.{within, moved, canMove, allMove, shifted, allShifted}
 use Rattle.arena.proofs.Trees.{expression-kept}
 
 -- old numbers keep their values when an arena grows

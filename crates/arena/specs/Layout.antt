@@ -7,10 +7,9 @@ use mathlib.Core.List.{List, [], _∷_, _++_}
 use mathlib.Core.Option.{Option, none}
 use lib.Dec.{eqb, ltb, leb}
 use lib.ListN.{length, getD, replicate}
-use Rattle.laws.specs.Tests.{if_then_else_, each, first}
+use Rattle.laws.specs.Tests.{if_then_else_, each, first, isSome}
 use Rattle.laws.specs.Lists.{table}
 use Rattle.arena.specs.Node.{Node, column, literal, operation}
-use Rattle.arena.specs.Shift.{isSome}
 
 -- the 11 cells of a node
 unfoldable pub row : Node → List ℕ

@@ -4,7 +4,7 @@ use mathlib.Core.Bool.{Bool, true, false, _&&_}
 use mathlib.Core.Option.{Option, none, some, Option·getD}
 use lib.Dec.{ltb}
 use lib.IntN.{ℤ, pos, negsuc, _+ℤ_}
-use Rattle.laws.specs.Tests.{if_then_else_}
+use Rattle.laws.specs.Tests.{if_then_else_, isSome}
 use Rattle.arena.specs.Expression.{Expression, Expressions, col, lit, op, ∅, _▹_}
 
 -- a whole number as a column's index, if it lies in 0..65,535
@@ -15,10 +15,6 @@ within (negsuc n) = none
 -- where an offset moves an index
 unfoldable pub moved : ℤ → ℕ → Option ℕ
 moved offset index = within (pos index +ℤ offset)
-
-unfoldable pub isSome : Option ℕ → Bool
-isSome none = false
-isSome (some n) = true
 
 unfoldable mutual
   -- every column of an expression can move

@@ -8,11 +8,11 @@
 //
 // The functions of this file are the public calls and ask nothing of their caller. Those of the modules
 // serve the crates above, which hold an arena that is checked already, and say in `requires` what they ask.
-mod adding;
-mod cells;
-mod checking;
-mod reading;
-mod shifting;
+pub mod adding;
+pub mod cells;
+pub mod checking;
+pub mod reading;
+pub mod shifting;
 
 use adding::all_below;
 use adding::column_row;

@@ -22,3 +22,8 @@ firstFrom p (suc k) i = if p i then some i else firstFrom p k (i + 1)
 -- the first number below n for which p holds
 unfoldable pub first : (ℕ → Bool) → ℕ → Option ℕ
 first p n = firstFrom p n 0
+
+-- there is one
+unfoldable pub isSome : Option ℕ → Bool
+isSome none = false
+isSome (some n) = true

@@ -4,7 +4,7 @@ use mathlib.Core.Option.{none, some}
 use mathlib.Core.Path.{_≡_, sym, ap, _∙_}
 use borrow.Author.Needs.{needs}
 use borrow.Author.Tests.{not-true, not-false}
-use Rattle.arena.specs.Shift.{isSome}
+use Rattle.laws.specs.Tests.{isSome}
 use Rattle.arena.specs.Layout.{rowOf, rowBelow, lawfulRow, lawfulNode}
 use Rattle.arena.proofs.Answers.{found-at, found-nothing}
 use Rattle.arena.proofs.checking.lawful_node.Statement.{statement}

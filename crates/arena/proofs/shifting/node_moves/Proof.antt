@@ -2,7 +2,7 @@
 use Prim.Native.Nat.{ℕ, _%_}
 use mathlib.Core.Path.{sym, ap, _∙_}
 use borrow.Author.Needs.{needs}
-use Rattle.arena.specs.Shift.{isSome}
+use Rattle.laws.specs.Tests.{isSome}
 use Rattle.arena.specs.Inner.{lifted}
 use Rattle.arena.proofs.Moves.{column-moves, children-move}
 use Rattle.arena.proofs.shifting.node_moves.Statement.{statement}
