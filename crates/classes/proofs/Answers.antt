@@ -1,0 +1,82 @@
+-- Facts about "in one class" that hold of every list of classes, and the three ways an equal condition can come out.
+use Prim.Native.Nat.{ℕ}
+use mathlib.Core.Bool.{Bool, true, false, _&&_}
+use mathlib.Core.List.{List, []}
+use mathlib.Core.Logic.{_⊎_, inl, inr}
+use mathlib.Core.Option.{Option, none, some}
+use mathlib.Core.Path.{_≡_, refl, sym}
+use native.Mathlib.Omega.{arith}
+use borrow.Author.Tests.{eqb-true, eq-eqb}
+use lib.Dec.{eqb, ltb}
+use lib.ListN.{length}
+use Rattle.laws.specs.Tests.{if_then_else_, first, firstFrom}
+use Rattle.arena.specs.Node.{Node}
+use Rattle.classes.specs.Class.{Class}
+use Rattle.classes.specs.Group.{classOf, equalCondition}
+use Rattle.classes.specs.Questions.{sameClass}
+use Rattle.classes.specs.Steps.{Outcome, refused, fits, judged, addEqual}
+use Rattle.classes.proofs.Step.{With}
+
+-- two expressions have one place
+pub record OnePlace (cs : List Class) (x y : ℕ) : Type 0 where
+  pub place : ℕ
+  pub left : classOf cs x ≡ some place
+  pub right : classOf cs y ≡ some place
+
+-- in one class is to have one place, and the other way round
+pub same-place : (cs : List Class) (x y : ℕ) → sameClass cs x y ≡ true → OnePlace cs x y
+unfolding sameClass
+same-place cs x y h = go (classOf cs x) (classOf cs y) refl refl
+  where
+    go : (o p : Option ℕ) → classOf cs x ≡ o → classOf cs y ≡ p → OnePlace cs x y
+    go none none e f = absurd (let z : _≡_ {A = ℕ} 0 1 = cc (rw (e, f) at h) in omega arith)
+    go none (some j) e f = absurd (let z : _≡_ {A = ℕ} 0 1 = cc (rw (e, f) at h) in omega arith)
+    go (some i) none e f = absurd (let z : _≡_ {A = ℕ} 0 1 = cc (rw (e, f) at h) in omega arith)
+    go (some i) (some j) e f = let q : i ≡ j = eqb-true i j (rw (e, f) at h) in record { place = i; left = e; right = rw q f }
+
+pub place-same : (cs : List Class) (x y : ℕ) → OnePlace cs x y → sameClass cs x y ≡ true
+unfolding sameClass
+place-same cs x y p = rw (p .left, p .right) (eq-eqb (p .place) (p .place) refl)
+
+pub same-sym : (cs : List Class) (x y : ℕ) → sameClass cs x y ≡ true → sameClass cs y x ≡ true
+same-sym cs x y h = let p = same-place cs x y h in place-same cs y x (record { place = p .place; left = p .right; right = p .left })
+
+pub same-trans : (cs : List Class) (x y z : ℕ) → sameClass cs x y ≡ true → sameClass cs y z ≡ true → sameClass cs x z ≡ true
+same-trans cs x y z h k =
+    let p = same-place cs x y h in
+    let q = same-place cs y z k in
+    let e : p .place ≡ q .place = cc in
+    place-same cs x z (record { place = p .place; left = p .left; right = cc })
+
+-- no class holds anything
+pub same-none : (x y : ℕ) → sameClass [] x y ≡ false
+unfolding sameClass classOf first firstFrom
+same-none x y = refl
+
+-- the same expression or one of its class: an equivalence
+pub with-sym : (cs : List Class) (x y : ℕ) → With cs x y → With cs y x
+with-sym cs x y (inl e) = inl (sym e)
+with-sym cs x y (inr h) = inr (same-sym cs x y h)
+
+pub with-trans : (cs : List Class) (x y z : ℕ) → With cs x y → With cs y z → With cs x z
+with-trans cs x y z (inl e) w = rw e w
+with-trans cs x y z (inr h) (inl f) = inr (rw f at h)
+with-trans cs x y z (inr h) (inr k) = inr (same-trans cs x y z h k)
+
+-- what an equal condition comes to: the classes of the step and the number 0, or the old classes and another number
+pub addEqual-cases : (limit : ℕ) (ns : List Node) (a b : ℕ) (cs : List Class)
+    → ((addEqual limit ns a b cs .number ≡ 0) × (addEqual limit ns a b cs .classes ≡ equalCondition ns cs a b .1))
+    ⊎ ((eqb (addEqual limit ns a b cs .number) 0 ≡ false) × (addEqual limit ns a b cs .classes ≡ cs))
+unfolding addEqual judged refused
+addEqual-cases limit ns a b cs = go (ltb a (length ns) && ltb b (length ns)) (fits limit (equalCondition ns cs a b .1))
+  where
+    e : Bool × List Class
+    e = equalCondition ns cs a b
+
+    out : Bool → Bool → Outcome
+    out p q = if p then (if q then record { number = 0; answer = e .0; classes = e .1 } else refused 4 cs) else refused 1 cs
+
+    go : (p q : Bool) → ((out p q .number ≡ 0) × (out p q .classes ≡ e .1)) ⊎ ((eqb (out p q .number) 0 ≡ false) × (out p q .classes ≡ cs))
+    go true true = inl (refl, refl)
+    go true false = inr (refl, refl)
+    go false q = inr (refl, refl)

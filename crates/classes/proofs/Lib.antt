@@ -1,0 +1,26 @@
+-- Laws of the definitions in specs/.
+pub mod Examples
+pub mod Step
+pub mod Answers
+pub mod Chains
+pub mod Asking
+pub mod Places
+pub mod Conditions
+pub mod Limits
+pub mod GoodKept
+pub mod Demands
+pub mod Codec
+pub mod Marks
+pub mod Members
+pub mod Rebuilding
+pub mod Turns
+pub mod Checks
+pub mod GroupLayout
+pub mod HeldLaws
+pub mod ClassPlaces
+pub mod Pairs
+pub mod Equality
+pub mod Constancy
+pub mod Judging
+pub mod ClearLaws
+pub mod Calling

@@ -1,0 +1,56 @@
+-- What each public call answers and the group that it hands back, over the lent cells and the struct, in document 01's order of refusals.
+use Prim.Native.Nat.{ℕ}
+use mathlib.Core.Bool.{true, false, _&&_}
+use mathlib.Core.List.{List, []}
+use lib.Dec.{eqb, ltb, leb}
+use lib.ListN.{length}
+use Rattle.laws.specs.Tests.{if_then_else_}
+use Rattle.arena.specs.Node.{Node}
+use Rattle.arena.specs.Layout.{lawful, decode as nodes}
+use Rattle.classes.specs.Class.{Class}
+use Rattle.classes.specs.Questions.{exprsEqual, exprConstant}
+use Rattle.classes.specs.Steps.{Outcome}
+use Rattle.classes.specs.Layout.{encode, decode, markOf, inSet, lawfulGroup, membersInside}
+use Rattle.classes.specs.declared.Group.{Group}
+use Rattle.classes.specs.declared.Changed.{Changed}
+use Rattle.classes.specs.declared.Answer.{Answer}
+use Rattle.classes.specs.declared.Answer.the-variants.{Yes, No, Refused as Answer-Refused}
+use Rattle.classes.specs.declared.ConstantIs.{ConstantIs}
+use Rattle.classes.specs.declared.ConstantIs.the-variants.{Is, Refused as Constant-Refused}
+
+-- the check of a lent group over a lent arena: 12, then 11 for the arena or the group, then 1, else 0
+unfoldable pub groupNumber : List ℕ → Group → ℕ
+groupNumber cells g =
+    if inSet g then
+    (if lawful cells && lawfulGroup (nodes cells) g then
+    (if membersInside (nodes cells) g then 0 else 1)
+    else 11)
+    else 12
+
+-- a group with its limit, or the refusal of a limit that is not from 1 to 256
+unfoldable pub opened : ℕ → Changed
+opened limit =
+    if ltb 0 limit && leb limit 256 then record { number = 0; answer = true; group = encode limit [] }
+    else record { number = 12; answer = false; group = encode 0 [] }
+
+-- an outcome as the struct that is handed back
+unfoldable pub changed : ℕ → Outcome → Changed
+changed limit o = record { number = o .number; answer = o .answer; group = encode limit (o .classes) }
+
+-- a call that changes a lent group: its refusal and the group as it was, or its outcome
+unfoldable pub onGroup : (List Node → List Class → Outcome) → List ℕ → Group → Changed
+onGroup call cells g =
+    if eqb (groupNumber cells g) 0 then changed (g .limit) (call (nodes cells) (decode g))
+    else record { number = groupNumber cells g; answer = false; group = g }
+
+-- a call that only asks: its refusal, or its answer on the arena's nodes and the classes
+unfoldable pub askGroup : {A : Type 0} → (ℕ → A) → (List Node → List Class → A) → List ℕ → Group → A
+askGroup refusedBy call cells g = if eqb (groupNumber cells g) 0 then call (nodes cells) (decode g) else refusedBy (groupNumber cells g)
+
+-- the equality question of two expressions: 1 where one is unknown
+unfoldable pub equalAnswer : ℕ → ℕ → List Node → List Class → Answer
+equalAnswer a b ns cs = if ltb a (length ns) && ltb b (length ns) then (if exprsEqual ns cs a b then Yes else No) else Answer-Refused 1
+
+-- the constant question of an expression
+unfoldable pub constantAnswer : ℕ → List Node → List Class → ConstantIs
+constantAnswer e ns cs = if ltb e (length ns) then Is (markOf (exprConstant ns cs e)) else Constant-Refused 1

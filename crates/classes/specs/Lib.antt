@@ -1,0 +1,10 @@
+-- What a group of equality classes is and what each call does to it, in document 01's words ("Classes").
+-- To be read in this order: Class, Group, Questions, Good, Steps. Layout says how a group lies in its struct, and nothing before it speaks of that.
+pub mod Class
+pub mod Group
+pub mod Questions
+pub mod Good
+pub mod Steps
+pub mod Layout
+pub mod Calls
+pub mod Inner

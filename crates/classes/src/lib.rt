@@ -1,0 +1,144 @@
+// Groups of equality classes (document 01, "Classes"): which expressions must be equal, and which are constant.
+//
+// A class is its members in order of arrival and a constant: none, heterogeneous (one value a partition), uniform
+// unknown, or uniform with a value. A group goes in by value and comes back by value, at most 64 classes and as
+// many members as its limit says, 256 at the most.
+//
+// The functions of this file are the public calls and ask nothing of their caller: each checks the lent arena and
+// the group for itself, in the order 12, 11, 1, 4, and a refusal gives its number and hands the group back as it
+// was. Those of the modules serve the crates above, which hold a group that is checked already.
+pub mod building;
+pub mod checking;
+pub mod clearing;
+pub mod finding;
+pub mod questions;
+
+use arena::cells::node_count;
+use arena::cells::wide;
+use building::empty;
+use building::refusal;
+use checking::check_group;
+use clearing::clear_in;
+use questions::constant_in;
+use questions::equal_in;
+ghost use mathlib.Core.Path.{_≡_};
+ghost use Rattle.classes.specs.Steps.{clear};
+ghost use Rattle.classes.specs.Calls.{groupNumber, opened, onGroup, askGroup, equalAnswer, constantAnswer};
+
+// A group: its member limit, the number of its classes and of all members, and the tables. The members of all
+// classes stand in class order in one table; unused places are 0.
+pub struct Group {
+    pub limit: usize,
+    pub count: usize,
+    pub used: usize,
+    pub sizes: [usize; 64],
+    pub flavours: [u32; 64],
+    pub values: [u32; 64],
+    pub members: [u32; 256],
+}
+
+// A constant: flavour 0 none, 1 heterogeneous, 2 uniform unknown, 3 uniform with a value; the value is 0 but
+// for flavour 3.
+pub struct Mark {
+    pub flavour: u32,
+    pub value: u32,
+}
+
+// What a call that changes a group answers: the refusal's number or 0, the answer, and the group afterwards.
+pub struct Changed {
+    pub number: u32,
+    pub answer: bool,
+    pub group: Group,
+}
+
+// What a search for a class answers.
+pub enum Place {
+    At(usize),
+    Nowhere,
+}
+
+// What the equality question answers.
+pub enum Answer {
+    Yes,
+    No,
+    Refused(u32),
+}
+
+// What the constant question answers.
+pub enum ConstantIs {
+    Is(Mark),
+    Refused(u32),
+}
+
+// Opens an empty group with a member limit of 1 to 256. Refusal: 12, with a group of limit 0, which is none.
+pub fn open_group(limit: usize) -> Changed
+    ensures { λ r. ⌜ r ≡ opened limit ⌝ }
+{
+    if limit == 0 {
+        return refusal(12, empty(0));
+    }
+    if 256 < limit {
+        return refusal(12, empty(0));
+    }
+    Changed {
+        number: 0,
+        answer: true,
+        group: empty(limit),
+    }
+}
+
+// The check of a lent group: 0, or 12, 11 or 1, whichever is first.
+pub fn check(cells: &[u32; 11265], group: Group) -> u32
+    ensures { λ r. ⌜ r ≡ groupNumber (now (cells .entry)) group ⌝ }
+{
+    check_group(cells, group)
+}
+
+// Drops the constants that may differ from partition to partition. The answer says whether anything changed.
+// Refusals: 12, 11, 1.
+pub fn clear_per_partition_constants(cells: &[u32; 11265], group: Group) -> Changed
+    ensures { λ r. ⌜ r ≡ onGroup (λ ns cs. clear cs) (now (cells .entry)) group ⌝ }
+{
+    let number = check_group(cells, group);
+    if number != 0 {
+        return refusal(number, group);
+    }
+    clear_in(group)
+}
+
+// The equality question. Refusals: 12, 11, 1.
+pub fn exprs_equal(cells: &[u32; 11265], group: Group, left: u32, right: u32) -> Answer
+    ensures { λ r. ⌜ r ≡ askGroup (λ k. Answer.Refused k) (equalAnswer left right) (now (cells .entry)) group ⌝ }
+{
+    let number = check_group(cells, group);
+    if number != 0 {
+        return Answer::Refused(number);
+    }
+    let n = node_count(cells);
+    if n <= wide(left) {
+        return Answer::Refused(1);
+    }
+    if n <= wide(right) {
+        return Answer::Refused(1);
+    }
+    if equal_in(cells, group, left, right) {
+        Answer::Yes
+    } else {
+        Answer::No
+    }
+}
+
+// The constant question. Refusals: 12, 11, 1.
+pub fn is_expr_constant(cells: &[u32; 11265], group: Group, expr: u32) -> ConstantIs
+    ensures { λ r. ⌜ r ≡ askGroup (λ k. ConstantIs.Refused k) (constantAnswer expr) (now (cells .entry)) group ⌝ }
+{
+    let number = check_group(cells, group);
+    if number != 0 {
+        return ConstantIs::Refused(number);
+    }
+    let n = node_count(cells);
+    if n <= wide(expr) {
+        return ConstantIs::Refused(1);
+    }
+    ConstantIs::Is(constant_in(cells, group, expr))
+}
