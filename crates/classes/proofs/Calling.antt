@@ -1,20 +1,26 @@
 -- A public call on a lent group, by the check's number.
-use Prim.Native.Nat.{ℕ, _<_, _≤_}
-use mathlib.Core.Bool.{true, false, and-false}
+use Rattle.classes.specs.declared.ClassIs.the-variants.{At as Class-At, Nowhere as NoClass, Refused as Class-Refused}
+use mathlib.Core.Option.{none, some}
+use Rattle.laws.proofs.Booleans.{and-left, and-right}
+use lib.Dec.{leb, eqb, ltb}
+use Rattle.classes.specs.Inner.{Coded}
+use Rattle.classes.specs.Group.{equalCondition, withConstant, classAt, classOf}
+use Prim.Native.Nat.{ℕ, _<_, _≤_, _+_}
+use mathlib.Core.Bool.{Bool, true, false, and-false, _||_, _&&_}
 use mathlib.Core.List.{List, []}
-use mathlib.Core.Path.{_≡_, _∙_}
+use mathlib.Core.Path.{_≡_, _∙_, refl}
 use native.Mathlib.Omega.{arith}
-use borrow.Author.Tests.{eq-eqb, ne-eqb, lt-ltb, le-ltb, le-leb, lt-leb}
-use lib.ListN.{length}
+use borrow.Author.Tests.{eq-eqb, ne-eqb, lt-ltb, le-ltb, le-leb, lt-leb, leb-true, eqb-true, eqb-false}
+use lib.ListN.{length, getD}
 use Rattle.arena.specs.Node.{Node}
 use Rattle.arena.specs.Layout.{count, decode as nodes}
 use Rattle.arena.specs.Inner.{Known}
 use Rattle.arena.proofs.Layouts.{lawful-holds}
-use Rattle.classes.specs.Class.{Class}
+use Rattle.classes.specs.Class.{Class, Constant}
 use Rattle.classes.specs.Questions.{exprsEqual, exprConstant}
-use Rattle.classes.specs.Steps.{Outcome}
-use Rattle.classes.specs.Layout.{encode, decode, markOf}
-use Rattle.classes.specs.Calls.{groupNumber, opened, changed, onGroup, askGroup, equalAnswer, constantAnswer}
+use Rattle.classes.specs.Steps.{Outcome, refused, judged, addEqual, addConstant}
+use Rattle.classes.specs.Layout.{encode, decode, markOf, constantFrom, knownFlavour}
+use Rattle.classes.specs.Calls.{groupNumber, opened, changed, onGroup, askGroup, equalAnswer, constantAnswer, sayable, onConstant, classAnswer, classIs}
 use Rattle.classes.specs.declared.Group.{Group}
 use Rattle.classes.specs.declared.Changed.{Changed}
 use Rattle.classes.specs.declared.Answer.the-variants.{Yes, No, Refused}
@@ -90,3 +96,78 @@ opened-in limit z l = let h : 0 < limit = omega arith in rw (lt-ltb 0 limit h, l
 -- a refusal, by its fields
 pub refusal-is : (r : Changed) (k : ℕ) (g : Group) → (r .number ≡ k) × ((r .answer ≡ false) × (r .group ≡ g)) → r ≡ handedBack k g
 refusal-is r k g p = λ i. record { number = p .0 i; answer = p .1 .0 i; group = p .1 .1 i }
+
+-- an equal condition, by its tests
+module _ (limit : ℕ) (ns : List Node) (cs : List Class) (a b : ℕ) where
+  pub add-left : length ns ≤ a → addEqual limit ns a b cs ≡ refused 1 cs
+  unfolding addEqual
+  add-left l = rw (le-ltb _ _ l)
+
+  pub add-right : length ns ≤ b → addEqual limit ns a b cs ≡ refused 1 cs
+  unfolding addEqual
+  add-right l = rw (le-ltb _ _ l, and-false)
+
+  pub add-both : a < length ns → b < length ns → addEqual limit ns a b cs ≡ judged limit cs (equalCondition ns cs a b)
+  unfolding addEqual
+  add-both l m = rw (lt-ltb _ _ l, lt-ltb _ _ m)
+
+-- a constant, by its test
+module _ (limit : ℕ) (ns : List Node) (cs : List Class) (e : ℕ) (said : Constant) where
+  pub say-unknown : length ns ≤ e → addConstant true limit ns e said cs ≡ refused 1 cs
+  unfolding addConstant
+  say-unknown l = rw (le-ltb _ _ l)
+
+  pub say-known : e < length ns → addConstant true limit ns e said cs ≡ judged limit cs (false, withConstant true ns cs e said)
+  unfolding addConstant
+  say-known l = rw (lt-ltb _ _ l)
+
+-- a refusal of a coded group hands it back
+pub handed-back : (g : Group) (k : ℕ) → Coded g → changed (g .limit) (refused k (decode g)) ≡ handedBack k g
+unfolding changed refused
+handed-back g k c = rw (c .coded)
+
+-- a flavour that can be said is small
+pub said-small : (flavour value : ℕ) → sayable flavour value ≡ true → flavour ≤ 2
+unfolding sayable
+said-small flavour value s = leb-true flavour 2 (and-left (leb flavour 2) (eqb flavour 2 || eqb value 0) s)
+
+-- a constant that can be said is one of the flavours of a group
+pub said-flavour : (flavour value : ℕ) → sayable flavour value ≡ true → knownFlavour (flavour + 1) value ≡ true
+unfolding sayable knownFlavour
+said-flavour flavour value s = go (eqb flavour 2) refl
+  where
+    small : flavour ≤ 2
+    small = said-small flavour value s
+
+    rest : (eqb flavour 2 || eqb value 0) ≡ true
+    rest = and-right (leb flavour 2) (eqb flavour 2 || eqb value 0) s
+
+    go : (b : Bool) → eqb flavour 2 ≡ b → (leb (flavour + 1) 3 && (eqb (flavour + 1) 3 || eqb value 0)) ≡ true
+    go true e = let q : flavour + 1 ≡ 3 = omega (arith, eqb-true flavour 2 e) in rw (le-leb (flavour + 1) 3 (omega (arith, small)), eq-eqb (flavour + 1) 3 q)
+    go false e =
+        let q : flavour + 1 ≡ 3 → ⊥ = λ z. eqb-false flavour 2 e (omega arith) in
+        rw (le-leb (flavour + 1) 3 (omega (arith, small)), ne-eqb (flavour + 1) 3 q) (rw e at rest)
+
+-- a call with a constant, by whether it can be said
+module _ (cells : List ℕ) (g : Group) (e flavour value : ℕ) where
+  pub constant-said : sayable flavour value ≡ true → onConstant e flavour value cells g ≡ onGroup (λ ns cs. addConstant true (g .limit) ns e (constantFrom (flavour + 1) value) cs) cells g
+  unfolding onConstant
+  constant-said s = rw s
+
+  pub constant-unsaid : sayable flavour value ≡ false → onConstant e flavour value cells g ≡ handedBack 12 g
+  unfolding onConstant
+  constant-unsaid s = rw s
+
+-- the class of an expression, by its tests
+module _ (ns : List Node) (cs : List Class) (e : ℕ) where
+  pub class-unknown : length ns ≤ e → classAnswer e ns cs ≡ Class-Refused 1
+  unfolding classAnswer
+  class-unknown l = rw (le-ltb _ _ l)
+
+  pub class-nowhere : e < length ns → classOf cs e ≡ none → classAnswer e ns cs ≡ NoClass
+  unfolding classAnswer classIs
+  class-nowhere l o = rw (lt-ltb _ _ l, o)
+
+  pub class-at : e < length ns → (i : ℕ) → classOf cs e ≡ some i → classAnswer e ns cs ≡ Class-At i (length (classAt cs i .members)) (getD (classAt cs i .members) 0 0) (markOf (classAt cs i .constant))
+  unfolding classAnswer classIs
+  class-at l i o = rw (lt-ltb _ _ l, o)

@@ -23,4 +23,6 @@ pub mod Equality
 pub mod Constancy
 pub mod Judging
 pub mod ClearLaws
+pub mod ConstantLaws
+pub mod EquatingLaws
 pub mod Calling

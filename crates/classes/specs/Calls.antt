@@ -1,16 +1,20 @@
 -- What each public call answers and the group that it hands back, over the lent cells and the struct, in document 01's order of refusals.
-use Prim.Native.Nat.{ℕ}
-use mathlib.Core.Bool.{true, false, _&&_}
+use Rattle.classes.specs.declared.ClassIs.the-variants.{At as Class-At, Nowhere as NoClass, Refused as Class-Refused}
+use Rattle.classes.specs.declared.ClassIs.{ClassIs}
+use Rattle.classes.specs.Group.{classAt, classOf}
+use mathlib.Core.Option.{Option, none, some}
+use Prim.Native.Nat.{ℕ, _+_}
+use mathlib.Core.Bool.{Bool, true, false, _&&_, _||_}
 use mathlib.Core.List.{List, []}
 use lib.Dec.{eqb, ltb, leb}
-use lib.ListN.{length}
+use lib.ListN.{length, getD}
 use Rattle.laws.specs.Tests.{if_then_else_}
 use Rattle.arena.specs.Node.{Node}
 use Rattle.arena.specs.Layout.{lawful, decode as nodes}
 use Rattle.classes.specs.Class.{Class}
 use Rattle.classes.specs.Questions.{exprsEqual, exprConstant}
-use Rattle.classes.specs.Steps.{Outcome}
-use Rattle.classes.specs.Layout.{encode, decode, markOf, inSet, lawfulGroup, membersInside}
+use Rattle.classes.specs.Steps.{Outcome, addConstant}
+use Rattle.classes.specs.Layout.{encode, decode, markOf, inSet, lawfulGroup, membersInside, constantFrom}
 use Rattle.classes.specs.declared.Group.{Group}
 use Rattle.classes.specs.declared.Changed.{Changed}
 use Rattle.classes.specs.declared.Answer.{Answer}
@@ -54,3 +58,22 @@ equalAnswer a b ns cs = if ltb a (length ns) && ltb b (length ns) then (if exprs
 -- the constant question of an expression
 unfoldable pub constantAnswer : ℕ → List Node → List Class → ConstantIs
 constantAnswer e ns cs = if ltb e (length ns) then Is (markOf (exprConstant ns cs e)) else Constant-Refused 1
+
+-- the class at a place: how many members it has, the first of them, and its constant; or that there is none
+unfoldable pub classIs : List Class → Option ℕ → ClassIs
+classIs cs none = NoClass
+classIs cs (some i) = Class-At i (length (classAt cs i .members)) (getD (classAt cs i .members) 0 0) (markOf (classAt cs i .constant))
+
+-- the class of an expression
+unfoldable pub classAnswer : ℕ → List Node → List Class → ClassIs
+classAnswer e ns cs = if ltb e (length ns) then classIs cs (classOf cs e) else Class-Refused 1
+
+-- a constant that a call says: flavour 0 heterogeneous, 1 unknown, 2 known; a value other than 0 only where it is known
+unfoldable pub sayable : ℕ → ℕ → Bool
+sayable flavour value = leb flavour 2 && (eqb flavour 2 || eqb value 0)
+
+-- a call with a constant: 12 for one that is outside its set comes first
+unfoldable pub onConstant : ℕ → ℕ → ℕ → List ℕ → Group → Changed
+onConstant e flavour value cells g =
+    if sayable flavour value then onGroup (λ ns cs. addConstant true (g .limit) ns e (constantFrom (flavour + 1) value) cs) cells g
+    else record { number = 12; answer = false; group = g }

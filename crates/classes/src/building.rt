@@ -1,9 +1,7 @@
 // Groups, built class by class. Few functions here touch the tables: one puts a class at the end, one merges a
 // class into the last, one sets a constant. The others rebuild a group from those.
-use crate::Changed;
 use crate::Group;
 use crate::Mark;
-ghost use mathlib.Core.Bool.{false};
 ghost use mathlib.Core.Path.{_≡_};
 ghost use mathlib.Core.List.{[], _∷_, _++_};
 ghost use Prim.Native.Nat.{_≤_, _<_, _+_, _-_};
@@ -218,13 +216,20 @@ pub fn merge_class_at_idx(g: Group, i: usize, src: Group, j: usize) -> Group
     out
 }
 
-// A refusal: its number, and the group as it was.
-pub fn refusal(number: u32, group: Group) -> Changed
-    ensures { λ r. ⌜ (r .number ≡ number) × ((r .answer ≡ false) × (r .group ≡ group)) ⌝ }
+// The first member of class i.
+pub fn first_member(g: Group, i: usize) -> u32
+    requires { ⌜ Coded g × ((i < g .count) × (0 < getD (g .sizes) i 0)) ⌝ }
+    ensures { λ r. ⌜ r ≡ getD (classAt (decode g) i .members) 0 0 ⌝ }
 {
-    Changed {
-        number: number,
-        answer: false,
-        group: group,
-    }
+    let sizes = g.sizes;
+    let at = class_start(sizes, i);
+    g.members[at]
+}
+
+// How many members class i has.
+pub fn class_size(g: Group, i: usize) -> usize
+    requires { ⌜ Coded g × (i < g .count) ⌝ }
+    ensures { λ r. ⌜ r ≡ length (classAt (decode g) i .members) ⌝ }
+{
+    g.sizes[i]
 }

@@ -10,20 +10,28 @@
 pub mod building;
 pub mod checking;
 pub mod clearing;
+pub mod constants;
+pub mod equating;
 pub mod finding;
 pub mod questions;
 
 use arena::cells::node_count;
 use arena::cells::wide;
+use building::class_size;
 use building::empty;
-use building::refusal;
+use building::first_member;
+use building::mark_of;
 use checking::check_group;
 use clearing::clear_in;
+use constants::add_constant_in;
+use equating::equal_condition_in;
+use equating::refusal;
+use finding::find_class;
 use questions::constant_in;
 use questions::equal_in;
 ghost use mathlib.Core.Path.{_≡_};
-ghost use Rattle.classes.specs.Steps.{clear};
-ghost use Rattle.classes.specs.Calls.{groupNumber, opened, onGroup, askGroup, equalAnswer, constantAnswer};
+ghost use Rattle.classes.specs.Steps.{addEqual, clear};
+ghost use Rattle.classes.specs.Calls.{groupNumber, opened, onGroup, sayable, onConstant, askGroup, equalAnswer, constantAnswer, classAnswer};
 
 // A group: its member limit, the number of its classes and of all members, and the tables. The members of all
 // classes stand in class order in one table; unused places are 0.
@@ -70,6 +78,14 @@ pub enum ConstantIs {
     Refused(u32),
 }
 
+// What the question for an expression's class answers: its place, how many members it has, the first of them,
+// and its constant; or that there is none.
+pub enum ClassIs {
+    At(usize, usize, u32, Mark),
+    Nowhere,
+    Refused(u32),
+}
+
 // Opens an empty group with a member limit of 1 to 256. Refusal: 12, with a group of limit 0, which is none.
 pub fn open_group(limit: usize) -> Changed
     ensures { λ r. ⌜ r ≡ opened limit ⌝ }
@@ -94,6 +110,66 @@ pub fn check(cells: &[u32; 11265], group: Group) -> u32
     check_group(cells, group)
 }
 
+// Two expressions are equal. The answer says whether a new class was made. Refusals: 12, 11, 1, 4.
+pub fn add_equal_conditions(cells: &[u32; 11265], group: Group, left: u32, right: u32) -> Changed
+    ensures { λ r. ⌜ r ≡ onGroup (λ ns cs. addEqual (group .limit) ns left right cs) (now (cells .entry)) group ⌝ }
+{
+    let number = check_group(cells, group);
+    if number != 0 {
+        return refusal(number, group);
+    }
+    let n = node_count(cells);
+    if n <= wide(left) {
+        return refusal(1, group);
+    }
+    if n <= wide(right) {
+        return refusal(1, group);
+    }
+    equal_condition_in(cells, group, left, right)
+}
+
+// A constant can be said: flavour 0 to 2, and a value other than 0 only with flavour 2.
+fn can_say(flavour: u32, value: u32) -> bool
+    ensures { λ r. ⌜ r ≡ sayable flavour value ⌝ }
+{
+    if 2 < flavour {
+        return false;
+    }
+    if flavour == 2 {
+        return true;
+    }
+    value == 0
+}
+
+// An expression is constant: flavour 0 heterogeneous, 1 uniform unknown, 2 uniform with a value. Refusals: 12, 11,
+// 1, 4.
+pub fn add_constant(
+    cells: &[u32; 11265],
+    group: Group,
+    expr: u32,
+    flavour: u32,
+    value: u32,
+) -> Changed
+    ensures { λ r. ⌜ r ≡ onConstant expr flavour value (now (cells .entry)) group ⌝ }
+{
+    if !can_say(flavour, value) {
+        return refusal(12, group);
+    }
+    let number = check_group(cells, group);
+    if number != 0 {
+        return refusal(number, group);
+    }
+    let n = node_count(cells);
+    if n <= wide(expr) {
+        return refusal(1, group);
+    }
+    let said = Mark {
+        flavour: flavour + 1,
+        value: value,
+    };
+    add_constant_in(cells, group, expr, said)
+}
+
 // Drops the constants that may differ from partition to partition. The answer says whether anything changed.
 // Refusals: 12, 11, 1.
 pub fn clear_per_partition_constants(cells: &[u32; 11265], group: Group) -> Changed
@@ -104,6 +180,29 @@ pub fn clear_per_partition_constants(cells: &[u32; 11265], group: Group) -> Chan
         return refusal(number, group);
     }
     clear_in(group)
+}
+
+// The class of an expression. Refusals: 12, 11, 1.
+pub fn get_equivalence_class(cells: &[u32; 11265], group: Group, expr: u32) -> ClassIs
+    ensures { λ r. ⌜ r ≡ askGroup (λ k. ClassIs.Refused k) (classAnswer expr) (now (cells .entry)) group ⌝ }
+{
+    let number = check_group(cells, group);
+    if number != 0 {
+        return ClassIs::Refused(number);
+    }
+    let n = node_count(cells);
+    if n <= wide(expr) {
+        return ClassIs::Refused(1);
+    }
+    match find_class(group, expr) {
+        Place::At(i) => ClassIs::At(
+            i,
+            class_size(group, i),
+            first_member(group, i),
+            mark_of(group, i),
+        ),
+        Place::Nowhere => ClassIs::Nowhere,
+    }
 }
 
 // The equality question. Refusals: 12, 11, 1.
