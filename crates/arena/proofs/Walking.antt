@@ -182,12 +182,12 @@ module _ (label c i k : ℕ) (done rest : List ℕ) (n : length done ≡ k) wher
       rw (split-row label c done rest, split-row label i done rest, ← same-length)
       (set-at (3 ∷ label ∷ length (done ++ (c ∷ rest)) ∷ done) c (rest ++ replicate (8 - length (done ++ (c ∷ rest))) 0) i (3 + k) front)
 
-prefixed-none : (o : Placed (List ℕ)) → o ≡ prefixed [] o
+pub prefixed-none : (o : Placed (List ℕ)) → o ≡ prefixed [] o
 unfolding prefixed
 prefixed-none (placed ks ms) = refl
 prefixed-none full = refl
 
-prefixed-more : (done : List ℕ) (i : ℕ) (o : Placed (List ℕ)) → prefixed done (andThen o (λ ks os. placed (i ∷ ks) os)) ≡ prefixed (done ++ (i ∷ [])) o
+pub prefixed-more : (done : List ℕ) (i : ℕ) (o : Placed (List ℕ)) → prefixed done (andThen o (λ ks os. placed (i ∷ ks) os)) ≡ prefixed (done ++ (i ∷ [])) o
 unfolding prefixed andThen
 prefixed-more done i (placed ks ms) = ap (λ (l : List ℕ). placed l ms) (sym (append-snoc done i ks))
 prefixed-more done i full = refl

@@ -69,8 +69,8 @@ readChild e k ns =
 unfoldable pub onLent : {A : Type 0} → A → (List Node → A) → List ℕ → A
 onLent refused call cells = if lawful cells then call (decode cells) else refused
 
--- an outcome, laid out in cells
-unfoldable pub inCells : Outcome → Added × List ℕ
+-- an answer and the arena afterwards, laid out in cells
+unfoldable pub inCells : {A : Type 0} → A × List Node → A × List ℕ
 inCells o = (o .0, encode (o .1))
 
 -- a call that changes the arena in lent cells: 11 and the cells as they were, or its outcome

@@ -11,6 +11,7 @@
 pub mod adding;
 pub mod cells;
 pub mod checking;
+pub mod memo;
 pub mod reading;
 pub mod shifting;
 

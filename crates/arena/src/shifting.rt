@@ -7,6 +7,8 @@ use crate::adding::place;
 use crate::cells::cell_of;
 use crate::cells::row_of;
 use crate::cells::wide;
+use crate::memo::note;
+use crate::memo::refused;
 use crate::reading::child_count;
 use crate::reading::child_in;
 ghost use mathlib.Core.Bool.{Bool, true, false};
@@ -19,8 +21,7 @@ ghost use Rattle.arena.specs.Expression.{expressionAt};
 ghost use Rattle.arena.specs.Shift.{moved, canMove};
 ghost use Rattle.arena.specs.Layout.{cellOf, decode};
 ghost use Rattle.arena.specs.Calls.{inCells, shiftedOutcome};
-ghost use Rattle.arena.specs.declared.Added.the-variants.{Number};
-ghost use Rattle.arena.specs.Inner.{Known, Grew, Ready, Walked, ReadyAll, WalkedAll, lifted, shiftedBy, noted, isRefused};
+ghost use Rattle.arena.specs.Inner.{Known, Grew, Ready, Walked, ReadyAll, WalkedAll, lifted, shiftedBy};
 
 // The lift of an offset.
 fn lift_of(offset: i64) -> u32
@@ -101,19 +102,6 @@ fn shift_column(cells: &mut [u32; 11265], e: usize, lift: u32) -> Added
     place(cells, &row)
 }
 
-// Notes an answer for node e.
-fn note(memo: &mut [u32; 1024], e: usize, answer: Added)
-    requires { ⌜ (e < 1024) × ((i : ℕ) → answer ≡ Number i → i < 1024) ⌝ }
-    ensures { λ _. ⌜ now (memo .exit) ≡ noted (now (memo .entry)) e answer ⌝ }
-{
-    match answer {
-        Added::Number(i) => {
-            memo[e] = i + 1;
-        }
-        Added::Refused(_) => {}
-    }
-}
-
 // Shifts the children of an operation, left to right, and writes their numbers into its row.
 fn shift_children(
     cells: &mut [u32; 11265],
@@ -170,16 +158,6 @@ fn shift(cells: &mut [u32; 11265], memo: &mut [u32; 1024], expr: u32, lift: u32)
     let answer = shift_new(cells, memo, expr, lift);
     note(memo, e, answer);
     answer
-}
-
-// The walk found no room.
-fn refused(answer: Added) -> bool
-    ensures { λ r. ⌜ r ≡ isRefused answer ⌝ }
-{
-    match answer {
-        Added::Number(_) => false,
-        Added::Refused(_) => true,
-    }
 }
 
 // Shifts an expression by an offset: 10 where a column leaves its bounds, 3 where there is no room, and then

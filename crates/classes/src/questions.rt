@@ -163,7 +163,7 @@ fn class_mark(g: Group, e: u32) -> Mark
 }
 
 // The flavours of the constants of the classes of the first n nodes.
-fn class_marks(g: Group, n: usize) -> [u32; 1024]
+pub fn class_marks(g: Group, n: usize) -> [u32; 1024]
     requires { ⌜ Coded g × (n ≤ 1024) ⌝ }
     ensures { λ r. ⌜ Marked (decode g) n r ⌝ }
 {

@@ -26,7 +26,7 @@ use Rattle.arena.proofs.adding.place.Reads as place-reads
 use Rattle.arena.proofs.cells.cell_of.Reads as cell-of-reads
 use Rattle.arena.proofs.cells.row_of.Reads as row-of-reads
 use Rattle.arena.proofs.cells.wide.Reads as wide-reads
-use Rattle.arena.proofs.shifting.note.Reads as note-reads
+use Rattle.arena.proofs.memo.note.Reads as note-reads
 use Rattle.arena.proofs.shifting.shift_column.Reads as shift-column-reads
 use Rattle.arena.proofs.shifting.+shift+shift_children+shift_new.{statement}
 use Rattle.arena.proofs.shifting.+shift+shift_children+shift_new.Tie.{close}

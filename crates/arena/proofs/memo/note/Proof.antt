@@ -1,10 +1,10 @@
--- `arena::shifting::note` meets its contract.
+-- `arena::memo::note` meets its contract.
 use mathlib.Core.Path.{sym, ap}
 use native.Mathlib.Omega.{arith}
 use borrow.Author.Needs.{needs}
 use Rattle.arena.specs.Inner.{noted}
-use Rattle.arena.proofs.shifting.note.Statement.{statement}
-use Rattle.arena.proofs.shifting.note.Tie as tie
+use Rattle.arena.proofs.memo.note.Statement.{statement}
+use Rattle.arena.proofs.memo.note.Tie as tie
 
 enum-known-answer : tie.Need-enum-known-answer
 enum-known-answer c = search needs

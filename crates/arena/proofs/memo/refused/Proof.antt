@@ -1,9 +1,9 @@
--- `arena::shifting::refused` meets its contract.
+-- `arena::memo::refused` meets its contract.
 use mathlib.Core.Path.{sym, ap}
 use borrow.Author.Needs.{needs}
 use Rattle.arena.specs.Inner.{isRefused}
-use Rattle.arena.proofs.shifting.refused.Statement.{statement}
-use Rattle.arena.proofs.shifting.refused.Tie as tie
+use Rattle.arena.proofs.memo.refused.Statement.{statement}
+use Rattle.arena.proofs.memo.refused.Tie as tie
 
 enum-told : tie.Need-enum-told
 enum-told c = search needs
