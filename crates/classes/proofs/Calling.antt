@@ -1,30 +1,30 @@
 -- A public call on a lent group, by the check's number.
-use Rattle.classes.specs.declared.ClassIs.the-variants.{At as Class-At, Nowhere as NoClass, Refused as Class-Refused}
-use mathlib.Core.Option.{none, some}
-use Rattle.laws.proofs.Booleans.{and-left, and-right}
-use lib.Dec.{leb, eqb, ltb}
-use Rattle.classes.specs.Inner.{Coded}
-use Rattle.classes.specs.Group.{equalCondition, withConstant, classAt, classOf}
 use Prim.Native.Nat.{ℕ, _<_, _≤_, _+_}
 use mathlib.Core.Bool.{Bool, true, false, and-false, _||_, _&&_}
 use mathlib.Core.List.{List, []}
+use mathlib.Core.Option.{none, some}
 use mathlib.Core.Path.{_≡_, _∙_, refl}
 use native.Mathlib.Omega.{arith}
 use borrow.Author.Tests.{eq-eqb, ne-eqb, lt-ltb, le-ltb, le-leb, lt-leb, leb-true, eqb-true, eqb-false}
+use lib.Dec.{leb, eqb, ltb}
 use lib.ListN.{length, getD}
+use Rattle.laws.proofs.Booleans.{and-left, and-right}
 use Rattle.arena.specs.Node.{Node}
 use Rattle.arena.specs.Layout.{count, decode as nodes}
 use Rattle.arena.specs.Inner.{Known}
 use Rattle.arena.proofs.Layouts.{lawful-holds}
 use Rattle.classes.specs.Class.{Class, Constant}
+use Rattle.classes.specs.Group.{equalCondition, withConstant, classAt, classOf}
 use Rattle.classes.specs.Questions.{exprsEqual, exprConstant}
 use Rattle.classes.specs.Steps.{Outcome, refused, judged, addEqual, addConstant}
 use Rattle.classes.specs.Layout.{encode, decode, markOf, constantFrom, knownFlavour}
 use Rattle.classes.specs.Calls.{groupNumber, opened, changed, onGroup, askGroup, equalAnswer, constantAnswer, sayable, onConstant, classAnswer, classIs}
+use Rattle.classes.specs.Inner.{Coded}
 use Rattle.classes.specs.declared.Group.{Group}
 use Rattle.classes.specs.declared.Changed.{Changed}
 use Rattle.classes.specs.declared.Answer.the-variants.{Yes, No, Refused}
 use Rattle.classes.specs.declared.ConstantIs.the-variants.{Is, Refused as Constant-Refused}
+use Rattle.classes.specs.declared.ClassIs.the-variants.{At as Class-At, Nowhere as NoClass, Refused as Class-Refused}
 use Rattle.classes.proofs.HeldLaws.{number-lawful}
 use Rattle.classes.proofs.Judging.{handedBack}
 
