@@ -1,15 +1,14 @@
 -- Clearing on the struct: which turn a class takes, and what each turn leaves.
-use Prim.Native.Nat.{ℕ, zero, suc, _+_, _-_, _<_, _≤_}
+use Prim.Native.Nat.{ℕ, suc, _+_, _-_, _<_, _≤_}
 use mathlib.Core.Bool.{Bool, true, false}
-use mathlib.Core.List.{List, [], _∷_, _++_, map}
+use mathlib.Core.List.{List, map}
 use mathlib.Core.Path.{_≡_, refl, sym, ap, _∙_, subst}
 use native.Mathlib.Omega.{arith}
 use borrow.Author.Tests.{eq-eqb, ne-eqb}
 use lib.ListN.{length, getD, set, length-set, length-map}
 use lib.Seq.{map-set-same}
 use Rattle.classes.specs.Class.{Constant, noConstant, heterogeneous, unknown, known, Class}
-use Rattle.classes.specs.Group.{classAt, total, removed, kept, dropped, gone, clearedBy, clearFrom, cleared}
-use Rattle.classes.specs.Good.{flat}
+use Rattle.classes.specs.Group.{classAt, total, removed, kept, dropped, gone, clearedBy, clearFrom, clear-kept, clear-dropped, clear-gone, cleared}
 use Rattle.classes.specs.Steps.{clear}
 use Rattle.classes.specs.Layout.{flavourOf, valueOf, padded, encode, decode}
 use Rattle.classes.specs.Calls.{changed}
@@ -17,8 +16,7 @@ use Rattle.classes.specs.Inner.{Coded}
 use Rattle.classes.specs.declared.Group.{Group}
 use Rattle.classes.specs.declared.Changed.{Changed}
 use Rattle.classes.proofs.Codec.{sizeOf, flavourIn, valueIn, map-set, set-padded, decode-encode, coded-encode, length-decode, used-is, sizes-is, flavours-is, values-is, members-is, size-is, flavour-is}
-use Rattle.classes.proofs.Places.{nothing, sum-set, total-sum, length-removed, total-removed}
-use Rattle.classes.proofs.GoodKept.{clear-kept, clear-dropped, clear-gone}
+use Rattle.classes.proofs.Places.{nothing, flat-same, total-same, length-removed, total-removed}
 
 -- only a heterogeneous constant has flavour 1
 flavour-one : (k : Constant) → flavourOf k ≡ 1 → k ≡ heterogeneous
@@ -46,13 +44,6 @@ turn-gone c e l = rw (e, eq-eqb (length (c .members)) 1 l)
 turn-dropped : (c : Class) → c .constant ≡ heterogeneous → (length (c .members) ≡ 1 → ⊥) → clearedBy c ≡ dropped
 unfolding clearedBy
 turn-dropped c e l = rw (e, ne-eqb (length (c .members)) 1 l)
-
--- the members of all classes, where one has another constant
-flat-kept : (cs : List Class) (i : ℕ) (k : Constant) → flat (set cs i (record { members = classAt cs i .members; constant = k })) ≡ flat cs
-unfolding flat
-flat-kept [] i k = refl
-flat-kept (c ∷ cs) zero k = refl
-flat-kept (c ∷ cs) (suc i) k = ap (λ (t : List ℕ). c .members ++ t) (flat-kept cs i k)
 
 -- what a step at place i is asked for: the group stays one with its limit, the rest is shorter, and clearing goes on from there
 abbrev pub Stepped : Group → ℕ → Bool → Group → ℕ → Bool → Type 0
@@ -120,9 +111,7 @@ module _ (g : Group) (v : Coded g) (i : ℕ) (l : i < g .count) (b : Bool) where
     count-lost = omega (arith, length-set (decode g) i bare, length-decode g)
 
     total-lost : g .used ≡ total lost
-    total-lost =
-        let s = sum-set (λ (x : Class). length (x .members)) (decode g) i bare nothing inside in
-        omega (arith, s, total-sum lost, total-sum (decode g), used-is g v)
+    total-lost = sym (used-is g v) ∙ sym (total-same (decode g) i noConstant)
 
     flavours-lost : set (g .flavours) i 0 ≡ padded 64 (map flavourIn lost)
     unfolding flavourOf
@@ -156,7 +145,7 @@ module _ (g : Group) (v : Coded g) (i : ℕ) (l : i < g .count) (b : Bool) where
           sizes = (sizes-is g v ∙ ap (padded 64) (sym (map-set-same sizeOf (decode g) i bare nothing refl))) t;
           flavours = flavours-lost t;
           values = values-lost t;
-          members = (members-is g v ∙ ap (padded 256) (sym (flat-kept (decode g) i noConstant))) t;
+          members = (members-is g v ∙ ap (padded 256) (sym (flat-same (decode g) i noConstant))) t;
         }
 
     module _ (more : getD (g .sizes) i 0 ≡ 1 → ⊥) (h : Group) (p : h ≡ encode (g .limit) lost) where

@@ -15,7 +15,7 @@ use Rattle.laws.proofs.Booleans.{true-not-false, and-left, and-right}
 use Rattle.laws.proofs.First.{first-some}
 use Rattle.arena.specs.Node.{Node, literal, nodeAt}
 use Rattle.classes.specs.Class.{Constant, noConstant, heterogeneous, unknown, known, Class, isUniform, taken, carried, single, merged, sameConstant}
-use Rattle.classes.specs.Group.{among, classAt, classOf, removed, pair, joined, equated, equalCondition, given, constantAt, classLike, constantFor, constantIn, withConstant, Cleared, kept, dropped, gone, clearedBy, clearFrom, cleared}
+use Rattle.classes.specs.Group.{among, classAt, classOf, removed, pair, joined, equated, equalCondition, given, constantAt, classLike, constantFor, constantIn, withConstant, Cleared, kept, dropped, gone, clearedBy, clearFrom, clear-kept, clear-dropped, clear-gone, cleared}
 use Rattle.classes.specs.Good.{Good}
 use Rattle.classes.specs.Steps.{refused, fits, judged, addEqual, addConstant, clear, after}
 use Rattle.classes.proofs.Places.{sum, count, count-same, count-other, among-either, among-one, counts, Once, All, nothing, distinct-once, once-distinct, class-flat, flat-class, classOf-some, classOf-none, counts-removed, counts-set, counts-mergedAt, counts-more, all-set, all-removed, all-mergedAt, all-more}
@@ -219,20 +219,6 @@ constant-good two ns cs e g l said =
     parts-good ns (withConstant two ns cs e said)
     (parts-constant ns cs (good-parts ns cs g) e l two (given ns e said) (λ v q. taken-keeps (carried (nodeAt ns e)) said (carried-uniform (nodeAt ns e) v q)) (classOf cs e) refl)
 
--- the turns of clearing
-module _ (n i : ℕ) (changed : Bool) (cs : List Class) where
-  pub clear-kept : clearedBy (classAt cs i) ≡ kept → clearFrom (suc n) i changed cs ≡ clearFrom n (i + 1) changed cs
-  unfolding clearFrom
-  clear-kept q = rw (q, clearFrom)
-
-  pub clear-dropped : clearedBy (classAt cs i) ≡ dropped → clearFrom (suc n) i changed cs ≡ clearFrom n (i + 1) true (set cs i (record { members = classAt cs i .members; constant = noConstant }))
-  unfolding clearFrom
-  clear-dropped q = rw (q, clearFrom)
-
-  pub clear-gone : clearedBy (classAt cs i) ≡ gone → clearFrom (suc n) i changed cs ≡ clearFrom n i true (removed cs i)
-  unfolding clearFrom
-  clear-gone q = rw (q, clearFrom)
-
 -- only a heterogeneous constant is dropped, alone or with its class
 dropped-is : (c : Class) → clearedBy c ≡ dropped → c .constant ≡ heterogeneous
 unfolding clearedBy
@@ -255,7 +241,7 @@ gone-is c h = go (c .constant) refl
     go (known v) q = absurd (let r = rw q at h in let z : _≡_ {A = ℕ} 0 1 = cc in omega arith)
 
 -- where a constant is heterogeneous there is a class
-heterogeneous-below : (cs : List Class) (i : ℕ) → classAt cs i .constant ≡ heterogeneous → i < length cs
+pub heterogeneous-below : (cs : List Class) (i : ℕ) → classAt cs i .constant ≡ heterogeneous → i < length cs
 heterogeneous-below cs i h = go (decLt i (length cs))
   where
     go : Dec (i < length cs) → i < length cs
@@ -283,20 +269,26 @@ parts-gone ns cs i p h = record {
   fine = all-removed (Fine ns) cs i (p .fine);
 }
 
-parts-clear : (ns : List Node) (n i : ℕ) (changed : Bool) (cs : List Class) → Parts ns cs → Parts ns (clearFrom n i changed cs .1)
+-- what a dropped constant and a dropped class keep, clearing keeps
+pub clear-keeps : (P : List Class → Type 0)
+    → ((cs : List Class) (i : ℕ) → classAt cs i .constant ≡ heterogeneous → P cs → P (set cs i (record { members = classAt cs i .members; constant = noConstant })))
+    → ((cs : List Class) (i : ℕ) → classAt cs i .constant ≡ heterogeneous → P cs → P (removed cs i))
+    → (n i : ℕ) (changed : Bool) (cs : List Class) → P cs → P (clearFrom n i changed cs .1)
 unfolding clearFrom
-parts-clear ns zero i changed cs p = p
-parts-clear ns (suc n) i changed cs p = go (clearedBy (classAt cs i)) refl (parts-clear ns n)
+clear-keeps P d g zero i changed cs p = p
+clear-keeps P d g (suc n) i changed cs p = go (clearedBy (classAt cs i)) refl (clear-keeps P d g n)
   where
-    go : (k : Cleared) → clearedBy (classAt cs i) ≡ k → ((i : ℕ) (changed : Bool) (cs : List Class) → Parts ns cs → Parts ns (clearFrom n i changed cs .1)) → Parts ns (clearFrom (suc n) i changed cs .1)
+    go : (k : Cleared) → clearedBy (classAt cs i) ≡ k → ((i : ℕ) (changed : Bool) (cs : List Class) → P cs → P (clearFrom n i changed cs .1)) → P (clearFrom (suc n) i changed cs .1)
     go kept q r = rw (clear-kept n i changed cs q) (r (i + 1) changed cs p)
     go dropped q r =
-        rw (clear-dropped n i changed cs q) (r (i + 1) true (set cs i (record { members = classAt cs i .members; constant = noConstant })) (parts-dropped ns cs i p (dropped-is (classAt cs i) q)))
-    go gone q r = rw (clear-gone n i changed cs q) (r i true (removed cs i) (parts-gone ns cs i p (gone-is (classAt cs i) q)))
+        rw (clear-dropped n i changed cs q) (r (i + 1) true (set cs i (record { members = classAt cs i .members; constant = noConstant })) (d cs i (dropped-is (classAt cs i) q) p))
+    go gone q r = rw (clear-gone n i changed cs q) (r i true (removed cs i) (g cs i (gone-is (classAt cs i) q) p))
 
 pub clear-good : (ns : List Node) (cs : List Class) → Good ns cs → Good ns (cleared cs .1)
 unfolding cleared
-clear-good ns cs g = parts-good ns (cleared cs .1) (parts-clear ns (length cs) 0 false cs (good-parts ns cs g))
+clear-good ns cs g =
+    parts-good ns (cleared cs .1)
+    (clear-keeps (λ (ds : List Class). Parts ns ds) (λ ds i h p. parts-dropped ns ds i p h) (λ ds i h p. parts-gone ns ds i p h) (length cs) 0 false cs (good-parts ns cs g))
 
 -- no class at all
 pub empty-good : (ns : List Node) → Good ns []

@@ -26,3 +26,4 @@ pub mod ClearLaws
 pub mod ConstantLaws
 pub mod EquatingLaws
 pub mod Calling
+pub mod Valid

@@ -15,6 +15,7 @@ use Rattle.classes.specs.Inner.{Coded, Room, markOf}
 use Rattle.classes.specs.declared.Group.{Group}
 use Rattle.classes.specs.declared.Mark.{Mark}
 use Rattle.classes.proofs.Codec.{noClass, sizeOf, flavourIn, valueIn, constant-from, set-padded, snoc-padded, paste-padded, map-append, map-set, length-flat, flat-append, total-append, total-take, total-front, decode-encode, coded-encode, length-decode, used-is, sizes-is, flavours-is, values-is, members-is, size-is, flavour-is, value-is, class-ends, class-inside, members-cut}
+use Rattle.classes.proofs.Places.{flat-same, total-same}
 
 -- the constant of a mark
 from-mark : (m : Mark) (c : Constant) → m ≡ markOf c → constantFrom (m .flavour) (m .value) ≡ c
@@ -67,18 +68,6 @@ unfolding total
 total-set [] i c = omega arith
 total-set (d ∷ cs) zero c = omega arith
 total-set (d ∷ cs) (suc i) c = omega (arith, total-set cs i c)
-
-flat-same : (cs : List Class) (i : ℕ) (k : Constant) → flat (set cs i (record { members = classAt cs i .members; constant = k })) ≡ flat cs
-unfolding flat
-flat-same [] i k = refl
-flat-same (c ∷ cs) zero k = refl
-flat-same (c ∷ cs) (suc i) k = ap (λ (t : List ℕ). c .members ++ t) (flat-same cs i k)
-
-total-same : (cs : List Class) (i : ℕ) (k : Constant) → total (set cs i (record { members = classAt cs i .members; constant = k })) ≡ total cs
-unfolding total
-total-same [] i k = refl
-total-same (c ∷ cs) zero k = refl
-total-same (c ∷ cs) (suc i) k = omega (arith, total-same cs i k)
 
 -- the places that a call is asked for
 module _ (g : Group) (v : Coded g) (j : ℕ) (there : j < g .count) where

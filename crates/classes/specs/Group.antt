@@ -3,6 +3,7 @@ use Prim.Native.Nat.{ℕ, zero, suc, _+_, _-_, min, max}
 use mathlib.Core.Bool.{Bool, true, false, _||_}
 use mathlib.Core.List.{List, [], _∷_, _++_}
 use mathlib.Core.Option.{Option, none, some}
+use mathlib.Core.Path.{_≡_}
 use lib.Dec.{eqb}
 use lib.ListN.{length, getD, take, set}
 use Rattle.laws.specs.Tests.{if_then_else_, first}
@@ -102,6 +103,20 @@ clearFrom (suc n) i changed cs =
       | dropped ↦ clearFrom n (i + 1) true (set cs i (record { members = classAt cs i .members; constant = noConstant }))
       | gone ↦ clearFrom n i true (removed cs i)
     ]
+
+-- what clearing comes to at a place, by its class
+module _ (n i : ℕ) (changed : Bool) (cs : List Class) where
+  pub clear-kept : clearedBy (classAt cs i) ≡ kept → clearFrom (suc n) i changed cs ≡ clearFrom n (i + 1) changed cs
+  unfolding clearFrom
+  clear-kept q = rw (q, clearFrom)
+
+  pub clear-dropped : clearedBy (classAt cs i) ≡ dropped → clearFrom (suc n) i changed cs ≡ clearFrom n (i + 1) true (set cs i (record { members = classAt cs i .members; constant = noConstant }))
+  unfolding clearFrom
+  clear-dropped q = rw (q, clearFrom)
+
+  pub clear-gone : clearedBy (classAt cs i) ≡ gone → clearFrom (suc n) i changed cs ≡ clearFrom n i true (removed cs i)
+  unfolding clearFrom
+  clear-gone q = rw (q, clearFrom)
 
 -- front to back, over all classes: each step passes one class or drops one, so there are as many as classes
 unfoldable pub cleared : List Class → Bool × List Class
