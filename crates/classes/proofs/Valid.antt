@@ -13,52 +13,33 @@ use Rattle.arena.specs.Node.{Node}
 use Rattle.arena.specs.Layout.{lawful, decode as nodes}
 use Rattle.classes.specs.Class.{Constant, noConstant, Class}
 use Rattle.classes.specs.Group.{classAt, total, equalCondition, withConstant, cleared}
+use Rattle.classes.specs.Good.{Good}
 use Rattle.classes.specs.Steps.{Outcome, refused, fits, judged, addEqual, addConstant, clear}
 use Rattle.classes.specs.Layout.{encode, decode, constantFrom}
 use Rattle.classes.specs.Calls.{groupNumber, opened, changed, onGroup, sayable, onConstant}
 use Rattle.classes.specs.declared.Group.{Group}
 use Rattle.classes.specs.declared.Changed.{Changed}
+use Rattle.classes.proofs.Answers.{addEqual-holds, addConstant-holds}
 use Rattle.classes.proofs.Places.{total-same, length-removed, total-removed}
-use Rattle.classes.proofs.GoodKept.{clear-keeps, heterogeneous-below, addEqual-good, addConstant-good, clear-call-good, empty-good}
+use Rattle.classes.proofs.GoodKept.{clear-keeps, heterogeneous-below, condition-good, constant-good, clear-call-good, empty-good}
 use Rattle.classes.proofs.HeldLaws.{number-lawful, Fit, number-fit, number-held, held-number}
 
--- the members and the classes are within their limits
-abbrev Within : ℕ → List Class → Type 0
-Within l cs = (total cs ≤ l) × (length cs ≤ 64)
-
--- a step that is judged stays within them, done or refused
-judged-within : (l : ℕ) (cs : List Class) (o : Bool × List Class) → Within l cs → Within l (judged l cs o .classes)
-unfolding judged refused fits
-judged-within l cs o w = go (fits l (o .1)) refl
-  where
-    go : (b : Bool) → fits l (o .1) ≡ b → Within l ((if b then record { number = 0; answer = o .0; classes = o .1 } else refused 4 cs) .classes)
-    go true q =
-        let a : Bool = leb (total (o .1)) l in
-        let c : Bool = leb (length (o .1)) 64 in
-        (leb-true (total (o .1)) l (and-left a c q), leb-true (length (o .1)) 64 (and-right a c q))
-    go false q = w
-
-addEqual-within : (l : ℕ) (ns : List Node) (a b : ℕ) (cs : List Class) → Within l cs → Within l (addEqual l ns a b cs .classes)
-unfolding addEqual refused
-addEqual-within l ns a b cs w = go (ltb a (length ns) && ltb b (length ns))
-  where
-    go : (t : Bool) → Within l ((if t then judged l cs (equalCondition ns cs a b) else refused 1 cs) .classes)
-    go true = judged-within l cs (equalCondition ns cs a b) w
-    go false = w
-
-addConstant-within : (two : Bool) (l : ℕ) (ns : List Node) (e : ℕ) (said : Constant) (cs : List Class) → Within l cs → Within l (addConstant two l ns e said cs .classes)
-unfolding addConstant refused
-addConstant-within two l ns e said cs w = go (ltb e (length ns))
-  where
-    go : (t : Bool) → Within l ((if t then judged l cs (false, withConstant two ns cs e said) else refused 1 cs) .classes)
-    go true = judged-within l cs (false, withConstant two ns cs e said) w
-    go false = w
+-- from classes that are a group, a step to good ones that fit
+fit-step : (ns : List Node) (l : ℕ) (cs ds : List Class) → Fit ns l cs → Good ns ds → fits l ds ≡ true → Fit ns l ds
+unfolding fits
+fit-step ns l cs ds f good q = record {
+  low = f .low;
+  high = f .high;
+  few = leb-true (length ds) 64 (and-right (leb (total ds) l) (leb (length ds) 64) q);
+  within = leb-true (total ds) l (and-left (leb (total ds) l) (leb (length ds) 64) q);
+  good = good;
+}
 
 -- clearing makes neither more members nor more classes
-clear-within : (l : ℕ) (cs : List Class) → Within l cs → Within l (clear cs .classes)
+clear-fewer : (l n : ℕ) (cs : List Class) → (total cs ≤ l) × (length cs ≤ n) → (total (clear cs .classes) ≤ l) × (length (clear cs .classes) ≤ n)
 unfolding clear cleared
-clear-within l cs w =
-    clear-keeps (λ (ds : List Class). Within l ds)
+clear-fewer l n cs w =
+    clear-keeps (λ (ds : List Class). (total ds ≤ l) × (length ds ≤ n))
     (λ ds i h p. (omega (arith, total-same ds i noConstant, p .0), omega (arith, length-set ds i (record { members = classAt ds i .members; constant = noConstant }), p .1)))
     (λ ds i h p. (omega (arith, total-removed ds i (heterogeneous-below ds i h), p .0), omega (arith, length-removed ds i, p .1)))
     (length cs) 0 false cs w
@@ -78,7 +59,8 @@ module _ (cells : List ℕ) (g : Group) where
   pub valid-equal : (a b : ℕ) → groupNumber cells g ≡ 0 → groupNumber cells (onGroup (λ ns cs. addEqual (g .limit) ns a b cs) cells g .group) ≡ 0
   valid-equal a b =
       valid-outcome (λ ns cs. addEqual (g .limit) ns a b cs)
-      (λ ns cs f. let w = addEqual-within (g .limit) ns a b cs (f .within, f .few) in record { low = f .low; high = f .high; few = w .1; within = w .0; good = addEqual-good (g .limit) ns a b cs (f .good) })
+      (λ ns cs f. addEqual-holds (λ (ds : List Class). Fit ns (g .limit) ds) (g .limit) cs f ns a b
+      (λ la lb q. fit-step ns (g .limit) cs (equalCondition ns cs a b .1) f (condition-good ns cs a b (f .good) la lb) q))
 
   -- a constant
   pub valid-constant : (e flavour value : ℕ) → groupNumber cells g ≡ 0 → groupNumber cells (onConstant e flavour value cells g .group) ≡ 0
@@ -94,25 +76,26 @@ module _ (cells : List ℕ) (g : Group) where
       go : (b : Bool) → groupNumber cells ((if b then onGroup call cells g else record { number = 12; answer = false; group = g }) .group) ≡ 0
       go true =
           valid-outcome call
-          (λ ns cs f. let w = addConstant-within true (g .limit) ns e said cs (f .within, f .few) in record { low = f .low; high = f .high; few = w .1; within = w .0; good = addConstant-good true (g .limit) ns e said cs (f .good) })
-          z
+          (λ ns cs f. addConstant-holds (λ (ds : List Class). Fit ns (g .limit) ds) (g .limit) cs f true ns e said
+          (λ l q. fit-step ns (g .limit) cs (withConstant true ns cs e said) f (constant-good true ns cs e (f .good) l said) q)) z
       go false = z
 
   -- clearing
   pub valid-clear : groupNumber cells g ≡ 0 → groupNumber cells (onGroup (λ ns cs. clear cs) cells g .group) ≡ 0
   valid-clear =
       valid-outcome (λ ns cs. clear cs)
-      (λ ns cs f. let w = clear-within (g .limit) cs (f .within, f .few) in record { low = f .low; high = f .high; few = w .1; within = w .0; good = clear-call-good ns cs (f .good) })
+      (λ ns cs f. let w = clear-fewer (g .limit) 64 cs (f .within, f .few) in record { low = f .low; high = f .high; few = w .1; within = w .0; good = clear-call-good ns cs (f .good) })
+
+-- what opening comes to, by whether the limit is from 1 to 256
+abbrev openedBy : ℕ → Bool → Changed
+openedBy limit b = if b then record { number = 0; answer = true; group = encode limit [] } else record { number = 12; answer = false; group = encode 0 [] }
 
 -- a group that was opened is valid beside every arena
 pub valid-opened : (cells : List ℕ) → lawful cells ≡ true → (limit : ℕ) → opened limit .number ≡ 0 → groupNumber cells (opened limit .group) ≡ 0
 unfolding opened total
 valid-opened cells w limit = go (ltb 0 limit && leb limit 256) refl
   where
-    out : Bool → Changed
-    out b = if b then record { number = 0; answer = true; group = encode limit [] } else record { number = 12; answer = false; group = encode 0 [] }
-
-    go : (b : Bool) → (ltb 0 limit && leb limit 256) ≡ b → out b .number ≡ 0 → groupNumber cells (out b .group) ≡ 0
+    go : (b : Bool) → (ltb 0 limit && leb limit 256) ≡ b → openedBy limit b .number ≡ 0 → groupNumber cells (openedBy limit b .group) ≡ 0
     go true q z =
         held-number cells w limit []
         (record { low = ltb-true 0 limit (and-left (ltb 0 limit) (leb limit 256) q); high = leb-true limit 256 (and-right (ltb 0 limit) (leb limit 256) q); few = omega arith; within = omega arith; good = empty-good (nodes cells) })
@@ -123,10 +106,7 @@ pub refusal-opens-none : (limit : ℕ) → (opened limit .number ≡ 0 → ⊥) 
 unfolding opened
 refusal-opens-none limit = go (ltb 0 limit && leb limit 256)
   where
-    out : Bool → Changed
-    out b = if b then record { number = 0; answer = true; group = encode limit [] } else record { number = 12; answer = false; group = encode 0 [] }
-
-    go : (b : Bool) → (out b .number ≡ 0 → ⊥) → out b .group ≡ encode 0 []
+    go : (b : Bool) → (openedBy limit b .number ≡ 0 → ⊥) → openedBy limit b .group ≡ encode 0 []
     go true z = absurd (z refl)
     go false z = refl
 
