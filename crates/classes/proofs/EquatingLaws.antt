@@ -23,10 +23,11 @@ use Rattle.classes.specs.Layout.{flavourOf, valueOf, constantFrom, padde
 use Rattle.classes.specs.Inner.{Coded, Room, markOf}
 use Rattle.classes.specs.declared.Group.{Group}
 use Rattle.classes.specs.declared.Mark.{Mark}
+use Rattle.classes.proofs.Marks.{mark-constant}
 use Rattle.classes.proofs.Codec.{snoc-padded, decode-encode, coded-encode, length-decode, used-is, size-is}
 use Rattle.classes.proofs.Places.{length-removed, total-removed, length-mergedAt, total-mergedAt, length-more, total-more, classOf-some}
 use Rattle.classes.proofs.Rebuilding.{merged-last}
-use Rattle.classes.proofs.ConstantLaws.{alone, mark-constant, fits-full, fits-many, fits-both, one-coded, one-count, one-size, one-is}
+use Rattle.classes.proofs.ConstantLaws.{alone, fits-full, fits-many, fits-both, one-coded, one-count, one-size, one-is}
 
 -- the constant that a node carries, by what is read of it
 pub carried-literal : (n : Node) (v : ℕ) → readOf n ≡ Literal v → _≡_ {A = Mark} (record { flavour = 3; value = v }) (markOf (carried n))

@@ -9,8 +9,9 @@ pub mod Conditions
 pub mod Limits
 pub mod GoodKept
 pub mod Demands
-pub mod Codec
+pub mod Numbers
 pub mod Marks
+pub mod Codec
 pub mod Members
 pub mod Rebuilding
 pub mod Turns

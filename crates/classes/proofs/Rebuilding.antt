@@ -6,7 +6,7 @@ use native.Mathlib.Numerals.{add-one}
 use native.Mathlib.Decide.{ℕ-discrete}
 use native.Mathlib.Omega.{arith}
 use lib.ListN.{length, getD, take, drop, set, length-append, length-set, length-map}
-use lib.Seq.{take-suc, take-all, length-take-le, map-set-same, getD-at, getD-set-same, getD-set-other, getD-take, set-at, paste}
+use lib.Seq.{take-suc, take-all, length-take-le, map-set-same, getD-at, set-at, paste}
 use Rattle.classes.specs.Class.{Constant, Class, taken, merged}
 use Rattle.classes.specs.Group.{classAt, total, removed, mergedAt, constantAt}
 use Rattle.classes.specs.Good.{flat}
@@ -14,12 +14,9 @@ use Rattle.classes.specs.Layout.{constantFrom, padded, encode, sumTo, de
 use Rattle.classes.specs.Inner.{Coded, Room, markOf}
 use Rattle.classes.specs.declared.Group.{Group}
 use Rattle.classes.specs.declared.Mark.{Mark}
-use Rattle.classes.proofs.Codec.{noClass, sizeOf, flavourIn, valueIn, constant-from, set-padded, snoc-padded, paste-padded, map-append, map-set, length-flat, flat-append, total-append, total-take, total-front, decode-encode, coded-encode, length-decode, used-is, sizes-is, flavours-is, values-is, members-is, size-is, flavour-is, value-is, class-ends, class-inside, members-cut}
-use Rattle.classes.proofs.Places.{flat-same, total-same}
-
--- the constant of a mark
-from-mark : (m : Mark) (c : Constant) → m ≡ markOf c → constantFrom (m .flavour) (m .value) ≡ c
-from-mark m c e = ap (λ (x : Mark). constantFrom (x .flavour) (x .value)) e ∙ constant-from c
+use Rattle.classes.proofs.Codec.{sizeOf, flavourIn, valueIn, set-padded, snoc-padded, paste-padded, map-append, map-set, flat-append, total-take, total-front, decode-encode, coded-encode, length-decode, used-is, sizes-is, flavours-is, values-is, members-is, size-is, flavour-is, value-is, class-ends, class-inside, members-cut}
+use Rattle.classes.proofs.Marks.{mark-constant}
+use Rattle.classes.proofs.Places.{nothing, length-flat, flat-same, total-same, total-more, total-mergedAt, removed-gap, removed-other}
 
 -- a column with one number more
 column-more : (f : Class → ℕ) (cs : List Class) (c : Class) (xs : List ℕ) (n v : ℕ)
@@ -45,10 +42,6 @@ flat-more : (cs : List Class) (c : Class) → flat (cs ++ (c ∷ [])) ≡ flat c
 unfolding flat
 flat-more cs c = flat-append cs (c ∷ []) ∙ rw (append-nil (c .members))
 
-pub total-more : (cs : List Class) (c : Class) → total (cs ++ (c ∷ [])) ≡ total cs + length (c .members)
-unfolding total
-total-more cs c = omega (arith, total-append cs (c ∷ []))
-
 flat-last : (cs : List Class) (i : ℕ) (d : Class) → suc i ≡ length cs → flat (set cs i (merged (classAt cs i) d)) ≡ flat cs ++ d .members
 unfolding flat merged
 flat-last [] i d p = absurd (omega arith)
@@ -56,18 +49,6 @@ flat-last (c ∷ []) zero d p = simp append-nil
 flat-last (c ∷ (e ∷ cs)) zero d p = absurd (omega arith)
 flat-last (c ∷ cs) (suc i) d p =
     ap (λ (t : List ℕ). c .members ++ t) (flat-last cs i d (omega arith)) ∙ sym (append-assoc (c .members) (flat cs) (d .members))
-
-total-merged : (cs : List Class) (i : ℕ) (d : Class) → i < length cs → total (set cs i (merged (classAt cs i) d)) ≡ total cs + length (d .members)
-unfolding total merged
-total-merged [] i d l = absurd (omega arith)
-total-merged (c ∷ cs) zero d l = omega (arith, length-append (c .members) (d .members))
-total-merged (c ∷ cs) (suc i) d l = omega (arith, total-merged cs i d (omega arith))
-
-total-set : (cs : List Class) (i : ℕ) (c : Class) → total (set cs i c) ≤ total cs + length (c .members)
-unfolding total
-total-set [] i c = omega arith
-total-set (d ∷ cs) zero c = omega arith
-total-set (d ∷ cs) (suc i) c = omega (arith, total-set cs i c)
 
 -- the places that a call is asked for
 module _ (g : Group) (v : Coded g) (j : ℕ) (there : j < g .count) where
@@ -191,13 +172,13 @@ module _ (out src : Group) (j : ℕ) (r : Room out src j) where
       counted = omega (arith, length-decode out, length-set (decode out) (out .count - 1) (merged (classAt (decode out) (out .count - 1)) came))
 
       held : out .used + getD (src .sizes) j 0 ≡ total (set (decode out) (out .count - 1) (merged (classAt (decode out) (out .count - 1)) came))
-      held = omega (arith, total-merged (decode out) (out .count - 1) came inside, came-size, used-is out v)
+      held = omega (arith, total-mergedAt (decode out) (out .count - 1) came inside, came-size, used-is out v)
 
       grown : getD (out .sizes) (out .count - 1) 0 + getD (src .sizes) j 0 ≡ length (classAt (decode out) (out .count - 1) .members ++ came .members)
       grown = omega (arith, size-is out v (out .count - 1), came-size, length-append (classAt (decode out) (out .count - 1) .members) (came .members))
 
       over : m ≡ markOf (taken (classAt (decode out) (out .count - 1) .constant) (came .constant))
-      over = w ∙ ap₂ (λ (x y : Constant). markOf (taken x y)) (from-mark a (classAt (decode out) (out .count - 1) .constant) s) (from-mark b (came .constant) t)
+      over = w ∙ ap₂ (λ (x y : Constant). markOf (taken x y)) (mark-constant a (classAt (decode out) (out .count - 1) .constant) s) (mark-constant b (came .constant) t)
 
 -- a group with a constant over that of a class
 pub constant-made : (g : Group) (i : ℕ) (d : Constant) (m a : Mark) → Coded g → i < g .count
@@ -219,7 +200,7 @@ constant-made g i d m a v l s w = λ t.
       limit = g .limit;
       count = counted t;
       used = (sym (used-is g v) ∙ sym (total-same cs i k)) t;
-      sizes = (sizes-is g v ∙ ap (padded 64) (sym (map-set-same sizeOf cs i c noClass refl))) t;
+      sizes = (sizes-is g v ∙ ap (padded 64) (sym (map-set-same sizeOf cs i c nothing refl))) t;
       flavours = column-set flavourIn cs i c (g .flavours) (m .flavour) (flavours-is g v) (ap (λ (x : Mark). x .flavour) over) inside t;
       values = column-set valueIn cs i c (g .values) (m .value) (values-is g v) (ap (λ (x : Mark). x .value) over) inside t;
       members = (members-is g v ∙ ap (padded 256) (sym (flat-same cs i k))) t;
@@ -241,7 +222,7 @@ constant-made g i d m a v l s w = λ t.
     counted = omega (arith, length-decode g, length-set (decode g) i (record { members = classAt (decode g) i .members; constant = taken (classAt (decode g) i .constant) d }))
 
     over : m ≡ markOf (taken (classAt (decode g) i .constant) d)
-    over = w ∙ ap (λ (x : Constant). markOf (taken x d)) (from-mark a (classAt (decode g) i .constant) s)
+    over = w ∙ ap (λ (x : Constant). markOf (taken x d)) (mark-constant a (classAt (decode g) i .constant) s)
 
 -- a group that is built class by class
 module _ (l : ℕ) (rs : List Class) (few : length rs ≤ 64) (small : total rs ≤ 256) where
@@ -276,56 +257,22 @@ module _ (l : ℕ) (rs : List Class) (few : length rs ≤ 64) (small : total rs 
     -- and with it the group has the first k + 1
     pub rebuilt-next : (next : Group) (c : Class) → c ≡ classAt rs k → next ≡ encode (out .limit) (decode out ++ (c ∷ [])) → next ≡ encode l (take (k + 1) rs)
     rebuilt-next next c e f =
-        f ∙ rw (rebuilt-classes, rebuilt-limit, e, add-one, take-suc rs k noClass inside)
+        f ∙ rw (rebuilt-classes, rebuilt-limit, e, add-one, take-suc rs k nothing inside)
 
   -- after the last
   pub rebuilt-all : (n k : ℕ) (out : Group) → n ≡ length rs → k ≤ n → n ≤ k → out ≡ encode l (take k rs) → out ≡ encode l rs
   rebuilt-all n k out e a b is = is ∙ ap (encode l) (take-all k rs (omega arith))
 
--- a group without a class
-module _ (cs : List Class) (i : ℕ) where
-  pub length-removed : length (removed cs i) ≡ length cs - 1
-  unfolding removed
-  length-removed = length-set (take (length cs - 1) cs) i (classAt cs (length cs - 1)) ∙ length-take-le (length cs - 1) cs (omega arith)
-
-  pub total-removed : i < length cs → total (removed cs i) ≤ total cs
-  unfolding removed
-  total-removed b =
-      let e : suc (length cs - 1) ≡ length cs = omega arith in
-      omega (arith, total-set (take (length cs - 1) cs) i (classAt cs (length cs - 1)), total-take cs (length cs - 1), total-front cs (suc (length cs - 1)))
-
-  -- the class at k, by the place that it comes from
-  pub class-removed : (k m : ℕ) → k < length cs - 1 → (k ≡ i → m ≡ length cs - 1) → ((k ≡ i → ⊥) → m ≡ k) → classAt cs m ≡ classAt (removed cs i) k
-  unfolding removed
-  class-removed k m b p q = at (ℕ-discrete k i)
-    where
-      at : Dec (k ≡ i) → classAt cs m ≡ getD (set (take (length cs - 1) cs) i (classAt cs (length cs - 1))) k noClass
-      at (yes e) =
-          rw (p e, e) (sym (getD-set-same (take (length cs - 1) cs) i (classAt cs (length cs - 1)) noClass (omega (arith, length-take-le (length cs - 1) cs (omega arith)))))
-      at (no e) =
-          rw (q e) (sym (getD-set-other (take (length cs - 1) cs) i k (classAt cs (length cs - 1)) noClass e ∙ getD-take (length cs - 1) cs k noClass b))
-
--- a group with a class merged into one of its classes
-module _ (cs : List Class) (i : ℕ) (d : Class) where
-  pub length-merged : length (mergedAt cs i d) ≡ length cs
-  unfolding mergedAt
-  length-merged = length-set cs i (merged (classAt cs i) d)
-
-  pub total-merged-at : i < length cs → total (mergedAt cs i d) ≡ total cs + length (d .members)
-  unfolding mergedAt
-  total-merged-at b = total-merged cs i d b
-
-  -- the classes of it
-  pub merged-same : i < length cs → classAt (mergedAt cs i d) i ≡ merged (classAt cs i) d
-  unfolding mergedAt
-  merged-same b = getD-set-same cs i (merged (classAt cs i) d) noClass b
-
-  pub merged-other : (k : ℕ) → (k ≡ i → ⊥) → classAt (mergedAt cs i d) k ≡ classAt cs k
-  unfolding mergedAt
-  merged-other k e = getD-set-other cs i k (merged (classAt cs i) d) noClass e
+-- a group without a class: the class at k, by the place that it comes from
+pub class-removed : (cs : List Class) (i k m : ℕ) → k < length cs - 1 → (k ≡ i → m ≡ length cs - 1) → ((k ≡ i → ⊥) → m ≡ k) → classAt cs m ≡ classAt (removed cs i) k
+class-removed cs i k m b p q = at (ℕ-discrete k i)
+  where
+    at : Dec (k ≡ i) → classAt cs m ≡ classAt (removed cs i) k
+    at (yes e) = let l : i < length cs - 1 = rw e at b in rw (p e, e) (sym (removed-gap cs i l))
+    at (no e) = rw (q e) (sym (removed-other cs i k b e))
 
 -- a class merged into the last
 pub merged-last : (cs : List Class) (c d : Class) (n : ℕ) → n ≡ length cs → mergedAt (cs ++ (c ∷ [])) n d ≡ cs ++ (merged c d ∷ [])
 unfolding mergedAt
 merged-last cs c d n e =
-    rw (getD-at cs c [] noClass n (sym e)) (set-at cs c [] (merged c d) n (sym e))
+    rw (getD-at cs c [] nothing n (sym e)) (set-at cs c [] (merged c d) n (sym e))
