@@ -1,7 +1,7 @@
 -- The struct of a group as the layout of a list of classes: what stands where, and that nothing is lost.
 use Prim.Native.Nat.{ℕ, zero, suc, _+_, _-_, _<_, _≤_}
 use mathlib.Core.List.{List, [], _∷_, _++_, map, append-assoc}
-use mathlib.Core.Path.{_≡_, refl, sym, ap, _∙_}
+use mathlib.Core.Path.{_≡_, refl, sym, ap, _∙_, subst}
 use native.Mathlib.Omega.{arith}
 use lib.ListN.{length, getD, take, drop, set, replicate, length-append, length-replicate, length-set, length-drop, List·getD-append, List·getD-map}
 use lib.Seq.{getD-append-add, set-append-left, set-at, append-snoc, take-at, drop-append-add, length-take-le, getD-take, getD-drop, paste}
@@ -152,6 +152,26 @@ module _ (l : ℕ) (cs : List Class) where
   pub coded-encode : length cs ≤ 64 → total cs ≤ 256 → Coded (encode l cs)
   unfolding encode
   coded-encode few small = record { coded = ap (encode l) decode-encode; few = few; small = small }
+
+-- a struct that was built from classes
+module _ (l : ℕ) (cs : List Class) (h : Group) (p : h ≡ encode l cs) where
+  pub built-count : h .count ≡ length cs
+  unfolding encode
+  built-count = ap (λ (x : Group). x .count) p
+
+  pub built-used : h .used ≡ total cs
+  unfolding encode
+  built-used = ap (λ (x : Group). x .used) p
+
+  pub built-limit : h .limit ≡ l
+  unfolding encode
+  built-limit = ap (λ (x : Group). x .limit) p
+
+  pub built-classes : decode h ≡ cs
+  built-classes = ap decode p ∙ decode-encode l cs
+
+  pub built-coded : length cs ≤ 64 → total cs ≤ 256 → Coded h
+  built-coded few small = subst Coded (sym p) (coded-encode l cs few small)
 
 -- the classes are as many as the struct says
 pub length-decode : (g : Group) → length (decode g) ≡ g .count

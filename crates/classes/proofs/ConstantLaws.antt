@@ -22,9 +22,11 @@ use Rattle.classes.specs.declared.Group.{Group}
 use Rattle.classes.specs.declared.Mark.{Mark}
 use Rattle.classes.specs.declared.Changed.{Changed}
 use Rattle.classes.specs.declared.Place.the-variants.{At, Nowhere}
+use Rattle.classes.proofs.Judging as judging
+use Rattle.classes.proofs.ClassPlaces as places
 use Rattle.classes.proofs.Marks.{mark-constant, flavour-known, flavour-back, value-back, uniform-high, uniform-low}
 use Rattle.classes.proofs.Codec.{size-encode, decode-encode, coded-encode, length-decode, used-is}
-use Rattle.classes.proofs.Places.{nothing, sum-set, total-sum, length-mergedAt, total-mergedAt, length-more, total-more}
+use Rattle.classes.proofs.Places.{total-same, length-mergedAt, total-mergedAt, length-more, total-more}
 
 -- a mark that is a constant's is a known one
 pub mark-known : (m : Mark) (c : Constant) → m ≡ markOf c → knownFlavour (m .flavour) (m .value) ≡ true
@@ -96,12 +98,10 @@ like-below g c i e = at (isUniform c) refl
 
 -- what the answer of a search says
 pub place-at : (o : Option ℕ) (i : ℕ) → placeOf o ≡ At i → o ≡ some i
-place-at (some j) i e = let q : j ≡ i = cc in ap {B = Option ℕ} some q
-place-at none i e = absurd (let z : _≡_ {A = ℕ} 0 1 = cc in omega arith)
+place-at o i e = places.place-at o i (sym e)
 
 pub place-nowhere : (o : Option ℕ) → placeOf o ≡ Nowhere → o ≡ none
-place-nowhere (some j) e = absurd (let z : _≡_ {A = ℕ} 0 1 = cc in omega arith)
-place-nowhere none e = refl
+place-nowhere o e = places.place-nowhere o (sym e)
 
 -- the limits after a step
 module _ (limit : ℕ) (cs : List Class) where
@@ -122,8 +122,8 @@ module _ (g : Group) (v : Coded g) where
   -- where the step does not fit
   pub refusal-is : (r : Changed) (b : Bool) (cs : List Class) → (r .number ≡ 4) × ((r .answer ≡ false) × (r .group ≡ g)) → fits (g .limit) cs ≡ false
       → r ≡ changed (g .limit) (judged (g .limit) (decode g) (b, cs))
-  unfolding changed judged refused
-  refusal-is r b cs p f = rw f (λ i. record { number = p .0 i; answer = p .1 .0 i; group = (p .1 .1 ∙ sym (v .coded)) i })
+  unfolding judged
+  refusal-is r b cs p f = rw f (judging.refusal-is r 4 g p ∙ sym (judging.handed-back g 4 v))
 
   -- where it fits
   pub accepted-is : (b : Bool) (cs : List Class) (h : Group) → fits (g .limit) cs ≡ true → h ≡ encode (g .limit) cs
@@ -163,34 +163,41 @@ module _ (g : Group) (v : Coded g) (i : ℕ) (l : i < g .count) (e : ℕ) (c : C
       fits-both (g .limit) (mergedAt (decode g) i (alone e c)) (omega (arith, pushed))
       (omega (arith, length-mergedAt (decode g) i (alone e c), length-decode g, v .few))
 
--- or makes a new class
+-- a new class at the end
+module _ (g : Group) (v : Coded g) (c : Class) where
+  pub more-total : total (decode g ++ (c ∷ [])) ≡ g .used + length (c .members)
+  more-total = omega (arith, total-more (decode g) c, used-is g v)
+
+  pub more-count : length (decode g ++ (c ∷ [])) ≡ g .count + 1
+  more-count = omega (arith, length-more (decode g) c, length-decode g)
+
+  pub more-many : 64 ≤ g .count → fits (g .limit) (decode g ++ (c ∷ [])) ≡ false
+  more-many h = fits-many (g .limit) (decode g ++ (c ∷ [])) (omega (arith, more-count))
+
+  pub more-full : g .limit < g .used + length (c .members) → fits (g .limit) (decode g ++ (c ∷ [])) ≡ false
+  more-full h = fits-full (g .limit) (decode g ++ (c ∷ [])) (omega (arith, more-total))
+
+  pub more-room : g .count < 64 → g .used + length (c .members) ≤ g .limit → fits (g .limit) (decode g ++ (c ∷ [])) ≡ true
+  more-room a b = fits-both (g .limit) (decode g ++ (c ∷ [])) (omega (arith, more-total)) (omega (arith, more-count))
+
+-- one of one member
 module _ (g : Group) (v : Coded g) (e : ℕ) (c : Constant) where
-  abbrev opened : List Class
-  opened = decode g ++ (alone e c ∷ [])
-
-  held : total opened ≡ g .used + 1
-  held = omega (arith, total-more (decode g) (alone e c), used-is g v)
-
-  counted : length opened ≡ g .count + 1
-  counted = omega (arith, length-more (decode g) (alone e c), length-decode g)
-
   pub open-many : 64 ≤ g .count → fits (g .limit) (decode g ++ (alone e c ∷ [])) ≡ false
-  open-many h = fits-many (g .limit) opened (omega (arith, counted))
+  open-many h = more-many g v (alone e c) h
 
   pub open-full : g .limit ≤ g .used → fits (g .limit) (decode g ++ (alone e c ∷ [])) ≡ false
-  open-full h = fits-full (g .limit) opened (omega (arith, held))
+  open-full h = more-full g v (alone e c) (omega arith)
 
   pub open-room : g .count < 64 → g .used < g .limit → fits (g .limit) (decode g ++ (alone e c ∷ [])) ≡ true
-  open-room a b = fits-both (g .limit) opened (omega (arith, held)) (omega (arith, counted))
+  open-room a b = more-room g v (alone e c) a (omega arith)
 
 -- a constant over that of class i changes no number
 pub constant-fits : (g : Group) (v : Coded g) (i : ℕ) (c : Constant) → i < g .count → g .used ≤ g .limit → fits (g .limit) (constantAt (decode g) i c) ≡ true
 unfolding constantAt
 constant-fits g v i c l b =
     let d : Class = record { members = classAt (decode g) i .members; constant = taken (classAt (decode g) i .constant) c } in
-    let s = sum-set (λ (x : Class). length (x .members)) (decode g) i d nothing (omega (arith, length-decode g)) in
     fits-both (g .limit) (set (decode g) i d)
-    (omega (arith, s, total-sum (set (decode g) i d), total-sum (decode g), used-is g v))
+    (omega (arith, total-same (decode g) i (taken (classAt (decode g) i .constant) c), used-is g v))
     (omega (arith, length-set (decode g) i d, length-decode g, v .few))
 
 -- the constant that a call gives, as a mark

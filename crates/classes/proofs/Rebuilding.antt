@@ -14,7 +14,7 @@ use Rattle.classes.specs.Layout.{constantFrom, padded, encode, sumTo, de
 use Rattle.classes.specs.Inner.{Coded, Room, markOf}
 use Rattle.classes.specs.declared.Group.{Group}
 use Rattle.classes.specs.declared.Mark.{Mark}
-use Rattle.classes.proofs.Codec.{sizeOf, flavourIn, valueIn, set-padded, snoc-padded, paste-padded, map-append, map-set, flat-append, total-take, total-front, decode-encode, coded-encode, length-decode, used-is, sizes-is, flavours-is, values-is, members-is, size-is, flavour-is, value-is, class-ends, class-inside, members-cut}
+use Rattle.classes.proofs.Codec.{sizeOf, flavourIn, valueIn, set-padded, snoc-padded, paste-padded, map-append, map-set, flat-append, total-take, total-front, built-count, built-used, built-limit, built-classes, built-coded, length-decode, used-is, sizes-is, flavours-is, values-is, members-is, size-is, flavour-is, value-is, class-ends, class-inside, members-cut}
 use Rattle.classes.proofs.Marks.{mark-constant}
 use Rattle.classes.proofs.Places.{nothing, length-flat, flat-same, total-same, total-more, total-mergedAt, removed-gap, removed-other}
 
@@ -25,7 +25,7 @@ column-more f cs c xs n v p q r l =
     cc (snoc-padded 64 (map f cs) (f c) (omega (arith, length-map cs f)), length-map cs f, map-append f cs (c ∷ []))
 
 -- a column with a number changed
-column-set : (f : Class → ℕ) (cs : List Class) (i : ℕ) (c : Class) (xs : List ℕ) (v : ℕ)
+pub column-set : (f : Class → ℕ) (cs : List Class) (i : ℕ) (c : Class) (xs : List ℕ) (v : ℕ)
     → xs ≡ padded 64 (map f cs) → v ≡ f c → i < length cs → set xs i v ≡ padded 64 (map f (set cs i c))
 column-set f cs i c xs v p r l =
     cc (set-padded 64 (map f cs) i (f c) (omega (arith, length-map cs f)), map-set f cs i c)
@@ -180,6 +180,33 @@ module _ (out src : Group) (j : ℕ) (r : Room out src j) where
       over : m ≡ markOf (taken (classAt (decode out) (out .count - 1) .constant) (came .constant))
       over = w ∙ ap₂ (λ (x y : Constant). markOf (taken x y)) (mark-constant a (classAt (decode out) (out .count - 1) .constant) s) (mark-constant b (came .constant) t)
 
+-- a group with another constant for a class
+module _ (g : Group) (v : Coded g) (i : ℕ) (k : Constant) where
+  abbrev put : List Class
+  put = set (decode g) i (record { members = classAt (decode g) i .members; constant = k })
+
+  pub count-put : g .count ≡ length (set (decode g) i (record { members = classAt (decode g) i .members; constant = k }))
+  count-put = omega (arith, length-decode g, length-set (decode g) i (record { members = classAt (decode g) i .members; constant = k }))
+
+  pub used-put : g .used ≡ total (set (decode g) i (record { members = classAt (decode g) i .members; constant = k }))
+  used-put = sym (used-is g v) ∙ sym (total-same (decode g) i k)
+
+  pub constant-put : (fs vs : List ℕ) → fs ≡ padded 64 (map flavourIn put) → vs ≡ padded 64 (map valueIn put)
+      → _≡_ {A = Group}
+      (record { limit = g .limit; count = g .count; used = g .used; sizes = g .sizes; flavours = fs; values = vs; members = g .members })
+      (encode (g .limit) (set (decode g) i (record { members = classAt (decode g) i .members; constant = k })))
+  unfolding encode
+  constant-put fs vs p q = λ t.
+      record {
+        limit = g .limit;
+        count = count-put t;
+        used = used-put t;
+        sizes = (sizes-is g v ∙ ap (padded 64) (sym (map-set-same sizeOf (decode g) i (record { members = classAt (decode g) i .members; constant = k }) nothing refl))) t;
+        flavours = p t;
+        values = q t;
+        members = (members-is g v ∙ ap (padded 256) (sym (flat-same (decode g) i k))) t;
+      }
+
 -- a group with a constant over that of a class
 pub constant-made : (g : Group) (i : ℕ) (d : Constant) (m a : Mark) → Coded g → i < g .count
     → a ≡ markOf (classAt (decode g) i .constant) → m ≡ markOf (taken (constantFrom (a .flavour) (a .value)) d)
@@ -194,21 +221,12 @@ pub constant-made : (g : Group) (i : ℕ) (d : Constant) (m a : Mark) → Coded 
       members = g .members;
     })
     (encode (g .limit) (constantAt (decode g) i d))
-unfolding encode constantAt
-constant-made g i d m a v l s w = λ t.
-    record {
-      limit = g .limit;
-      count = counted t;
-      used = (sym (used-is g v) ∙ sym (total-same cs i k)) t;
-      sizes = (sizes-is g v ∙ ap (padded 64) (sym (map-set-same sizeOf cs i c nothing refl))) t;
-      flavours = column-set flavourIn cs i c (g .flavours) (m .flavour) (flavours-is g v) (ap (λ (x : Mark). x .flavour) over) inside t;
-      values = column-set valueIn cs i c (g .values) (m .value) (values-is g v) (ap (λ (x : Mark). x .value) over) inside t;
-      members = (members-is g v ∙ ap (padded 256) (sym (flat-same cs i k))) t;
-    }
+unfolding constantAt
+constant-made g i d m a v l s w =
+    constant-put g v i k (set (g .flavours) i (m .flavour)) (set (g .values) i (m .value))
+    (column-set flavourIn (decode g) i c (g .flavours) (m .flavour) (flavours-is g v) (ap (λ (x : Mark). x .flavour) over) inside)
+    (column-set valueIn (decode g) i c (g .values) (m .value) (values-is g v) (ap (λ (x : Mark). x .value) over) inside)
   where
-    cs : List Class
-    cs = decode g
-
     k : Constant
     k = taken (classAt (decode g) i .constant) d
 
@@ -218,9 +236,6 @@ constant-made g i d m a v l s w = λ t.
     inside : i < length (decode g)
     inside = omega (arith, length-decode g)
 
-    counted : g .count ≡ length (set (decode g) i (record { members = classAt (decode g) i .members; constant = taken (classAt (decode g) i .constant) d }))
-    counted = omega (arith, length-decode g, length-set (decode g) i (record { members = classAt (decode g) i .members; constant = taken (classAt (decode g) i .constant) d }))
-
     over : m ≡ markOf (taken (classAt (decode g) i .constant) d)
     over = w ∙ ap (λ (x : Constant). markOf (taken x d)) (mark-constant a (classAt (decode g) i .constant) s)
 
@@ -229,23 +244,13 @@ module _ (l : ℕ) (rs : List Class) (few : length rs ≤ 64) (small : total rs 
   module _ (k : ℕ) (inside : k < length rs) (out : Group) (is : out ≡ encode l (take k rs)) where
     -- a group with the first k classes
     rebuilt-count : out .count ≡ k
-    unfolding encode
-    rebuilt-count = ap (λ (g : Group). g .count) is ∙ length-take-le k rs (omega arith)
+    rebuilt-count = built-count l (take k rs) out is ∙ length-take-le k rs (omega arith)
 
     rebuilt-used : out .used ≡ total (take k rs)
-    unfolding encode
-    rebuilt-used = ap (λ (g : Group). g .used) is
-
-    rebuilt-limit : out .limit ≡ l
-    unfolding encode
-    rebuilt-limit = ap (λ (g : Group). g .limit) is
-
-    rebuilt-classes : decode out ≡ take k rs
-    rebuilt-classes = ap decode is ∙ decode-encode l (take k rs)
+    rebuilt-used = built-used l (take k rs) out is
 
     pub rebuilt-coded : Coded out
-    rebuilt-coded =
-        rw is (coded-encode l (take k rs) (omega (arith, length-take-le k rs (omega arith))) (omega (arith, total-front rs k)))
+    rebuilt-coded = built-coded l (take k rs) out is (omega (arith, length-take-le k rs (omega arith))) (omega (arith, total-front rs k))
 
     pub rebuilt-few : out .count < 64
     rebuilt-few = omega (arith, rebuilt-count)
@@ -257,7 +262,7 @@ module _ (l : ℕ) (rs : List Class) (few : length rs ≤ 64) (small : total rs 
     -- and with it the group has the first k + 1
     pub rebuilt-next : (next : Group) (c : Class) → c ≡ classAt rs k → next ≡ encode (out .limit) (decode out ++ (c ∷ [])) → next ≡ encode l (take (k + 1) rs)
     rebuilt-next next c e f =
-        f ∙ rw (rebuilt-classes, rebuilt-limit, e, add-one, take-suc rs k nothing inside)
+        f ∙ rw (built-classes l (take k rs) out is, built-limit l (take k rs) out is, e, add-one, take-suc rs k nothing inside)
 
   -- after the last
   pub rebuilt-all : (n k : ℕ) (out : Group) → n ≡ length rs → k ≤ n → n ≤ k → out ≡ encode l (take k rs) → out ≡ encode l rs

@@ -10,8 +10,8 @@ use Rattle.classes.specs.Group.{classAt, total, removed, mergedAt}
 use Rattle.classes.specs.Layout.{encode, decode}
 use Rattle.classes.specs.Inner.{Coded, Room}
 use Rattle.classes.specs.declared.Group.{Group}
-use Rattle.classes.proofs.Places.{length-removed, total-removed, length-mergedAt, total-mergedAt, mergedAt-same, mergedAt-other, total-more}
-use Rattle.classes.proofs.Codec.{decode-encode, coded-encode, length-decode, used-is, size-is}
+use Rattle.classes.proofs.Places.{length-removed, total-removed, length-mergedAt, total-mergedAt, mergedAt-same, mergedAt-other, length-more, total-more}
+use Rattle.classes.proofs.Codec.{built-count, built-used, built-limit, built-classes, built-coded, length-decode, used-is, size-is}
 use Rattle.classes.proofs.Rebuilding.{rebuilt-few, rebuilt-coded, rebuilt-room, rebuilt-next, rebuilt-all, class-removed, merged-last}
 
 -- without class i
@@ -109,21 +109,14 @@ module _ (out g : Group) (k i : ℕ) (src : Group) (j : ℕ) (p : Mergeable out 
         let b : i < length (decode g) = rw e at long in
         rw e (mergedAt-same (decode g) i (classAt (decode src) j) b)
 
+    abbrev grown : List Class
+    grown = decode out ++ (classAt (decode g) k ∷ [])
+
     next-count : next .count ≡ out .count + 1
-    unfolding encode
-    next-count =
-        ap (λ (h : Group). h .count) f ∙ length-append (decode out) (classAt (decode g) k ∷ []) ∙ rw (length-decode out)
+    next-count = omega (arith, built-count (out .limit) grown next f, length-more (decode out) (classAt (decode g) k), length-decode out)
 
     next-used : next .used ≡ out .used + length (classAt (decode g) k .members)
-    unfolding encode
-    next-used = ap (λ (h : Group). h .used) f ∙ total-more (decode out) (classAt (decode g) k) ∙ rw (used-is out (p .0 .0 .0))
-
-    next-limit : next .limit ≡ out .limit
-    unfolding encode
-    next-limit = ap (λ (h : Group). h .limit) f
-
-    next-classes : decode next ≡ decode out ++ (classAt (decode g) k ∷ [])
-    next-classes = ap decode f ∙ decode-encode (out .limit) (decode out ++ (classAt (decode g) k ∷ []))
+    next-used = omega (arith, built-used (out .limit) grown next f, total-more (decode out) (classAt (decode g) k), used-is out (p .0 .0 .0))
 
     next-fits : next .used + getD (src .sizes) j 0 ≤ 256
     next-fits =
@@ -132,9 +125,8 @@ module _ (out g : Group) (k i : ℕ) (src : Group) (j : ℕ) (p : Mergeable out 
 
     next-coded : Coded next
     next-coded =
-        let a : length (decode out ++ (classAt (decode g) k ∷ [])) ≤ 64 = omega (arith, length-append (decode out) (classAt (decode g) k ∷ []), length-decode out, p .0 .0 .1) in
-        let b : total (decode out ++ (classAt (decode g) k ∷ [])) ≤ 256 = omega (arith, total-more (decode out) (classAt (decode g) k), used-is out (p .0 .0 .0), next-used, next-fits) in
-        rw f (coded-encode (out .limit) (decode out ++ (classAt (decode g) k ∷ [])) a b)
+        built-coded (out .limit) grown next f (omega (arith, length-more (decode out) (classAt (decode g) k), length-decode out, p .0 .0 .1))
+        (omega (arith, total-more (decode out) (classAt (decode g) k), used-is out (p .0 .0 .0), next-used, next-fits))
 
     -- the other class has room
     pub merged-next-room : Room next src j × (0 < next .count)
@@ -146,7 +138,7 @@ module _ (out g : Group) (k i : ℕ) (src : Group) (j : ℕ) (p : Mergeable out 
         → r ≡ encode (out .limit) (decode out ++ (classAt (mergedAt (decode g) i (classAt (decode src) j)) k ∷ []))
     merged-made r q =
         let n : next .count - 1 ≡ length (decode out) = omega (arith, next-count, length-decode out) in
-        q ∙ rw (next-classes, next-limit, result-is) (ap (encode (out .limit)) (merged-last (decode out) (classAt (decode g) k) (classAt (decode src) j) (next .count - 1) n))
+        q ∙ rw (built-classes (out .limit) grown next f, built-limit (out .limit) grown next f, result-is) (ap (encode (out .limit)) (merged-last (decode out) (classAt (decode g) k) (classAt (decode src) j) (next .count - 1) n))
 
 -- class j of another merged into class i
 module _ (g : Group) (v : Coded g) (i : ℕ) (there : i < g .count) (src : Group) (w : Coded src) (j : ℕ) (other : j < src .count) (room : g .used + getD (src .sizes) j 0 ≤ 256) where
