@@ -6,7 +6,7 @@ use mathlib.Core.Option.{none, some}
 use mathlib.Core.Path.{_≡_, _∙_, refl}
 use native.Mathlib.Omega.{arith}
 use borrow.Author.Tests.{eq-eqb, ne-eqb, lt-ltb, le-ltb, le-leb, lt-leb, leb-true, eqb-true, eqb-false}
-use lib.Dec.{leb, eqb, ltb}
+use lib.Dec.{leb, eqb}
 use lib.ListN.{length, getD}
 use Rattle.laws.proofs.Booleans.{and-left, and-right}
 use Rattle.arena.specs.Node.{Node}

@@ -11,7 +11,7 @@ use lib.ListN.{length, getD, set, replicate}
 use lib.Seq.{getD-set-same, getD-set-other}
 use Rattle.laws.specs.Tests.{if_then_else_, each}
 use Rattle.laws.proofs.Each.{each-none, each-more, each-stops, each-ends, each-cong}
-use Rattle.arena.specs.Node.{Node, literal, nodeAt, childNumbers}
+use Rattle.arena.specs.Node.{Node, nodeAt, childNumbers}
 use Rattle.arena.specs.Arena.{Sound}
 use Rattle.arena.specs.Layout.{count, cellOf, rowOf, nodeOf, decode as nodes}
 use Rattle.arena.specs.Inner.{Known}

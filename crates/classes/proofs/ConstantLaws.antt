@@ -14,7 +14,7 @@ use Rattle.laws.proofs.First.{first-begins, first-some}
 use Rattle.arena.specs.Node.{Node, nodeAt}
 use Rattle.classes.specs.Class.{Constant, noConstant, heterogeneous, unknown, known, Class, isUniform, taken, carried, sameConstant}
 use Rattle.classes.specs.Group.{classAt, classOf, total, mergedAt, given, constantAt, classLike, constantFor, constantIn, withConstant}
-use Rattle.classes.specs.Steps.{refused, fits, judged}
+use Rattle.classes.specs.Steps.{fits, judged}
 use Rattle.classes.specs.Layout.{flavourOf, valueOf, constantFrom, knownFlavour, encode, decode}
 use Rattle.classes.specs.Calls.{changed}
 use Rattle.classes.specs.Inner.{Coded, placeOf, markOf}

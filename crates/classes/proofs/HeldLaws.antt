@@ -276,6 +276,10 @@ module _ (ns : List Node) (g : Group) (c : Checked ns g) where
           rw (class-decode g j d)
           (flavour-uniform (getD (g .flavours) j 0) (getD (g .values) j 0) (c .known j d) (c .uniform j d (p .0) n b (ap (λ (x : ℕ). isLiteral (nodeAt ns x)) is ∙ ap isLiteral q)))
 
+-- what it says where it lets a group pass
+number-checked : (cells : List ℕ) (g : Group) → groupNumber cells g ≡ 0 → Checked (nodes cells) g
+number-checked cells g e = let p = parts cells g e in checked-of (nodes cells) g (p .0) (p .2) (p .3)
+
 -- classes that are a group: good, few, and within a limit from 1 to 256
 pub record Fit (ns : List Node) (l : ℕ) (cs : List Class) : Type 0 where
   pub low : 0 < l
@@ -287,8 +291,7 @@ pub record Fit (ns : List Node) (l : ℕ) (cs : List Class) : Type 0 where
 -- a group that passes the check has such classes
 pub number-fit : (cells : List ℕ) (g : Group) → groupNumber cells g ≡ 0 → Fit (nodes cells) (g .limit) (decode g)
 number-fit cells g e =
-    let p = parts cells g e in
-    let c = checked-of (nodes cells) g (p .0) (p .2) (p .3) in
+    let c = number-checked cells g e in
     record {
       low = c .low;
       high = c .high;
@@ -301,8 +304,7 @@ number-fit cells g e =
 pub number-held : (cells : List ℕ) (g : Group) → length (g .sizes) ≡ 64 → length (g .flavours) ≡ 64 → length (g .values) ≡ 64 → length (g .members) ≡ 256
     → groupNumber cells g ≡ 0 → Held (nodes cells) g
 number-held cells g s f v m e =
-    let p = parts cells g e in
-    let c = checked-of (nodes cells) g (p .0) (p .2) (p .3) in
+    let c = number-checked cells g e in
     record {
       coded = record { coded = coded-of (nodes cells) g c s f v m; few = c .few; small = omega (arith, c .within, c .high) };
       low = c .low;
