@@ -27,4 +27,5 @@ pub mod ClearLaws
 pub mod ConstantLaws
 pub mod EquatingLaws
 pub mod Calling
+pub mod Asked
 pub mod Valid

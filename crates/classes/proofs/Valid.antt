@@ -1,4 +1,5 @@
 -- A valid group stays valid, and a refusal hands the group back as it was: for each call that hands back a group, over the functions that the contracts cite.
+-- Valid is a group that the check lets pass beside its arena: its number is 0.
 use Prim.Native.Nat.{ℕ, _+_, _≤_}
 use mathlib.Core.Bool.{Bool, true, false, _&&_}
 use mathlib.Core.List.{List, []}
