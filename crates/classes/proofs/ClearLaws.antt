@@ -1,5 +1,5 @@
 -- Clearing on the struct: which turn a class takes, and what each turn leaves.
-use Prim.Native.Nat.{ℕ, suc, _+_, _-_, _<_, _≤_}
+use Prim.Native.Nat.{ℕ, _+_, _-_, _<_, _≤_}
 use mathlib.Core.Bool.{Bool, true, false}
 use mathlib.Core.List.{List, map}
 use mathlib.Core.Path.{_≡_, refl, sym, ap, _∙_}
@@ -8,7 +8,7 @@ use borrow.Author.Tests.{eq-eqb, ne-eqb}
 use lib.ListN.{length, getD, set}
 use lib.Seq.{map-set-same}
 use Rattle.classes.specs.Class.{Constant, noConstant, heterogeneous, unknown, known, Class}
-use Rattle.classes.specs.Group.{classAt, removed, kept, dropped, gone, clearedBy, clearFrom, clear-kept, clear-dropped, clear-gone, cleared}
+use Rattle.classes.specs.Group.{classAt, removed, length-removed, kept, dropped, gone, clearedBy, clearFrom, clearRest, clear-end, clear-kept, clear-dropped, clear-gone, cleared}
 use Rattle.classes.specs.Steps.{clear}
 use Rattle.classes.specs.Layout.{flavourOf, valueOf, padded, encode, decode}
 use Rattle.classes.specs.Calls.{changed}
@@ -16,7 +16,7 @@ use Rattle.classes.specs.Inner.{Coded}
 use Rattle.classes.specs.declared.Group.{Group}
 use Rattle.classes.specs.declared.Changed.{Changed}
 use Rattle.classes.proofs.Codec.{flavourIn, valueIn, built-count, built-limit, built-classes, built-coded, length-decode, used-is, flavours-is, values-is, size-is, flavour-is}
-use Rattle.classes.proofs.Places.{nothing, length-removed, total-removed}
+use Rattle.classes.proofs.Places.{nothing, total-removed}
 use Rattle.classes.proofs.Rebuilding.{column-set, count-put, used-put, constant-put}
 
 -- only a heterogeneous constant has flavour 1
@@ -52,6 +52,11 @@ Stepped g i b h n d =
     ((Coded h × (h .limit ≡ g .limit)) × ((n ≤ h .count) × (h .count - n < g .count - i)))
     × (clearFrom (g .count - i) i b (decode g) ≡ clearFrom (h .count - n) n d (decode h))
 
+-- the classes from a place on are as many as the struct says
+count-rest : (g : Group) (i : ℕ) (b : Bool) → clearFrom (g .count - i) i b (decode g) ≡ clearRest i b (decode g)
+unfolding clearRest
+count-rest g i b = ap (λ (n : ℕ). clearFrom (n - i) i b (decode g)) (sym (length-decode g))
+
 module _ (g : Group) (v : Coded g) (i : ℕ) (l : i < g .count) (b : Bool) where
   abbrev here : Class
   here = classAt (decode g) i
@@ -61,12 +66,10 @@ module _ (g : Group) (v : Coded g) (i : ℕ) (l : i < g .count) (b : Bool) where
 
   -- a class of another flavour is passed
   pub step-kept : (getD (g .flavours) i 0 ≡ 1 → ⊥) → Stepped g i b g (i + 1) b
-  step-kept n =
-      let s : g .count - i ≡ suc (g .count - (i + 1)) = omega arith in (
-        ((v, refl), (omega arith, omega arith)),
-        ap (λ (k : ℕ). clearFrom k i b (decode g)) s
-            ∙ clear-kept (g .count - (i + 1)) i b (decode g) (turn-kept here (λ z. n (flavour-is g v i ∙ z))),
-      )
+  step-kept n = (
+    ((v, refl), (omega arith, omega arith)),
+    count-rest g i b ∙ clear-kept i b (decode g) inside (turn-kept here (λ z. n (flavour-is g v i ∙ z))) ∙ sym (count-rest g (i + 1) b),
+  )
 
   module _ (one : getD (g .flavours) i 0 ≡ 1) where
     varied : classAt (decode g) i .constant ≡ heterogeneous
@@ -86,13 +89,11 @@ module _ (g : Group) (v : Coded g) (i : ℕ) (l : i < g .count) (b : Bool) where
           (omega (arith, total-removed (decode g) i inside, used-is g v, v .small))
 
       pub step-gone : Stepped g i b h i true
-      step-gone =
-          let s : g .count - i ≡ suc (h .count - i) = omega (arith, count-gone) in (
-            ((coded-gone, built-limit (g .limit) rest h p), (omega (arith, count-gone), omega (arith, count-gone))),
-            ap (λ (k : ℕ). clearFrom k i b (decode g)) s
-                ∙ clear-gone (h .count - i) i b (decode g) (turn-gone here varied (sym (size-is g v i) ∙ size))
-                ∙ ap (λ (cs : List Class). clearFrom (h .count - i) i true cs) (sym (built-classes (g .limit) rest h p)),
-          )
+      step-gone = (
+        ((coded-gone, built-limit (g .limit) rest h p), (omega (arith, count-gone), omega (arith, count-gone))),
+        count-rest g i b ∙ clear-gone i b (decode g) inside (turn-gone here varied (sym (size-is g v i) ∙ size))
+            ∙ ap (λ (cs : List Class). clearRest i true cs) (sym (built-classes (g .limit) rest h p)) ∙ sym (count-rest h i true),
+      )
 
     -- a larger one loses its constant
     abbrev bare : Class
@@ -118,13 +119,11 @@ module _ (g : Group) (v : Coded g) (i : ℕ) (l : i < g .count) (b : Bool) where
       coded-dropped = built-coded (g .limit) lost h p (omega (arith, count-put g v i noConstant, v .few)) (omega (arith, used-put g v i noConstant, v .small))
 
       step-lost : Stepped g i b h (i + 1) true
-      step-lost =
-          let s : g .count - i ≡ suc (h .count - (i + 1)) = omega (arith, count-dropped) in (
-            ((coded-dropped, built-limit (g .limit) lost h p), (omega (arith, count-dropped), omega (arith, count-dropped))),
-            ap (λ (k : ℕ). clearFrom k i b (decode g)) s
-                ∙ clear-dropped (h .count - (i + 1)) i b (decode g) (turn-dropped here varied (λ z. more (size-is g v i ∙ z)))
-                ∙ ap (λ (cs : List Class). clearFrom (h .count - (i + 1)) (i + 1) true cs) (sym (built-classes (g .limit) lost h p)),
-          )
+      step-lost = (
+        ((coded-dropped, built-limit (g .limit) lost h p), (omega (arith, count-dropped), omega (arith, count-dropped))),
+        count-rest g i b ∙ clear-dropped i b (decode g) inside (turn-dropped here varied (λ z. more (size-is g v i ∙ z)))
+            ∙ ap (λ (cs : List Class). clearRest (i + 1) true cs) (sym (built-classes (g .limit) lost h p)) ∙ sym (count-rest h (i + 1) true),
+      )
 
     pub step-dropped : (getD (g .sizes) i 0 ≡ 1 → ⊥)
         → Stepped g i b (record { limit = g .limit; count = g .count; used = g .used; sizes = g .sizes; flavours = set (g .flavours) i 0; values = g .values; members = g .members }) (i + 1) true
@@ -133,15 +132,12 @@ module _ (g : Group) (v : Coded g) (i : ℕ) (l : i < g .count) (b : Bool) where
 -- clearing begins at the first class
 pub clear-begins : (g : Group) → cleared (decode g) ≡ clearFrom (g .count - 0) 0 false (decode g)
 unfolding cleared
-clear-begins g =
-    let e : length (decode g) ≡ g .count - 0 = omega (arith, length-decode g) in
-    ap (λ (n : ℕ). clearFrom n 0 false (decode g)) e
+clear-begins g = sym (count-rest g 0 false)
 
 -- and ends after the last
 pub clear-ends : (g h : Group) (i : ℕ) (b : Bool) → Coded h → h .limit ≡ g .limit → h .count ≤ i → cleared (decode g) ≡ clearFrom (h .count - i) i b (decode h)
     → _≡_ {A = Changed} (record { number = 0; answer = b; group = h }) (changed (g .limit) (clear (decode g)))
-unfolding changed clear clearFrom
+unfolding changed clear
 clear-ends g h i b v e l p =
-    let s : h .count - i ≡ 0 = omega arith in
-    let q : cleared (decode g) ≡ (b, decode h) = p ∙ ap (λ (n : ℕ). clearFrom n i b (decode h)) s in
+    let q : cleared (decode g) ≡ (b, decode h) = p ∙ count-rest h i b ∙ clear-end i b (decode h) (omega (arith, length-decode h)) in
     rw (q, ← e) (λ t. record { number = 0; answer = b; group = sym (v .coded) t })

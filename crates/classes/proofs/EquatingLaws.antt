@@ -16,7 +16,7 @@ use Rattle.arena.specs.Calls.{readOf}
 use Rattle.arena.specs.declared.Read.{Read}
 use Rattle.arena.specs.declared.Read.the-variants.{Column, Literal, Operation, Refused}
 use Rattle.classes.specs.Class.{Constant, Class, carried, single, merged}
-use Rattle.classes.specs.Group.{classAt, classOf, total, removed, mergedAt, pair, joined, equated, equalCondition}
+use Rattle.classes.specs.Group.{classAt, classOf, total, removed, length-removed, mergedAt, pair, joined, equated, equalCondition}
 use Rattle.classes.specs.Good.{flat}
 use Rattle.classes.specs.Steps.{fits}
 use Rattle.classes.specs.Layout.{flavourOf, valueOf, constantFrom, padded, encode, decode}
@@ -25,7 +25,7 @@ use Rattle.classes.specs.declared.Group.{Group}
 use Rattle.classes.specs.declared.Mark.{Mark}
 use Rattle.classes.proofs.Marks.{mark-constant}
 use Rattle.classes.proofs.Codec.{snoc-padded, built-count, built-used, built-limit, built-classes, built-coded, length-decode, used-is, size-is}
-use Rattle.classes.proofs.Places.{length-removed, total-removed, length-mergedAt, total-mergedAt}
+use Rattle.classes.proofs.Places.{total-removed, length-mergedAt, total-mergedAt}
 use Rattle.classes.proofs.Rebuilding.{merged-last}
 use Rattle.classes.proofs.ConstantLaws.{alone, fits-both, more-total, more-count, one-coded, one-count, one-size, one-is}
 

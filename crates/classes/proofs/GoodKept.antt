@@ -1,5 +1,5 @@
 -- A good group stays good: by an equal condition, a constant and clearing, refused or not.
-use Prim.Native.Nat.{ℕ, zero, suc, _+_, _<_, _≤_, min, max}
+use Prim.Native.Nat.{ℕ, zero, suc, _+_, _-_, _<_, _≤_, min, max}
 use mathlib.Core.Bool.{Bool, true, false}
 use mathlib.Core.List.{List, [], _∷_}
 use mathlib.Core.Logic.{_⊎_, inl, inr}
@@ -8,13 +8,13 @@ use mathlib.Core.Path.{_≡_, refl, sym, ap, _∙_, subst}
 use native.Mathlib.Decide.{ℕ-discrete, decLt}
 use native.Mathlib.Omega.{arith}
 use lib.Dec.{eqb}
-use lib.ListN.{length, set, length-append, List·getD-eq-default}
+use lib.ListN.{length, set, length-set, length-append, List·getD-eq-default}
 use Rattle.laws.specs.Tests.{if_then_else_, first}
 use Rattle.laws.proofs.Booleans.{true-not-false}
 use Rattle.laws.proofs.First.{first-some}
 use Rattle.arena.specs.Node.{Node, literal, nodeAt}
 use Rattle.classes.specs.Class.{Constant, noConstant, heterogeneous, unknown, known, Class, isUniform, taken, carried, single, merged, sameConstant}
-use Rattle.classes.specs.Group.{among, classAt, classOf, removed, pair, joined, equated, equalCondition, given, constantAt, classLike, constantFor, constantIn, withConstant, Cleared, kept, dropped, gone, clearedBy, clearFrom, clear-kept, clear-dropped, clear-gone, cleared}
+use Rattle.classes.specs.Group.{among, classAt, classOf, removed, length-removed, pair, joined, equated, equalCondition, given, constantAt, classLike, constantFor, constantIn, withConstant, Cleared, kept, dropped, gone, clearedBy, clearRest, clear-end, clear-kept, clear-dropped, clear-gone, cleared}
 use Rattle.classes.specs.Good.{Good}
 use Rattle.classes.specs.Steps.{addEqual, addConstant, clear, after}
 use Rattle.classes.proofs.Answers.{addEqual-holds, addConstant-holds}
@@ -260,25 +260,34 @@ parts-gone ns cs i p h = record {
 }
 
 -- what a dropped constant and a dropped class keep, clearing keeps
-pub clear-keeps : (P : List Class → Type 0)
-    → ((cs : List Class) (i : ℕ) → classAt cs i .constant ≡ heterogeneous → P cs → P (set cs i (record { members = classAt cs i .members; constant = noConstant })))
-    → ((cs : List Class) (i : ℕ) → classAt cs i .constant ≡ heterogeneous → P cs → P (removed cs i))
-    → (n i : ℕ) (changed : Bool) (cs : List Class) → P cs → P (clearFrom n i changed cs .1)
-unfolding clearFrom
-clear-keeps P d g zero i changed cs p = p
-clear-keeps P d g (suc n) i changed cs p = go (clearedBy (classAt cs i)) refl (clear-keeps P d g n)
-  where
-    go : (k : Cleared) → clearedBy (classAt cs i) ≡ k → ((i : ℕ) (changed : Bool) (cs : List Class) → P cs → P (clearFrom n i changed cs .1)) → P (clearFrom (suc n) i changed cs .1)
-    go kept q r = rw (clear-kept n i changed cs q) (r (i + 1) changed cs p)
-    go dropped q r =
-        rw (clear-dropped n i changed cs q) (r (i + 1) true (set cs i (record { members = classAt cs i .members; constant = noConstant })) (d cs i (changed-is (classAt cs i) dropped q (λ e. let z : _≡_ {A = ℕ} 0 1 = cc in omega arith)) p))
-    go gone q r = rw (clear-gone n i changed cs q) (r i true (removed cs i) (g cs i (changed-is (classAt cs i) gone q (λ e. let z : _≡_ {A = ℕ} 0 1 = cc in omega arith)) p))
+module _ (P : List Class → Type 0)
+    (d : (cs : List Class) (i : ℕ) → classAt cs i .constant ≡ heterogeneous → P cs → P (set cs i (record { members = classAt cs i .members; constant = noConstant })))
+    (g : (cs : List Class) (i : ℕ) → classAt cs i .constant ≡ heterogeneous → P cs → P (removed cs i)) where
+  rest-keeps : (n i : ℕ) (changed : Bool) (cs : List Class) → length cs - i ≡ n → P cs → P (clearRest i changed cs .1)
+  rest-keeps zero i changed cs e p = rw (clear-end i changed cs (omega arith)) p
+  rest-keeps (suc n) i changed cs e p = go (clearedBy (classAt cs i)) refl (rest-keeps n)
+    where
+      l : i < length cs
+      l = omega arith
+
+      go : (k : Cleared) → clearedBy (classAt cs i) ≡ k → ((i : ℕ) (changed : Bool) (cs : List Class) → length cs - i ≡ n → P cs → P (clearRest i changed cs .1)) → P (clearRest i changed cs .1)
+      go kept q r = rw (clear-kept i changed cs l q) (r (i + 1) changed cs (omega arith) p)
+      go dropped q r =
+          let ds : List Class = set cs i (record { members = classAt cs i .members; constant = noConstant }) in
+          rw (clear-dropped i changed cs l q)
+          (r (i + 1) true ds (omega (arith, length-set cs i (record { members = classAt cs i .members; constant = noConstant })))
+          (d cs i (changed-is (classAt cs i) dropped q (λ e. let z : _≡_ {A = ℕ} 0 1 = cc in omega arith)) p))
+      go gone q r =
+          rw (clear-gone i changed cs l q)
+          (r i true (removed cs i) (omega (arith, length-removed cs i)) (g cs i (changed-is (classAt cs i) gone q (λ e. let z : _≡_ {A = ℕ} 0 1 = cc in omega arith)) p))
+
+  pub clear-keeps : (cs : List Class) → P cs → P (cleared cs .1)
+  unfolding cleared
+  clear-keeps cs p = rest-keeps (length cs) 0 false cs (omega arith) p
 
 pub clear-good : (ns : List Node) (cs : List Class) → Good ns cs → Good ns (cleared cs .1)
-unfolding cleared
 clear-good ns cs g =
-    parts-good ns (cleared cs .1)
-    (clear-keeps (λ (ds : List Class). Parts ns ds) (λ ds i h p. parts-dropped ns ds i p h) (λ ds i h p. parts-gone ns ds i p h) (length cs) 0 false cs (good-parts ns cs g))
+    parts-good ns (cleared cs .1) (clear-keeps (λ (ds : List Class). Parts ns ds) (λ ds i h p. parts-dropped ns ds i p h) (λ ds i h p. parts-gone ns ds i p h) cs (good-parts ns cs g))
 
 -- no class at all
 pub empty-good : (ns : List Node) → Good ns []

@@ -15,7 +15,7 @@ use Rattle.laws.specs.Tests.{if_then_else_}
 use Rattle.laws.proofs.Booleans.{true-not-false}
 use Rattle.laws.proofs.First.{first-some, first-none, first-only, first-missing}
 use Rattle.classes.specs.Class.{Constant, noConstant, Class, merged}
-use Rattle.classes.specs.Group.{among, classAt, classOf, total, removed, mergedAt}
+use Rattle.classes.specs.Group.{among, classAt, classOf, total, removed, length-removed, mergedAt}
 use Rattle.classes.specs.Good.{flat, Distinct}
 
 -- a sum over a list
@@ -325,11 +325,6 @@ flat-class cs e h = go (classOf cs e) refl
     go (some i) q = let f = classOf-some cs e i q in (i, f .0, f .1)
 
 -- a class removed
-pub length-removed : (cs : List Class) (i : ℕ) → length (removed cs i) ≡ length cs - 1
-unfolding removed
-length-removed cs i =
-    length-set (take (length cs - 1) cs) i (classAt cs (length cs - 1)) ∙ length-take-le (length cs - 1) cs (omega arith)
-
 pub removed-gap : (cs : List Class) (i : ℕ) → i < length cs - 1 → classAt (removed cs i) i ≡ classAt cs (length cs - 1)
 unfolding removed
 removed-gap cs i l =

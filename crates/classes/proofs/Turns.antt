@@ -6,11 +6,11 @@ use native.Mathlib.Decide.{ℕ-discrete}
 use native.Mathlib.Omega.{arith}
 use lib.ListN.{length, getD, take, length-append}
 use Rattle.classes.specs.Class.{Class, merged}
-use Rattle.classes.specs.Group.{classAt, total, removed, mergedAt}
+use Rattle.classes.specs.Group.{classAt, total, removed, length-removed, mergedAt}
 use Rattle.classes.specs.Layout.{encode, decode}
 use Rattle.classes.specs.Inner.{Coded, Room}
 use Rattle.classes.specs.declared.Group.{Group}
-use Rattle.classes.proofs.Places.{length-removed, total-removed, length-mergedAt, total-mergedAt, mergedAt-same, mergedAt-other, length-more, total-more}
+use Rattle.classes.proofs.Places.{total-removed, length-mergedAt, total-mergedAt, mergedAt-same, mergedAt-other, length-more, total-more}
 use Rattle.classes.proofs.Codec.{built-count, built-used, built-limit, built-classes, built-coded, length-decode, used-is, size-is}
 use Rattle.classes.proofs.Rebuilding.{rebuilt-few, rebuilt-coded, rebuilt-room, rebuilt-next, rebuilt-all, class-removed, merged-last}
 

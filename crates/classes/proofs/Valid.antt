@@ -13,7 +13,7 @@ use Rattle.laws.proofs.Booleans.{and-left, and-right}
 use Rattle.arena.specs.Node.{Node}
 use Rattle.arena.specs.Layout.{lawful, decode as nodes}
 use Rattle.classes.specs.Class.{Constant, noConstant, Class}
-use Rattle.classes.specs.Group.{classAt, total, equalCondition, withConstant, cleared}
+use Rattle.classes.specs.Group.{classAt, total, length-removed, equalCondition, withConstant}
 use Rattle.classes.specs.Good.{Good}
 use Rattle.classes.specs.Steps.{Outcome, refused, fits, judged, addEqual, addConstant, clear}
 use Rattle.classes.specs.Layout.{encode, decode, constantFrom}
@@ -21,8 +21,9 @@ use Rattle.classes.specs.Calls.{groupNumber, opened, changed, onGroup, s
 use Rattle.classes.specs.declared.Group.{Group}
 use Rattle.classes.specs.declared.Changed.{Changed}
 use Rattle.classes.proofs.Answers.{addEqual-holds, addConstant-holds}
-use Rattle.classes.proofs.Places.{total-same, length-removed, total-removed}
+use Rattle.classes.proofs.Places.{total-same, total-removed}
 use Rattle.classes.proofs.GoodKept.{clear-keeps, heterogeneous-below, condition-good, constant-good, clear-call-good, empty-good}
+use Rattle.classes.proofs.Judging.{handedBack}
 use Rattle.classes.proofs.HeldLaws.{number-lawful, Fit, number-fit, number-held, held-number}
 
 -- from classes that are a group, a step to good ones that fit
@@ -38,12 +39,12 @@ fit-step ns l cs ds f good q = record {
 
 -- clearing makes neither more members nor more classes
 clear-fewer : (l n : ℕ) (cs : List Class) → (total cs ≤ l) × (length cs ≤ n) → (total (clear cs .classes) ≤ l) × (length (clear cs .classes) ≤ n)
-unfolding clear cleared
+unfolding clear
 clear-fewer l n cs w =
     clear-keeps (λ (ds : List Class). (total ds ≤ l) × (length ds ≤ n))
     (λ ds i h p. (omega (arith, total-same ds i noConstant, p .0), omega (arith, length-set ds i (record { members = classAt ds i .members; constant = noConstant }), p .1)))
     (λ ds i h p. (omega (arith, total-removed ds i (heterogeneous-below ds i h), p .0), omega (arith, length-removed ds i, p .1)))
-    (length cs) 0 false cs w
+    cs w
 
 module _ (cells : List ℕ) (g : Group) where
   -- where the classes of a call's outcome are good and within the limits, the group that it hands back is valid
@@ -52,7 +53,7 @@ module _ (cells : List ℕ) (g : Group) where
   unfolding onGroup changed
   valid-outcome call k e = go (eqb (groupNumber cells g) 0)
     where
-      go : (b : Bool) → groupNumber cells ((if b then changed (g .limit) (call (nodes cells) (decode g)) else record { number = groupNumber cells g; answer = false; group = g }) .group) ≡ 0
+      go : (b : Bool) → groupNumber cells ((if b then changed (g .limit) (call (nodes cells) (decode g)) else handedBack (groupNumber cells g) g) .group) ≡ 0
       go true = held-number cells (number-lawful cells g e) (g .limit) (call (nodes cells) (decode g) .classes) (k (nodes cells) (decode g) (number-fit cells g e))
       go false = e
 
@@ -74,7 +75,7 @@ module _ (cells : List ℕ) (g : Group) where
       call : List Node → List Class → Outcome
       call ns cs = addConstant true (g .limit) ns e said cs
 
-      go : (b : Bool) → groupNumber cells ((if b then onGroup call cells g else record { number = 12; answer = false; group = g }) .group) ≡ 0
+      go : (b : Bool) → groupNumber cells ((if b then onGroup call cells g else handedBack 12 g) .group) ≡ 0
       go true =
           valid-outcome call
           (λ ns cs f. addConstant-holds (λ (ds : List Class). Fit ns (g .limit) ds) (g .limit) cs f true ns e said
@@ -89,7 +90,7 @@ module _ (cells : List ℕ) (g : Group) where
 
 -- what opening comes to, by whether the limit is from 1 to 256
 abbrev openedBy : ℕ → Bool → Changed
-openedBy limit b = if b then record { number = 0; answer = true; group = encode limit [] } else record { number = 12; answer = false; group = encode 0 [] }
+openedBy limit b = if b then record { number = 0; answer = true; group = encode limit [] } else handedBack 12 (encode 0 [])
 
 -- a group that was opened is valid beside every arena
 pub valid-opened : (cells : List ℕ) → lawful cells ≡ true → (limit : ℕ) → opened limit .number ≡ 0 → groupNumber cells (opened limit .group) ≡ 0
@@ -152,7 +153,7 @@ module _ (cells : List ℕ) (g : Group) where
   refusal-keeps call k = go (eqb (groupNumber cells g) 0) refl
     where
       out : Bool → Changed
-      out b = if b then changed (g .limit) (call (nodes cells) (decode g)) else record { number = groupNumber cells g; answer = false; group = g }
+      out b = if b then changed (g .limit) (call (nodes cells) (decode g)) else handedBack (groupNumber cells g) g
 
       go : (b : Bool) → eqb (groupNumber cells g) 0 ≡ b → (out b .number ≡ 0 → ⊥) → out b .group ≡ g
       go true q z = k (eqb-true (groupNumber cells g) 0 q) z
@@ -183,7 +184,7 @@ module _ (cells : List ℕ) (g : Group) where
         said = constantFrom (flavour + 1) value
 
         out : Bool → Changed
-        out b = if b then onGroup (λ ns cs. addConstant true (g .limit) ns e said cs) cells g else record { number = 12; answer = false; group = g }
+        out b = if b then onGroup (λ ns cs. addConstant true (g .limit) ns e said cs) cells g else handedBack 12 g
 
         go : (b : Bool) → (out b .number ≡ 0 → ⊥) → out b .group ≡ g
         go true =
