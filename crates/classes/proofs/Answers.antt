@@ -1,20 +1,21 @@
--- Facts about "in one class" that hold of every list of classes, and the three ways an equal condition can come out.
-use Prim.Native.Nat.{ℕ}
+-- Facts about "in one class" that hold of every list of classes, and the ways a call can come out.
+use Prim.Native.Nat.{ℕ, _<_}
 use mathlib.Core.Bool.{Bool, true, false, _&&_}
 use mathlib.Core.List.{List, []}
 use mathlib.Core.Logic.{_⊎_, inl, inr}
 use mathlib.Core.Option.{Option, none, some}
 use mathlib.Core.Path.{_≡_, refl, sym}
 use native.Mathlib.Omega.{arith}
-use borrow.Author.Tests.{eqb-true, eq-eqb}
+use borrow.Author.Tests.{eqb-true, eq-eqb, ltb-true}
 use lib.Dec.{eqb, ltb}
 use lib.ListN.{length}
 use Rattle.laws.specs.Tests.{if_then_else_, first, firstFrom}
+use Rattle.laws.proofs.Booleans.{and-left, and-right}
 use Rattle.arena.specs.Node.{Node}
-use Rattle.classes.specs.Class.{Class}
-use Rattle.classes.specs.Group.{classOf, equalCondition}
+use Rattle.classes.specs.Class.{Constant, Class}
+use Rattle.classes.specs.Group.{classOf, equalCondition, withConstant}
 use Rattle.classes.specs.Questions.{sameClass}
-use Rattle.classes.specs.Steps.{Outcome, refused, fits, judged, addEqual}
+use Rattle.classes.specs.Steps.{Outcome, refused, fits, judged, addEqual, addConstant}
 use Rattle.classes.proofs.Step.{With}
 
 -- two expressions have one place
@@ -80,3 +81,33 @@ addEqual-cases limit ns a b cs = go (ltb a (length ns) && ltb b (length ns)) (fi
     go true true = inl (refl, refl)
     go true false = inr (refl, refl)
     go false q = inr (refl, refl)
+
+-- what holds of the classes before a call, and of its step's where they fit, holds of the classes after it
+module _ (P : List Class → Type 0) (limit : ℕ) (cs : List Class) (old : P cs) where
+  pub judged-holds : (o : Bool × List Class) → (fits limit (o .1) ≡ true → P (o .1)) → P (judged limit cs o .classes)
+  unfolding judged refused
+  judged-holds o new = go (fits limit (o .1)) refl
+    where
+      go : (t : Bool) → fits limit (o .1) ≡ t → P ((if t then record { number = 0; answer = o .0; classes = o .1 } else refused 4 cs) .classes)
+      go true q = new q
+      go false q = old
+
+  pub addEqual-holds : (ns : List Node) (a b : ℕ)
+      → (a < length ns → b < length ns → fits limit (equalCondition ns cs a b .1) ≡ true → P (equalCondition ns cs a b .1)) → P (addEqual limit ns a b cs .classes)
+  unfolding addEqual refused
+  addEqual-holds ns a b new = go (ltb a (length ns) && ltb b (length ns)) refl
+    where
+      go : (t : Bool) → (ltb a (length ns) && ltb b (length ns)) ≡ t → P ((if t then judged limit cs (equalCondition ns cs a b) else refused 1 cs) .classes)
+      go true q =
+          judged-holds (equalCondition ns cs a b)
+          (new (ltb-true a (length ns) (and-left (ltb a (length ns)) (ltb b (length ns)) q)) (ltb-true b (length ns) (and-right (ltb a (length ns)) (ltb b (length ns)) q)))
+      go false q = old
+
+  pub addConstant-holds : (two : Bool) (ns : List Node) (e : ℕ) (said : Constant)
+      → (e < length ns → fits limit (withConstant two ns cs e said) ≡ true → P (withConstant two ns cs e said)) → P (addConstant two limit ns e said cs .classes)
+  unfolding addConstant refused
+  addConstant-holds two ns e said new = go (ltb e (length ns)) refl
+    where
+      go : (t : Bool) → ltb e (length ns) ≡ t → P ((if t then judged limit cs (false, withConstant two ns cs e said) else refused 1 cs) .classes)
+      go true q = judged-holds (false, withConstant two ns cs e said) (new (ltb-true e (length ns) q))
+      go false q = old

@@ -1,32 +1,31 @@
 -- A public call on a lent group, by the check's number.
-use Rattle.classes.specs.declared.ClassIs.the-variants.{At as Class-At, Nowhere as NoClass, Refused as Class-Refused}
-use mathlib.Core.Option.{none, some}
-use Rattle.laws.proofs.Booleans.{and-left, and-right}
-use lib.Dec.{leb, eqb, ltb}
-use Rattle.classes.specs.Inner.{Coded}
-use Rattle.classes.specs.Group.{equalCondition, withConstant, classAt, classOf}
 use Prim.Native.Nat.{ℕ, _<_, _≤_, _+_}
 use mathlib.Core.Bool.{Bool, true, false, and-false, _||_, _&&_}
 use mathlib.Core.List.{List, []}
+use mathlib.Core.Option.{none, some}
 use mathlib.Core.Path.{_≡_, _∙_, refl}
 use native.Mathlib.Omega.{arith}
 use borrow.Author.Tests.{eq-eqb, ne-eqb, lt-ltb, le-ltb, le-leb, lt-leb, leb-true, eqb-true, eqb-false}
+use lib.Dec.{leb, eqb}
 use lib.ListN.{length, getD}
+use Rattle.laws.proofs.Booleans.{and-left, and-right}
 use Rattle.arena.specs.Node.{Node}
 use Rattle.arena.specs.Layout.{count, decode as nodes}
 use Rattle.arena.specs.Inner.{Known}
 use Rattle.arena.proofs.Layouts.{lawful-holds}
 use Rattle.classes.specs.Class.{Class, Constant}
+use Rattle.classes.specs.Group.{equalCondition, withConstant, classAt, classOf}
 use Rattle.classes.specs.Questions.{exprsEqual, exprConstant}
 use Rattle.classes.specs.Steps.{Outcome, refused, judged, addEqual, addConstant}
 use Rattle.classes.specs.Layout.{encode, decode, markOf, constantFrom, knownFlavour}
 use Rattle.classes.specs.Calls.{groupNumber, opened, changed, onGroup, askGroup, equalAnswer, constantAnswer, sayable, onConstant, classAnswer, classIs}
 use Rattle.classes.specs.declared.Group.{Group}
-use Rattle.classes.specs.declared.Changed.{Changed}
 use Rattle.classes.specs.declared.Answer.the-variants.{Yes, No, Refused}
 use Rattle.classes.specs.declared.ConstantIs.the-variants.{Is, Refused as Constant-Refused}
+use Rattle.classes.specs.declared.ClassIs.the-variants.{At as Class-At, Nowhere as NoClass, Refused as Class-Refused}
 use Rattle.classes.proofs.HeldLaws.{number-lawful}
 use Rattle.classes.proofs.Judging.{handedBack}
+pub use Rattle.classes.proofs.Judging.{refusal-is, handed-back}
 
 module _ (cells : List ℕ) (g : Group) where
   -- a group that the check lets pass
@@ -93,10 +92,6 @@ pub opened-in : (limit : ℕ) → (limit ≡ 0 → ⊥) → limit ≤ 256 → op
 unfolding opened
 opened-in limit z l = let h : 0 < limit = omega arith in rw (lt-ltb 0 limit h, le-leb limit 256 l)
 
--- a refusal, by its fields
-pub refusal-is : (r : Changed) (k : ℕ) (g : Group) → (r .number ≡ k) × ((r .answer ≡ false) × (r .group ≡ g)) → r ≡ handedBack k g
-refusal-is r k g p = λ i. record { number = p .0 i; answer = p .1 .0 i; group = p .1 .1 i }
-
 -- an equal condition, by its tests
 module _ (limit : ℕ) (ns : List Node) (cs : List Class) (a b : ℕ) where
   pub add-left : length ns ≤ a → addEqual limit ns a b cs ≡ refused 1 cs
@@ -120,11 +115,6 @@ module _ (limit : ℕ) (ns : List Node) (cs : List Class) (e : ℕ) (said : Cons
   pub say-known : e < length ns → addConstant true limit ns e said cs ≡ judged limit cs (false, withConstant true ns cs e said)
   unfolding addConstant
   say-known l = rw (lt-ltb _ _ l)
-
--- a refusal of a coded group hands it back
-pub handed-back : (g : Group) (k : ℕ) → Coded g → changed (g .limit) (refused k (decode g)) ≡ handedBack k g
-unfolding changed refused
-handed-back g k c = rw (c .coded)
 
 -- a flavour that can be said is small
 pub said-small : (flavour value : ℕ) → sayable flavour value ≡ true → flavour ≤ 2

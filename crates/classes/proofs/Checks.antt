@@ -1,58 +1,21 @@
--- Laws for the check of a lent group: sums of sizes, the counts, and the cells of a literal.
-use Prim.Native.Nat.{ℕ, zero, suc, _+_, _<_, _≤_}
-use mathlib.Core.Bool.{Bool, true, false, not, _&&_, _||_}
+-- Laws for the check of a lent group: the counts, and the cells of a literal.
+use Prim.Native.Nat.{ℕ, _<_, _≤_}
+use mathlib.Core.Bool.{Bool, true, not, _&&_, _||_}
 use mathlib.Core.List.{List}
-use mathlib.Core.Path.{_≡_, refl, sym, ap, _∙_}
+use mathlib.Core.Path.{_≡_, sym, ap, _∙_}
 use native.Mathlib.Decide.{ℕ-discrete}
-use native.Mathlib.Numerals.{add-one}
 use native.Mathlib.Omega.{arith}
 use borrow.Author.Tests.{eqb-true, eq-eqb, ne-eqb, leb-true}
 use lib.Dec.{eqb, ltb, leb}
 use lib.ListN.{getD}
 use Rattle.laws.specs.Tests.{each}
-use Rattle.laws.proofs.Booleans.{and-left, and-right, same-test}
+use Rattle.laws.proofs.Booleans.{and-left, and-right}
 use Rattle.arena.specs.Node.{Node, nodeAt}
 use Rattle.arena.specs.Layout.{count, cellOf, rowOf, nodeOf, decode as nodes}
 use Rattle.arena.proofs.NodeCells.{node-column, node-literal, node-operation}
 use Rattle.arena.proofs.Layouts.{node-decode, at-row-of}
 use Rattle.classes.specs.Layout.{sumTo, knownFlavour, inSet, fresh, isLiteral, uniformAt, unusedFrom, lawfulCounts, lawfulGroup}
 use Rattle.classes.specs.declared.Group.{Group}
-
-module _ (xs : List ℕ) where
-  -- the sum of none, and of one more
-  pub sum-none : sumTo xs 0 ≡ 0
-  unfolding sumTo
-  sum-none = refl
-
-  pub sum-next : (j : ℕ) → sumTo xs (j + 1) ≡ sumTo xs j + getD xs j 0
-  unfolding sumTo
-  sum-next j = rw add-one
-
-  -- the sum of more numbers is no smaller
-  pub sum-more : (j n : ℕ) → j ≤ n → sumTo xs j ≤ sumTo xs n
-  unfolding sumTo
-  sum-more j zero l = let e : j ≡ 0 = omega arith in rw e (omega arith)
-  sum-more j (suc n) l = at (ℕ-discrete j (suc n)) (λ l′. sum-more j n l′)
-    where
-      at : Dec (j ≡ suc n) → (j ≤ n → sumTo xs j ≤ sumTo xs n) → sumTo xs j ≤ sumTo xs n + getD xs n 0
-      at (yes q) r = rw q (omega arith)
-      at (no q) r = omega (arith, r (omega arith))
-
-  -- a number among the first n and what stands before it are in the sum
-  pub sum-holds : (j n : ℕ) → j < n → sumTo xs j + getD xs j 0 ≤ sumTo xs n
-  sum-holds j n l = omega (arith, sum-next j, sum-more (j + 1) n (omega arith))
-
-  -- with less left than the next number, the sum is not what was to be used up
-  pub sum-over : (n j left used : ℕ) → j < n → left + sumTo xs j ≡ used → left < getD xs j 0 → false ≡ eqb (sumTo xs n) used
-  sum-over n j left used l e o = sym (ne-eqb (sumTo xs n) used (λ q. omega (arith, sum-holds j n l)))
-
-  -- with all numbers taken, nothing is left exactly where the sum is what was to be used up
-  pub sum-all : (n j left used : ℕ) → j ≤ n → n ≤ j → left + sumTo xs j ≡ used → eqb left 0 ≡ eqb (sumTo xs n) used
-  sum-all n j left used a b e =
-      let s : sumTo xs j ≡ sumTo xs n = (let q : j ≡ n = omega arith in rw q) in
-      same-test (eqb left 0) (eqb (sumTo xs n) used)
-      (λ t. eq-eqb (sumTo xs n) used (omega (arith, eqb-true left 0 t)))
-      (λ t. eq-eqb left 0 (omega (arith, eqb-true (sumTo xs n) used t)))
 
 -- what passed counts say
 pub record Counts (g : Group) : Type 0 where

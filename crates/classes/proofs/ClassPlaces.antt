@@ -10,15 +10,15 @@ use lib.Dec.{eqb}
 use lib.ListN.{length, getD, set}
 use lib.Seq.{getD-set-same, getD-set-other}
 use Rattle.laws.proofs.Booleans.{same-test}
-use Rattle.laws.proofs.First.{first-some}
-use Rattle.laws.proofs.Table.{length-table}
 use Rattle.classes.specs.Class.{Class}
-use Rattle.classes.specs.Group.{among, classAt, classOf}
+use Rattle.classes.specs.Group.{classOf}
 use Rattle.classes.specs.Questions.{sameClass}
-use Rattle.classes.specs.Layout.{classIn, decode}
+use Rattle.classes.specs.Layout.{decode}
 use Rattle.classes.specs.Inner.{Coded, placeOf, placeNumber, Placed, samePlace}
 use Rattle.classes.specs.declared.Group.{Group}
 use Rattle.classes.specs.declared.Place.the-variants.{At, Nowhere}
+use Rattle.classes.proofs.Places.{classOf-some}
+use Rattle.classes.proofs.Codec.{length-decode}
 
 -- what the search answered
 pub place-at : (o : Option ℕ) (i : ℕ) → At i ≡ placeOf o → o ≡ some i
@@ -38,15 +38,12 @@ pub number-nowhere : (o : Option ℕ) → Nowhere ≡ placeOf o → 0 ≡ placeN
 unfolding placeNumber
 number-nowhere o e = rw (place-nowhere o e)
 
--- the place is that of a class
-pub place-below : (cs : List Class) (e i : ℕ) → classOf cs e ≡ some i → i < length cs
-unfolding classOf
-place-below cs e i q = first-some (λ j. among e (classAt cs j .members)) (length cs) i q .below
+-- the place is that of a class, and so one of 64
+pub class-below : (g : Group) (e i : ℕ) → classOf (decode g) e ≡ some i → i < g .count
+class-below g e i q = omega (arith, classOf-some (decode g) e i q .0, length-decode g)
 
--- of a struct, one that it counts, and so one of 64
 pub place-there : (g : Group) (e i : ℕ) → At i ≡ placeOf (classOf (decode g) e) → i < g .count
-unfolding decode
-place-there g e i q = omega (arith, place-below (decode g) e i (place-at (classOf (decode g) e) i q), length-table (λ j. classIn g j) (g .count))
+place-there g e i q = class-below g e i (place-at (classOf (decode g) e) i q)
 
 pub place-small : (g : Group) (e i : ℕ) → Coded g → At i ≡ placeOf (classOf (decode g) e) → i < 64
 place-small g e i c q = omega (arith, place-there g e i q, c .few)

@@ -1,24 +1,23 @@
 -- Clearing on the struct: which turn a class takes, and what each turn leaves.
-use Prim.Native.Nat.{ℕ, zero, suc, _+_, _-_, _<_, _≤_}
+use Prim.Native.Nat.{ℕ, _+_, _-_, _<_, _≤_}
 use mathlib.Core.Bool.{Bool, true, false}
-use mathlib.Core.List.{List, [], _∷_, _++_, map}
-use mathlib.Core.Path.{_≡_, refl, sym, ap, _∙_, subst}
+use mathlib.Core.List.{List, map}
+use mathlib.Core.Path.{_≡_, refl, sym, ap, _∙_}
 use native.Mathlib.Omega.{arith}
 use borrow.Author.Tests.{eq-eqb, ne-eqb}
-use lib.ListN.{length, getD, set, length-set, length-map}
+use lib.ListN.{length, getD, set}
 use lib.Seq.{map-set-same}
 use Rattle.classes.specs.Class.{Constant, noConstant, heterogeneous, unknown, known, Class}
-use Rattle.classes.specs.Group.{classAt, total, removed, kept, dropped, gone, clearedBy, clearFrom, cleared}
-use Rattle.classes.specs.Good.{flat}
+use Rattle.classes.specs.Group.{classAt, removed, length-removed, kept, dropped, gone, clearedBy, clearFrom, clearRest, clear-end, clear-kept, clear-dropped, clear-gone, cleared}
 use Rattle.classes.specs.Steps.{clear}
 use Rattle.classes.specs.Layout.{flavourOf, valueOf, padded, encode, decode}
 use Rattle.classes.specs.Calls.{changed}
 use Rattle.classes.specs.Inner.{Coded}
 use Rattle.classes.specs.declared.Group.{Group}
 use Rattle.classes.specs.declared.Changed.{Changed}
-use Rattle.classes.proofs.Codec.{sizeOf, flavourIn, valueIn, map-set, set-padded, decode-encode, coded-encode, length-decode, used-is, sizes-is, flavours-is, values-is, members-is, size-is, flavour-is}
-use Rattle.classes.proofs.Places.{nothing, sum-set, total-sum, length-removed, total-removed}
-use Rattle.classes.proofs.GoodKept.{clear-kept, clear-dropped, clear-gone}
+use Rattle.classes.proofs.Codec.{flavourIn, valueIn, built-count, built-limit, built-classes, built-coded, length-decode, used-is, flavours-is, values-is, size-is, flavour-is}
+use Rattle.classes.proofs.Places.{nothing, total-removed}
+use Rattle.classes.proofs.Rebuilding.{column-set, count-put, used-put, constant-put}
 
 -- only a heterogeneous constant has flavour 1
 flavour-one : (k : Constant) → flavourOf k ≡ 1 → k ≡ heterogeneous
@@ -47,18 +46,16 @@ turn-dropped : (c : Class) → c .constant ≡ heterogeneous → (length (c .mem
 unfolding clearedBy
 turn-dropped c e l = rw (e, ne-eqb (length (c .members)) 1 l)
 
--- the members of all classes, where one has another constant
-flat-kept : (cs : List Class) (i : ℕ) (k : Constant) → flat (set cs i (record { members = classAt cs i .members; constant = k })) ≡ flat cs
-unfolding flat
-flat-kept [] i k = refl
-flat-kept (c ∷ cs) zero k = refl
-flat-kept (c ∷ cs) (suc i) k = ap (λ (t : List ℕ). c .members ++ t) (flat-kept cs i k)
-
 -- what a step at place i is asked for: the group stays one with its limit, the rest is shorter, and clearing goes on from there
 abbrev pub Stepped : Group → ℕ → Bool → Group → ℕ → Bool → Type 0
 Stepped g i b h n d =
     ((Coded h × (h .limit ≡ g .limit)) × ((n ≤ h .count) × (h .count - n < g .count - i)))
     × (clearFrom (g .count - i) i b (decode g) ≡ clearFrom (h .count - n) n d (decode h))
+
+-- the classes from a place on are as many as the struct says
+count-rest : (g : Group) (i : ℕ) (b : Bool) → clearFrom (g .count - i) i b (decode g) ≡ clearRest i b (decode g)
+unfolding clearRest
+count-rest g i b = ap (λ (n : ℕ). clearFrom (n - i) i b (decode g)) (sym (length-decode g))
 
 module _ (g : Group) (v : Coded g) (i : ℕ) (l : i < g .count) (b : Bool) where
   abbrev here : Class
@@ -69,12 +66,10 @@ module _ (g : Group) (v : Coded g) (i : ℕ) (l : i < g .count) (b : Bool) where
 
   -- a class of another flavour is passed
   pub step-kept : (getD (g .flavours) i 0 ≡ 1 → ⊥) → Stepped g i b g (i + 1) b
-  step-kept n =
-      let s : g .count - i ≡ suc (g .count - (i + 1)) = omega arith in (
-        ((v, refl), (omega arith, omega arith)),
-        ap (λ (k : ℕ). clearFrom k i b (decode g)) s
-            ∙ clear-kept (g .count - (i + 1)) i b (decode g) (turn-kept here (λ z. n (flavour-is g v i ∙ z))),
-      )
+  step-kept n = (
+    ((v, refl), (omega arith, omega arith)),
+    count-rest g i b ∙ clear-kept i b (decode g) inside (turn-kept here (λ z. n (flavour-is g v i ∙ z))) ∙ sym (count-rest g (i + 1) b),
+  )
 
   module _ (one : getD (g .flavours) i 0 ≡ 1) where
     varied : classAt (decode g) i .constant ≡ heterogeneous
@@ -82,32 +77,23 @@ module _ (g : Group) (v : Coded g) (i : ℕ) (l : i < g .count) (b : Bool) where
 
     -- a heterogeneous class of one member goes
     module _ (size : getD (g .sizes) i 0 ≡ 1) (h : Group) (p : h ≡ encode (g .limit) (removed (decode g) i)) where
+      abbrev rest : List Class
+      rest = removed (decode g) i
+
       count-gone : h .count ≡ g .count - 1
-      unfolding encode
-      count-gone = ap (λ (x : Group). x .count) p ∙ length-removed (decode g) i ∙ ap (λ (k : ℕ). k - 1) (length-decode g)
+      count-gone = omega (arith, built-count (g .limit) rest h p, length-removed (decode g) i, length-decode g)
 
       coded-gone : Coded h
       coded-gone =
-          subst Coded (sym p)
-          (coded-encode (g .limit) (removed (decode g) i)
-          (omega (arith, length-removed (decode g) i, length-decode g, v .few))
-          (omega (arith, total-removed (decode g) i inside, used-is g v, v .small)))
-
-      limit-gone : h .limit ≡ g .limit
-      unfolding encode
-      limit-gone = ap (λ (x : Group). x .limit) p
-
-      classes-gone : decode h ≡ removed (decode g) i
-      classes-gone = ap decode p ∙ decode-encode (g .limit) (removed (decode g) i)
+          built-coded (g .limit) rest h p (omega (arith, length-removed (decode g) i, length-decode g, v .few))
+          (omega (arith, total-removed (decode g) i inside, used-is g v, v .small))
 
       pub step-gone : Stepped g i b h i true
-      step-gone =
-          let s : g .count - i ≡ suc (h .count - i) = omega (arith, count-gone) in (
-            ((coded-gone, limit-gone), (omega (arith, count-gone), omega (arith, count-gone))),
-            ap (λ (k : ℕ). clearFrom k i b (decode g)) s
-                ∙ clear-gone (h .count - i) i b (decode g) (turn-gone here varied (sym (size-is g v i) ∙ size))
-                ∙ ap (λ (cs : List Class). clearFrom (h .count - i) i true cs) (sym classes-gone),
-          )
+      step-gone = (
+        ((coded-gone, built-limit (g .limit) rest h p), (omega (arith, count-gone), omega (arith, count-gone))),
+        count-rest g i b ∙ clear-gone i b (decode g) inside (turn-gone here varied (sym (size-is g v i) ∙ size))
+            ∙ ap (λ (cs : List Class). clearRest i true cs) (sym (built-classes (g .limit) rest h p)) ∙ sym (count-rest h i true),
+      )
 
     -- a larger one loses its constant
     abbrev bare : Class
@@ -116,91 +102,42 @@ module _ (g : Group) (v : Coded g) (i : ℕ) (l : i < g .count) (b : Bool) where
     abbrev lost : List Class
     lost = set (decode g) i (record { members = classAt (decode g) i .members; constant = noConstant })
 
-    count-lost : g .count ≡ length lost
-    count-lost = omega (arith, length-set (decode g) i bare, length-decode g)
-
-    total-lost : g .used ≡ total lost
-    total-lost =
-        let s = sum-set (λ (x : Class). length (x .members)) (decode g) i bare nothing inside in
-        omega (arith, s, total-sum lost, total-sum (decode g), used-is g v)
-
     flavours-lost : set (g .flavours) i 0 ≡ padded 64 (map flavourIn lost)
     unfolding flavourOf
-    flavours-lost =
-        ap (λ (xs : List ℕ). set xs i 0) (flavours-is g v)
-        ∙ set-padded 64 (map flavourIn (decode g)) i 0 (omega (arith, length-map (decode g) flavourIn, inside))
-        ∙ ap (padded 64) (sym (map-set flavourIn (decode g) i bare))
+    flavours-lost = column-set flavourIn (decode g) i bare (g .flavours) 0 (flavours-is g v) refl inside
 
     values-lost : g .values ≡ padded 64 (map valueIn lost)
     unfolding valueOf
     values-lost =
         values-is g v ∙ ap (padded 64) (sym (map-set-same valueIn (decode g) i bare nothing (sym (ap valueOf varied))))
 
-    group-lost : _≡_ {A = Group}
-        (record {
-          limit = g .limit;
-          count = g .count;
-          used = g .used;
-          sizes = g .sizes;
-          flavours = set (g .flavours) i 0;
-          values = g .values;
-          members = g .members;
-        })
-        (encode (g .limit) lost)
-    unfolding encode
-    group-lost = λ t.
-        record {
-          limit = g .limit;
-          count = count-lost t;
-          used = total-lost t;
-          sizes = (sizes-is g v ∙ ap (padded 64) (sym (map-set-same sizeOf (decode g) i bare nothing refl))) t;
-          flavours = flavours-lost t;
-          values = values-lost t;
-          members = (members-is g v ∙ ap (padded 256) (sym (flat-kept (decode g) i noConstant))) t;
-        }
-
     module _ (more : getD (g .sizes) i 0 ≡ 1 → ⊥) (h : Group) (p : h ≡ encode (g .limit) lost) where
       count-dropped : h .count ≡ g .count
-      unfolding encode
-      count-dropped = ap (λ (x : Group). x .count) p ∙ sym count-lost
+      count-dropped = built-count (g .limit) lost h p ∙ sym (count-put g v i noConstant)
 
       coded-dropped : Coded h
-      coded-dropped =
-          subst Coded (sym p)
-          (coded-encode (g .limit) lost (omega (arith, count-lost, v .few)) (omega (arith, total-lost, v .small)))
-
-      limit-dropped : h .limit ≡ g .limit
-      unfolding encode
-      limit-dropped = ap (λ (x : Group). x .limit) p
-
-      classes-dropped : decode h ≡ lost
-      classes-dropped = ap decode p ∙ decode-encode (g .limit) lost
+      coded-dropped = built-coded (g .limit) lost h p (omega (arith, count-put g v i noConstant, v .few)) (omega (arith, used-put g v i noConstant, v .small))
 
       step-lost : Stepped g i b h (i + 1) true
-      step-lost =
-          let s : g .count - i ≡ suc (h .count - (i + 1)) = omega (arith, count-dropped) in (
-            ((coded-dropped, limit-dropped), (omega (arith, count-dropped), omega (arith, count-dropped))),
-            ap (λ (k : ℕ). clearFrom k i b (decode g)) s
-                ∙ clear-dropped (h .count - (i + 1)) i b (decode g) (turn-dropped here varied (λ z. more (size-is g v i ∙ z)))
-                ∙ ap (λ (cs : List Class). clearFrom (h .count - (i + 1)) (i + 1) true cs) (sym classes-dropped),
-          )
+      step-lost = (
+        ((coded-dropped, built-limit (g .limit) lost h p), (omega (arith, count-dropped), omega (arith, count-dropped))),
+        count-rest g i b ∙ clear-dropped i b (decode g) inside (turn-dropped here varied (λ z. more (size-is g v i ∙ z)))
+            ∙ ap (λ (cs : List Class). clearRest (i + 1) true cs) (sym (built-classes (g .limit) lost h p)) ∙ sym (count-rest h (i + 1) true),
+      )
 
     pub step-dropped : (getD (g .sizes) i 0 ≡ 1 → ⊥)
         → Stepped g i b (record { limit = g .limit; count = g .count; used = g .used; sizes = g .sizes; flavours = set (g .flavours) i 0; values = g .values; members = g .members }) (i + 1) true
-    step-dropped more = step-lost more _ group-lost
+    step-dropped more = step-lost more _ (constant-put g v i noConstant (set (g .flavours) i 0) (g .values) flavours-lost values-lost)
 
 -- clearing begins at the first class
 pub clear-begins : (g : Group) → cleared (decode g) ≡ clearFrom (g .count - 0) 0 false (decode g)
 unfolding cleared
-clear-begins g =
-    let e : length (decode g) ≡ g .count - 0 = omega (arith, length-decode g) in
-    ap (λ (n : ℕ). clearFrom n 0 false (decode g)) e
+clear-begins g = sym (count-rest g 0 false)
 
 -- and ends after the last
 pub clear-ends : (g h : Group) (i : ℕ) (b : Bool) → Coded h → h .limit ≡ g .limit → h .count ≤ i → cleared (decode g) ≡ clearFrom (h .count - i) i b (decode h)
     → _≡_ {A = Changed} (record { number = 0; answer = b; group = h }) (changed (g .limit) (clear (decode g)))
-unfolding changed clear clearFrom
+unfolding changed clear
 clear-ends g h i b v e l p =
-    let s : h .count - i ≡ 0 = omega arith in
-    let q : cleared (decode g) ≡ (b, decode h) = p ∙ ap (λ (n : ℕ). clearFrom n i b (decode h)) s in
+    let q : cleared (decode g) ≡ (b, decode h) = p ∙ count-rest h i b ∙ clear-end i b (decode h) (omega (arith, length-decode h)) in
     rw (q, ← e) (λ t. record { number = 0; answer = b; group = sym (v .coded) t })

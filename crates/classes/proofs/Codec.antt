@@ -1,24 +1,21 @@
 -- The struct of a group as the layout of a list of classes: what stands where, and that nothing is lost.
 use Prim.Native.Nat.{ℕ, zero, suc, _+_, _-_, _<_, _≤_}
 use mathlib.Core.List.{List, [], _∷_, _++_, map, append-assoc}
-use mathlib.Core.Path.{_≡_, refl, sym, ap, _∙_}
+use mathlib.Core.Path.{_≡_, refl, sym, ap, _∙_, subst}
 use native.Mathlib.Omega.{arith}
-use native.Mathlib.Numerals.{add-one}
-use native.Mathlib.Decide.{ℕ-discrete}
 use lib.ListN.{length, getD, take, drop, set, replicate, length-append, length-replicate, length-set, length-drop, List·getD-append, List·getD-map}
 use lib.Seq.{getD-append-add, set-append-left, set-at, append-snoc, take-at, drop-append-add, length-take-le, getD-take, getD-drop, paste}
 use Rattle.laws.specs.Lists.{table}
 use Rattle.laws.proofs.Table.{length-table, table-is}
-use Rattle.classes.specs.Class.{Constant, noConstant, heterogeneous, unknown, known, Class}
+use Rattle.classes.specs.Class.{Class}
 use Rattle.classes.specs.Group.{classAt, total}
 use Rattle.classes.specs.Good.{flat}
 use Rattle.classes.specs.Layout.{flavourOf, valueOf, constantFrom, padded, encode, sumTo, classIn, decode}
 use Rattle.classes.specs.Inner.{Coded}
 use Rattle.classes.specs.declared.Group.{Group}
-
--- the class past the end
-abbrev pub noClass : Class
-noClass = record { members = []; constant = noConstant }
+use Rattle.classes.proofs.Numbers.{zeros-after}
+use Rattle.classes.proofs.Marks.{constant-from}
+use Rattle.classes.proofs.Places.{nothing, length-flat}
 
 -- the number of a class's members, its flavour and its value
 abbrev pub sizeOf : Class → ℕ
@@ -29,22 +26,6 @@ flavourIn c = flavourOf (c .constant)
 
 abbrev pub valueIn : Class → ℕ
 valueIn c = valueOf (c .constant)
-
--- a constant is what its flavour and its value say
-pub constant-from : (c : Constant) → constantFrom (flavourOf c) (valueOf c) ≡ c
-unfolding constantFrom flavourOf valueOf
-constant-from noConstant = refl
-constant-from heterogeneous = refl
-constant-from unknown = refl
-constant-from (known v) = refl
-
--- zeros at the end of a list change no place
-zeros-after : (xs : List ℕ) (n i : ℕ) → getD (xs ++ replicate n 0) i 0 ≡ getD xs i 0
-zeros-after [] zero i = refl
-zeros-after [] (suc n) zero = refl
-zeros-after [] (suc n) (suc i) = zeros-after [] n i
-zeros-after (x ∷ xs) n zero = refl
-zeros-after (x ∷ xs) n (suc i) = zeros-after xs n i
 
 module _ (n : ℕ) (xs : List ℕ) where
   pub at-padded : (i : ℕ) → getD (padded n xs) i 0 ≡ getD xs i 0
@@ -90,20 +71,10 @@ map-set f (d ∷ cs) zero c = refl
 map-set f (d ∷ cs) (suc i) c = ap (λ (t : List ℕ). f d ∷ t) (map-set f cs i c)
 
 -- the members of all classes
-pub length-flat : (cs : List Class) → length (flat cs) ≡ total cs
-unfolding flat total
-length-flat [] = refl
-length-flat (c ∷ cs) = length-append (c .members) (flat cs) ∙ rw (length-flat cs)
-
 pub flat-append : (cs ds : List Class) → flat (cs ++ ds) ≡ flat cs ++ flat ds
 unfolding flat
 flat-append [] ds = refl
 flat-append (c ∷ cs) ds = rw (flat-append cs ds) (sym (append-assoc (c .members) (flat cs) (flat ds)))
-
-pub total-append : (cs ds : List Class) → total (cs ++ ds) ≡ total cs + total ds
-unfolding total
-total-append [] ds = omega arith
-total-append (c ∷ cs) ds = omega (arith, total-append cs ds)
 
 -- one class more
 pub total-take : (cs : List Class) (j : ℕ) → total (take (suc j) cs) ≡ total (take j cs) + length (classAt cs j .members)
@@ -122,7 +93,7 @@ total-front (c ∷ cs) zero = omega arith
 total-front (c ∷ cs) (suc j) = omega (arith, total-front cs j)
 
 -- a member by its place in the table
-at-flat : (cs : List Class) (j k : ℕ) → k < length (classAt cs j .members) → getD (flat cs) (total (take j cs) + k) 0 ≡ getD (classAt cs j .members) k 0
+pub at-flat : (cs : List Class) (j k : ℕ) → k < length (classAt cs j .members) → getD (flat cs) (total (take j cs) + k) 0 ≡ getD (classAt cs j .members) k 0
 unfolding flat total
 at-flat [] j k l = absurd (omega arith)
 at-flat (c ∷ cs) zero k l =
@@ -136,15 +107,15 @@ module _ (l : ℕ) (cs : List Class) where
   -- the numbers of a class in its columns
   pub size-encode : (j : ℕ) → getD (encode l cs .sizes) j 0 ≡ length (classAt cs j .members)
   unfolding encode
-  size-encode j = at-padded 64 (map sizeOf cs) j ∙ List·getD-map sizeOf cs j noClass
+  size-encode j = at-padded 64 (map sizeOf cs) j ∙ List·getD-map sizeOf cs j nothing
 
   pub flavour-encode : (j : ℕ) → getD (encode l cs .flavours) j 0 ≡ flavourOf (classAt cs j .constant)
   unfolding encode flavourOf
-  flavour-encode j = at-padded 64 (map flavourIn cs) j ∙ List·getD-map flavourIn cs j noClass
+  flavour-encode j = at-padded 64 (map flavourIn cs) j ∙ List·getD-map flavourIn cs j nothing
 
   pub value-encode : (j : ℕ) → getD (encode l cs .values) j 0 ≡ valueOf (classAt cs j .constant)
   unfolding encode valueOf
-  value-encode j = at-padded 64 (map valueIn cs) j ∙ List·getD-map valueIn cs j noClass
+  value-encode j = at-padded 64 (map valueIn cs) j ∙ List·getD-map valueIn cs j nothing
 
   -- a class starts after the members of those before it
   pub start-encode : (j : ℕ) → sumTo (encode l cs .sizes) j ≡ total (take j cs)
@@ -152,10 +123,14 @@ module _ (l : ℕ) (cs : List Class) where
   start-encode zero = refl
   start-encode (suc j) = rw (start-encode j, size-encode j) (sym (total-take cs j))
 
-  -- its members from there on
-  pub member-encode : (j k : ℕ) → k < length (classAt cs j .members) → getD (encode l cs .members) (sumTo (encode l cs .sizes) j + k) 0 ≡ getD (classAt cs j .members) k 0
+  -- the members in their table
+  pub flat-encode : (k : ℕ) → getD (encode l cs .members) k 0 ≡ getD (flat cs) k 0
   unfolding encode
-  member-encode j k b = rw (start-encode j) (at-padded 256 (flat cs) (total (take j cs) + k) ∙ at-flat cs j k b)
+  flat-encode k = at-padded 256 (flat cs) k
+
+  -- those of a class from there on
+  pub member-encode : (j k : ℕ) → k < length (classAt cs j .members) → getD (encode l cs .members) (sumTo (encode l cs .sizes) j + k) 0 ≡ getD (classAt cs j .members) k 0
+  member-encode j k b = rw (start-encode j) (flat-encode (total (take j cs) + k) ∙ at-flat cs j k b)
 
   -- a class of the struct is the class
   pub class-encode : (j : ℕ) → classIn (encode l cs) j ≡ classAt cs j
@@ -171,12 +146,32 @@ module _ (l : ℕ) (cs : List Class) where
   -- nothing is lost
   pub decode-encode : decode (encode l cs) ≡ cs
   unfolding decode encode
-  decode-encode = sym (table-is (λ j. classIn (encode l cs) j) (length cs) cs noClass refl (λ j b. sym (class-encode j)))
+  decode-encode = sym (table-is (λ j. classIn (encode l cs) j) (length cs) cs nothing refl (λ j b. sym (class-encode j)))
 
   -- few classes with few members are a group
   pub coded-encode : length cs ≤ 64 → total cs ≤ 256 → Coded (encode l cs)
   unfolding encode
   coded-encode few small = record { coded = ap (encode l) decode-encode; few = few; small = small }
+
+-- a struct that was built from classes
+module _ (l : ℕ) (cs : List Class) (h : Group) (p : h ≡ encode l cs) where
+  pub built-count : h .count ≡ length cs
+  unfolding encode
+  built-count = ap (λ (x : Group). x .count) p
+
+  pub built-used : h .used ≡ total cs
+  unfolding encode
+  built-used = ap (λ (x : Group). x .used) p
+
+  pub built-limit : h .limit ≡ l
+  unfolding encode
+  built-limit = ap (λ (x : Group). x .limit) p
+
+  pub built-classes : decode h ≡ cs
+  built-classes = ap decode p ∙ decode-encode l cs
+
+  pub built-coded : length cs ≤ 64 → total cs ≤ 256 → Coded h
+  built-coded few small = subst Coded (sym p) (coded-encode l cs few small)
 
 -- the classes are as many as the struct says
 pub length-decode : (g : Group) → length (decode g) ≡ g .count
@@ -252,17 +247,3 @@ module _ (g : Group) (v : Coded g) where
 
       f : ℕ → ℕ
       f k = getD (g .members) (s + k) 0
-
--- sums
-pub sum-more : (xs : List ℕ) (i : ℕ) → sumTo xs (i + 1) ≡ sumTo xs i + getD xs i 0
-unfolding sumTo
-sum-more xs i = rw add-one
-
-pub sum-upto : (xs : List ℕ) (i j : ℕ) → i ≤ j → sumTo xs i ≤ sumTo xs j
-unfolding sumTo
-sum-upto xs i zero l = let e : i ≡ 0 = omega arith in rw e (omega arith)
-sum-upto xs i (suc j) l = at (ℕ-discrete i (suc j)) (λ b. sum-upto xs i j b)
-  where
-    at : Dec (i ≡ suc j) → (i ≤ j → sumTo xs i ≤ sumTo xs j) → sumTo xs i ≤ sumTo xs j + getD xs j 0
-    at (yes e) r = rw e (omega arith)
-    at (no e) r = omega (arith, r (omega arith))

@@ -14,11 +14,11 @@ use Rattle.laws.specs.Tests.{if_then_else_}
 use Rattle.laws.proofs.Booleans.{true-not-false}
 use Rattle.arena.specs.Node.{Node}
 use Rattle.classes.specs.Class.{Class, single, merged}
-use Rattle.classes.specs.Group.{among, classAt, classOf, removed, mergedAt, pair, joined, equated, equalCondition}
+use Rattle.classes.specs.Group.{among, classAt, classOf, removed, length-removed, mergedAt, pair, joined, equated, equalCondition}
 use Rattle.classes.specs.Questions.{sameClass}
 use Rattle.classes.specs.Good.{flat, Distinct}
 use Rattle.classes.proofs.Step.{With, Step}
-use Rattle.classes.proofs.Places.{count, count-append, count-same, count-other, among-left, among-right, among-either, among-never, among-one, one-among, counts, Once, distinct-once, once-distinct, one-class, classOf-some, classOf-none, classOf-one, length-removed, removed-gap, removed-other, counts-removed, length-mergedAt, mergedAt-same, mergedAt-other, counts-mergedAt, counts-more, more-old, more-new, length-more}
+use Rattle.classes.proofs.Places.{count, count-append, count-same, count-other, among-left, among-right, among-either, among-never, among-one, one-among, counts, Once, distinct-once, once-distinct, one-class, classOf-some, classOf-none, classOf-one, removed-gap, removed-other, counts-removed, length-mergedAt, mergedAt-same, mergedAt-other, counts-mergedAt, counts-more, more-old, more-new, length-more}
 
 -- one class holds both
 pub record Together (cs : List Class) (x y : ℕ) : Type 0 where

@@ -11,7 +11,7 @@ use lib.ListN.{length, getD, set, replicate}
 use lib.Seq.{getD-set-same, getD-set-other}
 use Rattle.laws.specs.Tests.{if_then_else_, each}
 use Rattle.laws.proofs.Each.{each-none, each-more, each-stops, each-ends, each-cong}
-use Rattle.arena.specs.Node.{Node, literal, nodeAt, childNumbers}
+use Rattle.arena.specs.Node.{Node, nodeAt, childNumbers}
 use Rattle.arena.specs.Arena.{Sound}
 use Rattle.arena.specs.Layout.{count, cellOf, rowOf, nodeOf, decode as nodes}
 use Rattle.arena.specs.Inner.{Known}
@@ -25,6 +25,7 @@ use Rattle.classes.specs.Layout.{flavourOf, valueOf}
 use Rattle.classes.specs.Inner.{markOf, placeOf, markedBy, Marked, ToldConstant, AskedConstant, AnsweredConstant, AskedConstants, AnsweredConstants}
 use Rattle.classes.specs.declared.Mark.{Mark}
 use Rattle.classes.specs.declared.Place.the-variants.{At, Nowhere}
+use Rattle.classes.proofs.Numbers.{zeros-at}
 use Rattle.classes.proofs.Asking.{constant-by-is, child-under}
 use Rattle.classes.proofs.ClassPlaces.{place-at, place-nowhere}
 use Rattle.classes.proofs.Equality.{Children, known-inside}
@@ -243,12 +244,7 @@ module _ (s marks seen₀ : List ℕ) (e n : ℕ) (q : AskedConstants s marks se
 
 -- a fresh table says nothing
 pub fresh-constant : (ns : List Node) (marks : List ℕ) (n : ℕ) → ToldConstant ns marks (replicate n 0)
-fresh-constant ns marks n e h = absurd (let z = zero-at n e in omega arith)
-  where
-    zero-at : (n i : ℕ) → getD (replicate {A = ℕ} n 0) i 0 ≡ 0
-    zero-at zero i = refl
-    zero-at (suc n) zero = refl
-    zero-at (suc n) (suc i) = zero-at n i
+fresh-constant ns marks n e h = absurd (let z = zeros-at n e in omega arith)
 
 -- the constant of a class, by the answer of the search
 pub mark-at : (cs : List Class) (e i : ℕ) (m : Mark) → At i ≡ placeOf (classOf cs e) → m ≡ markOf (classAt cs i .constant) → m ≡ markOf (classConstant cs e)

@@ -1,21 +1,20 @@
 -- Constants on the struct: two of them compared as marks, the first class with an equal one, and what a call with a constant comes to.
 use Prim.Native.Nat.{ℕ, _+_, _-_, _<_, _≤_}
-use mathlib.Core.Bool.{Bool, true, false, _&&_, _||_}
+use mathlib.Core.Bool.{Bool, true, false, _&&_}
 use mathlib.Core.List.{List, [], _∷_, _++_}
 use mathlib.Core.Option.{Option, none, some}
 use mathlib.Core.Path.{_≡_, refl, sym, ap, _∙_, subst}
-use native.Mathlib.Decide.{ℕ-discrete}
 use native.Mathlib.Omega.{arith}
-use borrow.Author.Tests.{eqb-true, leb-true, eq-eqb, ne-eqb, le-leb, lt-leb}
+use borrow.Author.Tests.{eq-eqb, ne-eqb, le-leb, lt-leb}
 use lib.Dec.{eqb, leb}
 use lib.ListN.{length, getD, set, length-set}
 use Rattle.laws.specs.Tests.{firstFrom}
-use Rattle.laws.proofs.Booleans.{and-left, and-right, and-both, and-fails-left, and-fails-right}
+use Rattle.laws.proofs.Booleans.{and-both, and-fails-left, and-fails-right}
 use Rattle.laws.proofs.First.{first-begins, first-some}
 use Rattle.arena.specs.Node.{Node, nodeAt}
 use Rattle.classes.specs.Class.{Constant, noConstant, heterogeneous, unknown, known, Class, isUniform, taken, carried, sameConstant}
 use Rattle.classes.specs.Group.{classAt, classOf, total, mergedAt, given, constantAt, classLike, constantFor, constantIn, withConstant}
-use Rattle.classes.specs.Steps.{refused, fits, judged}
+use Rattle.classes.specs.Steps.{fits, judged}
 use Rattle.classes.specs.Layout.{flavourOf, valueOf, constantFrom, knownFlavour, encode, decode}
 use Rattle.classes.specs.Calls.{changed}
 use Rattle.classes.specs.Inner.{Coded, placeOf, markOf}
@@ -23,54 +22,15 @@ use Rattle.classes.specs.declared.Group.{Group}
 use Rattle.classes.specs.declared.Mark.{Mark}
 use Rattle.classes.specs.declared.Changed.{Changed}
 use Rattle.classes.specs.declared.Place.the-variants.{At, Nowhere}
-use Rattle.classes.proofs.Codec.{constant-from, size-encode, decode-encode, coded-encode, length-decode, used-is}
-use Rattle.classes.proofs.Places.{nothing, sum-set, total-sum, length-mergedAt, total-mergedAt, length-more, total-more}
+use Rattle.classes.proofs.Judging as judging
+use Rattle.classes.proofs.ClassPlaces as places
+use Rattle.classes.proofs.Marks.{mark-constant, flavour-known, flavour-back, value-back, uniform-high, uniform-low}
+use Rattle.classes.proofs.Codec.{size-encode, decode-encode, coded-encode, length-decode, used-is}
+use Rattle.classes.proofs.Places.{total-same, length-mergedAt, total-mergedAt, length-more, total-more}
 
--- a constant's mark is a known one
-pub known-mark : (c : Constant) → knownFlavour (flavourOf c) (valueOf c) ≡ true
-unfolding knownFlavour flavourOf valueOf
-known-mark noConstant = refl
-known-mark heterogeneous = refl
-known-mark unknown = refl
-known-mark (known v) = refl
-
--- the same of a mark that is a constant's
-module _ (m : Mark) (c : Constant) (p : m ≡ markOf c) where
-  pub mark-known : knownFlavour (m .flavour) (m .value) ≡ true
-  mark-known = subst (λ (n : Mark). knownFlavour (n .flavour) (n .value) ≡ true) (sym p) (known-mark c)
-
-  pub mark-constant : constantFrom (m .flavour) (m .value) ≡ c
-  mark-constant = subst (λ (n : Mark). constantFrom (n .flavour) (n .value) ≡ c) (sym p) (constant-from c)
-
--- a known flavour and value are those of the constant that they say
-module _ (f v : ℕ) (k : knownFlavour f v ≡ true) where
-  few-flavours : f ≤ 3
-  unfolding knownFlavour
-  few-flavours = leb-true f 3 (and-left (leb f 3) (eqb f 3 || eqb v 0) k)
-
-  no-value : (f ≡ 3 → ⊥) → v ≡ 0
-  unfolding knownFlavour
-  no-value n = eqb-true v 0 (rw (ne-eqb f 3 n) at (and-right (leb f 3) (eqb f 3 || eqb v 0) k))
-
-  pub flavour-said : flavourOf (constantFrom f v) ≡ f
-  unfolding constantFrom flavourOf
-  flavour-said = at (ℕ-discrete f 1) (ℕ-discrete f 2) (ℕ-discrete f 3)
-    where
-      at : Dec (f ≡ 1) → Dec (f ≡ 2) → Dec (f ≡ 3) → flavourOf (constantFrom f v) ≡ f
-      at (yes a) b c = rw (eq-eqb f 1 a) (sym a)
-      at (no a) (yes b) c = rw (ne-eqb f 1 a, eq-eqb f 2 b) (sym b)
-      at (no a) (no b) (yes c) = rw (ne-eqb f 1 a, ne-eqb f 2 b, eq-eqb f 3 c) (sym c)
-      at (no a) (no b) (no c) = rw (ne-eqb f 1 a, ne-eqb f 2 b, ne-eqb f 3 c) (omega (arith, few-flavours))
-
-  pub value-said : valueOf (constantFrom f v) ≡ v
-  unfolding constantFrom valueOf
-  value-said = at (ℕ-discrete f 1) (ℕ-discrete f 2) (ℕ-discrete f 3)
-    where
-      at : Dec (f ≡ 1) → Dec (f ≡ 2) → Dec (f ≡ 3) → valueOf (constantFrom f v) ≡ v
-      at (yes a) b c = rw (eq-eqb f 1 a) (sym (no-value (λ z. omega arith)))
-      at (no a) (yes b) c = rw (ne-eqb f 1 a, eq-eqb f 2 b) (sym (no-value (λ z. omega arith)))
-      at (no a) (no b) (yes c) = rw (ne-eqb f 1 a, ne-eqb f 2 b, eq-eqb f 3 c)
-      at (no a) (no b) (no c) = rw (ne-eqb f 1 a, ne-eqb f 2 b, ne-eqb f 3 c) (sym (no-value c))
+-- a mark that is a constant's is a known one
+pub mark-known : (m : Mark) (c : Constant) → m ≡ markOf c → knownFlavour (m .flavour) (m .value) ≡ true
+mark-known m c p = subst (λ (n : Mark). knownFlavour (n .flavour) (n .value) ≡ true) (sym p) (flavour-known c)
 
 -- two constants are equal where their flavours and their values are
 same-constants : (c d : Constant) → sameConstant true c d ≡ (eqb (flavourOf c) (flavourOf d) && eqb (valueOf c) (valueOf d))
@@ -96,28 +56,13 @@ module _ (f v g w : ℕ) (k : knownFlavour f v ≡ true) (l : knownFlavour g w �
   same-marks : sameConstant true (constantFrom f v) (constantFrom g w) ≡ (eqb f g && eqb v w)
   same-marks =
       same-constants (constantFrom f v) (constantFrom g w)
-      ∙ cc (flavour-said f v k, value-said f v k, flavour-said g w l, value-said g w l)
+      ∙ cc (flavour-back f v k, value-back f v k, flavour-back g w l, value-back g w l)
 
   pub marks-differ : (f ≡ g → ⊥) → false ≡ sameConstant true (constantFrom f v) (constantFrom g w)
   marks-differ n = sym (same-marks ∙ and-fails-left (eqb f g) (eqb v w) (ne-eqb f g n))
 
   pub marks-meet : f ≡ g → eqb v w ≡ sameConstant true (constantFrom f v) (constantFrom g w)
   marks-meet e = sym (same-marks ∙ ap (λ (b : Bool). b && eqb v w) (eq-eqb f g e))
-
--- a uniform constant by its flavour
-uniform-high : (c : Constant) → 2 ≤ flavourOf c → isUniform c ≡ true
-unfolding flavourOf isUniform
-uniform-high noConstant l = absurd (omega arith)
-uniform-high heterogeneous l = absurd (omega arith)
-uniform-high unknown l = refl
-uniform-high (known v) l = refl
-
-uniform-low : (c : Constant) → flavourOf c < 2 → isUniform c ≡ false
-unfolding flavourOf isUniform
-uniform-low noConstant l = refl
-uniform-low heterogeneous l = refl
-uniform-low unknown l = absurd (omega arith)
-uniform-low (known v) l = absurd (omega arith)
 
 -- class i has an equal constant
 abbrev pub Like : Group → Constant → ℕ → Bool
@@ -130,13 +75,13 @@ module _ (g : Group) (m : Mark) (k : knownFlavour (m .flavour) (m .value) ≡ tr
   -- none is looked for where it is not uniform
   pub like-none : m .flavour < 2 → classLike true (decode g) (constantFrom (m .flavour) (m .value)) ≡ none
   unfolding classLike
-  like-none l = rw (uniform-low said (omega (arith, flavour-said (m .flavour) (m .value) k)))
+  like-none l = rw (uniform-low said (omega (arith, flavour-back (m .flavour) (m .value) k)))
 
   -- else the search begins at the first class
   pub like-begins : 2 ≤ m .flavour → classLike true (decode g) (constantFrom (m .flavour) (m .value)) ≡ firstFrom (Like g (constantFrom (m .flavour) (m .value))) (g .count - 0) 0
   unfolding classLike
   like-begins l =
-      rw (uniform-high said (omega (arith, flavour-said (m .flavour) (m .value) k)), length-decode g) (first-begins (Like g said) (g .count))
+      rw (uniform-high said (omega (arith, flavour-back (m .flavour) (m .value) k)), length-decode g) (first-begins (Like g said) (g .count))
 
 -- the code's test of class i
 pub like-test : (m : Mark) (c d : Constant) (b : Bool) → m ≡ markOf d → b ≡ sameConstant true (constantFrom (m .flavour) (m .value)) c → sameConstant true d c ≡ b
@@ -153,12 +98,10 @@ like-below g c i e = at (isUniform c) refl
 
 -- what the answer of a search says
 pub place-at : (o : Option ℕ) (i : ℕ) → placeOf o ≡ At i → o ≡ some i
-place-at (some j) i e = let q : j ≡ i = cc in ap {B = Option ℕ} some q
-place-at none i e = absurd (let z : _≡_ {A = ℕ} 0 1 = cc in omega arith)
+place-at o i e = places.place-at o i (sym e)
 
 pub place-nowhere : (o : Option ℕ) → placeOf o ≡ Nowhere → o ≡ none
-place-nowhere (some j) e = absurd (let z : _≡_ {A = ℕ} 0 1 = cc in omega arith)
-place-nowhere none e = refl
+place-nowhere o e = places.place-nowhere o (sym e)
 
 -- the limits after a step
 module _ (limit : ℕ) (cs : List Class) where
@@ -179,8 +122,8 @@ module _ (g : Group) (v : Coded g) where
   -- where the step does not fit
   pub refusal-is : (r : Changed) (b : Bool) (cs : List Class) → (r .number ≡ 4) × ((r .answer ≡ false) × (r .group ≡ g)) → fits (g .limit) cs ≡ false
       → r ≡ changed (g .limit) (judged (g .limit) (decode g) (b, cs))
-  unfolding changed judged refused
-  refusal-is r b cs p f = rw f (λ i. record { number = p .0 i; answer = p .1 .0 i; group = (p .1 .1 ∙ sym (v .coded)) i })
+  unfolding judged
+  refusal-is r b cs p f = rw f (judging.refusal-is r 4 g p ∙ sym (judging.handed-back g 4 v))
 
   -- where it fits
   pub accepted-is : (b : Bool) (cs : List Class) (h : Group) → fits (g .limit) cs ≡ true → h ≡ encode (g .limit) cs
@@ -220,34 +163,41 @@ module _ (g : Group) (v : Coded g) (i : ℕ) (l : i < g .count) (e : ℕ) (c : C
       fits-both (g .limit) (mergedAt (decode g) i (alone e c)) (omega (arith, pushed))
       (omega (arith, length-mergedAt (decode g) i (alone e c), length-decode g, v .few))
 
--- or makes a new class
+-- a new class at the end
+module _ (g : Group) (v : Coded g) (c : Class) where
+  pub more-total : total (decode g ++ (c ∷ [])) ≡ g .used + length (c .members)
+  more-total = omega (arith, total-more (decode g) c, used-is g v)
+
+  pub more-count : length (decode g ++ (c ∷ [])) ≡ g .count + 1
+  more-count = omega (arith, length-more (decode g) c, length-decode g)
+
+  pub more-many : 64 ≤ g .count → fits (g .limit) (decode g ++ (c ∷ [])) ≡ false
+  more-many h = fits-many (g .limit) (decode g ++ (c ∷ [])) (omega (arith, more-count))
+
+  pub more-full : g .limit < g .used + length (c .members) → fits (g .limit) (decode g ++ (c ∷ [])) ≡ false
+  more-full h = fits-full (g .limit) (decode g ++ (c ∷ [])) (omega (arith, more-total))
+
+  pub more-room : g .count < 64 → g .used + length (c .members) ≤ g .limit → fits (g .limit) (decode g ++ (c ∷ [])) ≡ true
+  more-room a b = fits-both (g .limit) (decode g ++ (c ∷ [])) (omega (arith, more-total)) (omega (arith, more-count))
+
+-- one of one member
 module _ (g : Group) (v : Coded g) (e : ℕ) (c : Constant) where
-  abbrev opened : List Class
-  opened = decode g ++ (alone e c ∷ [])
-
-  held : total opened ≡ g .used + 1
-  held = omega (arith, total-more (decode g) (alone e c), used-is g v)
-
-  counted : length opened ≡ g .count + 1
-  counted = omega (arith, length-more (decode g) (alone e c), length-decode g)
-
   pub open-many : 64 ≤ g .count → fits (g .limit) (decode g ++ (alone e c ∷ [])) ≡ false
-  open-many h = fits-many (g .limit) opened (omega (arith, counted))
+  open-many h = more-many g v (alone e c) h
 
   pub open-full : g .limit ≤ g .used → fits (g .limit) (decode g ++ (alone e c ∷ [])) ≡ false
-  open-full h = fits-full (g .limit) opened (omega (arith, held))
+  open-full h = more-full g v (alone e c) (omega arith)
 
   pub open-room : g .count < 64 → g .used < g .limit → fits (g .limit) (decode g ++ (alone e c ∷ [])) ≡ true
-  open-room a b = fits-both (g .limit) opened (omega (arith, held)) (omega (arith, counted))
+  open-room a b = more-room g v (alone e c) a (omega arith)
 
 -- a constant over that of class i changes no number
 pub constant-fits : (g : Group) (v : Coded g) (i : ℕ) (c : Constant) → i < g .count → g .used ≤ g .limit → fits (g .limit) (constantAt (decode g) i c) ≡ true
 unfolding constantAt
 constant-fits g v i c l b =
     let d : Class = record { members = classAt (decode g) i .members; constant = taken (classAt (decode g) i .constant) c } in
-    let s = sum-set (λ (x : Class). length (x .members)) (decode g) i d nothing (omega (arith, length-decode g)) in
     fits-both (g .limit) (set (decode g) i d)
-    (omega (arith, s, total-sum (set (decode g) i d), total-sum (decode g), used-is g v))
+    (omega (arith, total-same (decode g) i (taken (classAt (decode g) i .constant) c), used-is g v))
     (omega (arith, length-set (decode g) i d, length-decode g, v .few))
 
 -- the constant that a call gives, as a mark

@@ -1,19 +1,18 @@
 -- The first three sentences of demand 3, over the functions that the contracts cite: for any limit and any sequence of equal conditions, refused ones included.
 use Prim.Native.Nat.{ℕ, _<_}
-use mathlib.Core.Bool.{true, false}
+use mathlib.Core.Bool.{true}
 use mathlib.Core.List.{List, []}
-use mathlib.Core.Logic.{_↔_, _⊎_, inl, inr}
-use mathlib.Core.Path.{_≡_, sym, subst}
+use mathlib.Core.Logic.{_↔_}
+use mathlib.Core.Path.{_≡_}
 use native.Mathlib.Omega.{arith}
 use lib.ListN.{length}
 use Rattle.arena.specs.Node.{Node}
 use Rattle.arena.specs.Arena.{Sound}
 use Rattle.classes.specs.Class.{Class}
-use Rattle.classes.specs.Group.{equalCondition}
 use Rattle.classes.specs.Good.{flat, Distinct}
 use Rattle.classes.specs.Questions.{sameClass, exprsEqual}
 use Rattle.classes.specs.Steps.{Chain, addEqual, after, accepted}
-use Rattle.classes.proofs.Answers.{addEqual-cases}
+use Rattle.classes.proofs.Answers.{addEqual-holds}
 use Rattle.classes.proofs.Chains as chains
 use Rattle.classes.proofs.Asking as asking
 use Rattle.classes.proofs.Conditions.{condition-step, condition-distinct}
@@ -29,12 +28,7 @@ apart-none = record { apart = λ i j a b e. omega arith }
 
 -- and no equal condition makes one
 pub apart-kept : (ns : List Node) (limit : ℕ) (cs : List Class) → Apart cs → (a b : ℕ) → Apart (addEqual limit ns a b cs .classes)
-apart-kept ns limit cs h a b = go (addEqual-cases limit ns a b cs)
-  where
-    go : ((addEqual limit ns a b cs .number ≡ 0) × (addEqual limit ns a b cs .classes ≡ equalCondition ns cs a b .1))
-        ⊎ ((lib.Dec.eqb (addEqual limit ns a b cs .number) 0 ≡ false) × (addEqual limit ns a b cs .classes ≡ cs)) → Apart (addEqual limit ns a b cs .classes)
-    go (inl p) = subst Apart (sym (p .1)) (condition-distinct ns cs h a b)
-    go (inr p) = subst Apart (sym (p .1)) h
+apart-kept ns limit cs h a b = addEqual-holds (λ (ds : List Class). Apart ds) limit cs h ns a b (λ la lb q. condition-distinct ns cs h a b)
 
 module _ (ns : List Node) where
   -- two different expressions are in one class exactly when a chain of accepted pairs joins them

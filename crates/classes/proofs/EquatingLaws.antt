@@ -3,7 +3,7 @@ use Prim.Native.Nat.{ℕ, _+_, _-_, _<_, _≤_}
 use mathlib.Core.Bool.{true, false}
 use mathlib.Core.List.{List, [], _∷_, _++_}
 use mathlib.Core.Option.{none, some}
-use mathlib.Core.Path.{_≡_, refl, sym, ap, _∙_, subst}
+use mathlib.Core.Path.{_≡_, refl, sym, ap, _∙_}
 use native.Mathlib.Nat.{max-comm, min-comm, max-eq-right, min-eq-left}
 use native.Mathlib.Decide.{ℕ-discrete, decLt}
 use native.Mathlib.Omega.{arith}
@@ -16,17 +16,18 @@ use Rattle.arena.specs.Calls.{readOf}
 use Rattle.arena.specs.declared.Read.{Read}
 use Rattle.arena.specs.declared.Read.the-variants.{Column, Literal, Operation, Refused}
 use Rattle.classes.specs.Class.{Constant, Class, carried, single, merged}
-use Rattle.classes.specs.Group.{classAt, classOf, total, removed, mergedAt, pair, joined, equated, equalCondition}
+use Rattle.classes.specs.Group.{classAt, classOf, total, removed, length-removed, mergedAt, pair, joined, equated, equalCondition}
 use Rattle.classes.specs.Good.{flat}
 use Rattle.classes.specs.Steps.{fits}
 use Rattle.classes.specs.Layout.{flavourOf, valueOf, constantFrom, padded, encode, decode}
 use Rattle.classes.specs.Inner.{Coded, Room, markOf}
 use Rattle.classes.specs.declared.Group.{Group}
 use Rattle.classes.specs.declared.Mark.{Mark}
-use Rattle.classes.proofs.Codec.{snoc-padded, decode-encode, coded-encode, length-decode, used-is, size-is}
-use Rattle.classes.proofs.Places.{length-removed, total-removed, length-mergedAt, total-mergedAt, length-more, total-more, classOf-some}
+use Rattle.classes.proofs.Marks.{mark-constant}
+use Rattle.classes.proofs.Codec.{snoc-padded, built-count, built-used, built-limit, built-classes, built-coded, length-decode, used-is, size-is}
+use Rattle.classes.proofs.Places.{total-removed, length-mergedAt, total-mergedAt}
 use Rattle.classes.proofs.Rebuilding.{merged-last}
-use Rattle.classes.proofs.ConstantLaws.{alone, mark-constant, fits-full, fits-many, fits-both, one-coded, one-count, one-size, one-is}
+use Rattle.classes.proofs.ConstantLaws.{alone, fits-both, more-total, more-count, one-coded, one-count, one-size, one-is}
 
 -- the constant that a node carries, by what is read of it
 pub carried-literal : (n : Node) (v : ℕ) → readOf n ≡ Literal v → _≡_ {A = Mark} (record { flavour = 3; value = v }) (markOf (carried n))
@@ -95,22 +96,19 @@ module _ (g : Group) (v : Coded g) (low high : ℕ) (a : low < high) (b : high <
   fewer = omega (arith, total-removed (decode g) high (omega (arith, length-decode g)), used-is g v)
 
   rest-coded : Coded rest
-  rest-coded = subst Coded (sym p) (coded-encode (g .limit) left (omega (arith, length-removed (decode g) high, length-decode g, v .few)) (omega (arith, fewer, v .small)))
+  rest-coded = built-coded (g .limit) left rest p (omega (arith, length-removed (decode g) high, length-decode g, v .few)) (omega (arith, fewer, v .small))
 
   rest-count : rest .count ≡ length left
-  unfolding encode
-  rest-count = ap (λ (h : Group). h .count) p
+  rest-count = built-count (g .limit) left rest p
 
   rest-used : rest .used ≡ total left
-  unfolding encode
-  rest-used = ap (λ (h : Group). h .used) p
+  rest-used = built-used (g .limit) left rest p
 
   rest-limit : rest .limit ≡ g .limit
-  unfolding encode
-  rest-limit = ap (λ (h : Group). h .limit) p
+  rest-limit = built-limit (g .limit) left rest p
 
   rest-is : decode rest ≡ left
-  rest-is = ap decode p ∙ decode-encode (g .limit) left
+  rest-is = built-classes (g .limit) left rest p
 
   pub bridge-asks : (Coded rest × (low < rest .count)) × ((Coded g × (high < g .count)) × (rest .used + getD (g .sizes) high 0 ≤ 256))
   bridge-asks = ((rest-coded, omega (arith, rest-count, length-removed (decode g) high, length-decode g)), ((v, b), omega (arith, rest-used, fewer, size-is g v high, v .small)))
@@ -187,27 +185,6 @@ module _ (ns : List Node) (cs : List Class) (a b : ℕ) where
   unfolding equalCondition equated
   equal-new p q = rw (p, q)
 
--- the class that was found is one
-pub class-below : (g : Group) (e i : ℕ) → classOf (decode g) e ≡ some i → i < g .count
-class-below g e i f = omega (arith, classOf-some (decode g) e i f .0, length-decode g)
-
--- a new class at the end
-module _ (g : Group) (v : Coded g) (c : Class) where
-  more-total : total (decode g ++ (c ∷ [])) ≡ g .used + length (c .members)
-  more-total = omega (arith, total-more (decode g) c, used-is g v)
-
-  more-count : length (decode g ++ (c ∷ [])) ≡ g .count + 1
-  more-count = omega (arith, length-more (decode g) c, length-decode g)
-
-  pub more-many : 64 ≤ g .count → fits (g .limit) (decode g ++ (c ∷ [])) ≡ false
-  more-many h = fits-many (g .limit) (decode g ++ (c ∷ [])) (omega (arith, more-count))
-
-  pub more-full : g .limit < g .used + length (c .members) → fits (g .limit) (decode g ++ (c ∷ [])) ≡ false
-  more-full h = fits-full (g .limit) (decode g ++ (c ∷ [])) (omega (arith, more-total))
-
-  pub more-room : g .count < 64 → g .used + length (c .members) ≤ g .limit → fits (g .limit) (decode g ++ (c ∷ [])) ≡ true
-  more-room a b = fits-both (g .limit) (decode g ++ (c ∷ [])) (omega (arith, more-total)) (omega (arith, more-count))
-
 -- how many members the class of two expressions has
 module _ (ns : List Node) (a b : ℕ) where
   pub pair-one : a ≡ b → length (pair ns a b .members) ≡ 1
@@ -230,28 +207,25 @@ module _ (g : Group) (v : Coded g) (a : ℕ) (k : Constant) (next : Group) (p : 
   begun = decode g ++ (alone a k ∷ [])
 
   begun-count : length begun ≡ g .count + 1
-  begun-count = omega (arith, length-more (decode g) (alone a k), length-decode g)
+  begun-count = more-count g v (alone a k)
 
   begun-total : total begun ≡ g .used + 1
-  begun-total = omega (arith, total-more (decode g) (alone a k), used-is g v)
+  begun-total = more-total g v (alone a k)
 
   next-coded : Coded next
-  next-coded = subst Coded (sym p) (coded-encode (g .limit) begun (omega (arith, begun-count)) (omega (arith, begun-total)))
+  next-coded = built-coded (g .limit) begun next p (omega (arith, begun-count)) (omega (arith, begun-total))
 
   next-count : next .count ≡ length begun
-  unfolding encode
-  next-count = ap (λ (h : Group). h .count) p
+  next-count = built-count (g .limit) begun next p
 
   next-used : next .used ≡ total begun
-  unfolding encode
-  next-used = ap (λ (h : Group). h .used) p
+  next-used = built-used (g .limit) begun next p
 
   next-limit : next .limit ≡ g .limit
-  unfolding encode
-  next-limit = ap (λ (h : Group). h .limit) p
+  next-limit = built-limit (g .limit) begun next p
 
   next-is : decode next ≡ begun
-  next-is = ap decode p ∙ decode-encode (g .limit) begun
+  next-is = built-classes (g .limit) begun next p
 
   module _ (other : Group) (b : ℕ) (m : Constant) (q : other ≡ encode 256 (alone b m ∷ [])) where
     pub last-asks : Room next other 0 × (0 < next .count)

@@ -6,7 +6,7 @@ use mathlib.Core.Path.{_≡_, refl}
 use Rattle.laws.specs.Tests.{each, first, firstFrom}
 use Rattle.arena.specs.Node.{Node, column, literal, operation, childNumbers, made, madeAfter}
 use Rattle.classes.specs.Class.{noConstant, heterogeneous, unknown, Class, isUniform, taken, carried, single, merged, sameConstant}
-use Rattle.classes.specs.Group.{among, classOf, removed, mergedAt, pair, joined, equated, equalCondition, given, constantAt, classLike, constantFor, constantIn, withConstant, clearedBy, clearFrom, cleared}
+use Rattle.classes.specs.Group.{among, classOf, removed, mergedAt, pair, joined, equated, equalCondition, given, constantAt, classLike, constantFor, constantIn, withConstant, clearedBy, clearRest, clearFrom, cleared}
 use Rattle.classes.specs.Questions.{sameClass, childrenEqual, equals, equalBy, exprsEqual, classConstant, isConstant, childrenConstant, orElse, constantOfNode, constantBy, exprConstant}
 
 -- columns 0 to 5; 6 and 7 are labels 1 and 2 over (0, 1); 8 and 9 the literals 1 and 2; 10 an operation over literal 8
@@ -52,5 +52,5 @@ gap = refl
 
 -- a heterogeneous class of one goes, one of two loses its constant
 clear-both : cleared (record { members = 0 ∷ []; constant = heterogeneous } ∷ record { members = 1 ∷ 2 ∷ []; constant = heterogeneous } ∷ []) ≡ (true, plain (1 ∷ 2 ∷ []) ∷ [])
-unfolding cleared clearFrom clearedBy removed
+unfolding cleared clearRest clearFrom clearedBy removed
 clear-both = refl

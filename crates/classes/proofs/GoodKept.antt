@@ -1,23 +1,23 @@
 -- A good group stays good: by an equal condition, a constant and clearing, refused or not.
-use Prim.Native.Nat.{ℕ, zero, suc, _+_, _<_, _≤_, min, max}
-use mathlib.Core.Bool.{Bool, true, false, _&&_}
+use Prim.Native.Nat.{ℕ, zero, suc, _+_, _-_, _<_, _≤_, min, max}
+use mathlib.Core.Bool.{Bool, true, false}
 use mathlib.Core.List.{List, [], _∷_}
 use mathlib.Core.Logic.{_⊎_, inl, inr}
 use mathlib.Core.Option.{Option, none, some}
 use mathlib.Core.Path.{_≡_, refl, sym, ap, _∙_, subst}
 use native.Mathlib.Decide.{ℕ-discrete, decLt}
 use native.Mathlib.Omega.{arith}
-use borrow.Author.Tests.{ltb-true}
-use lib.Dec.{eqb, ltb}
-use lib.ListN.{length, set, length-append, List·getD-eq-default}
+use lib.Dec.{eqb}
+use lib.ListN.{length, set, length-set, length-append, List·getD-eq-default}
 use Rattle.laws.specs.Tests.{if_then_else_, first}
-use Rattle.laws.proofs.Booleans.{true-not-false, and-left, and-right}
+use Rattle.laws.proofs.Booleans.{true-not-false}
 use Rattle.laws.proofs.First.{first-some}
 use Rattle.arena.specs.Node.{Node, literal, nodeAt}
 use Rattle.classes.specs.Class.{Constant, noConstant, heterogeneous, unknown, known, Class, isUniform, taken, carried, single, merged, sameConstant}
-use Rattle.classes.specs.Group.{among, classAt, classOf, removed, pair, joined, equated, equalCondition, given, constantAt, classLike, constantFor, constantIn, withConstant, Cleared, kept, dropped, gone, clearedBy, clearFrom, cleared}
+use Rattle.classes.specs.Group.{among, classAt, classOf, removed, length-removed, pair, joined, equated, equalCondition, given, constantAt, classLike, constantFor, constantIn, withConstant, Cleared, kept, dropped, gone, clearedBy, clearRest, clear-end, clear-kept, clear-dropped, clear-gone, cleared}
 use Rattle.classes.specs.Good.{Good}
-use Rattle.classes.specs.Steps.{refused, fits, judged, addEqual, addConstant, clear, after}
+use Rattle.classes.specs.Steps.{addEqual, addConstant, clear, after}
+use Rattle.classes.proofs.Answers.{addEqual-holds, addConstant-holds}
 use Rattle.classes.proofs.Places.{sum, count, count-same, count-other, among-either, among-one, counts, Once, All, nothing, distinct-once, once-distinct, class-flat, flat-class, classOf-some, classOf-none, counts-removed, counts-set, counts-mergedAt, counts-more, all-set, all-removed, all-mergedAt, all-more}
 use Rattle.classes.proofs.Conditions.{condition-joins}
 
@@ -219,43 +219,19 @@ constant-good two ns cs e g l said =
     parts-good ns (withConstant two ns cs e said)
     (parts-constant ns cs (good-parts ns cs g) e l two (given ns e said) (λ v q. taken-keeps (carried (nodeAt ns e)) said (carried-uniform (nodeAt ns e) v q)) (classOf cs e) refl)
 
--- the turns of clearing
-module _ (n i : ℕ) (changed : Bool) (cs : List Class) where
-  pub clear-kept : clearedBy (classAt cs i) ≡ kept → clearFrom (suc n) i changed cs ≡ clearFrom n (i + 1) changed cs
-  unfolding clearFrom
-  clear-kept q = rw (q, clearFrom)
-
-  pub clear-dropped : clearedBy (classAt cs i) ≡ dropped → clearFrom (suc n) i changed cs ≡ clearFrom n (i + 1) true (set cs i (record { members = classAt cs i .members; constant = noConstant }))
-  unfolding clearFrom
-  clear-dropped q = rw (q, clearFrom)
-
-  pub clear-gone : clearedBy (classAt cs i) ≡ gone → clearFrom (suc n) i changed cs ≡ clearFrom n i true (removed cs i)
-  unfolding clearFrom
-  clear-gone q = rw (q, clearFrom)
-
--- only a heterogeneous constant is dropped, alone or with its class
-dropped-is : (c : Class) → clearedBy c ≡ dropped → c .constant ≡ heterogeneous
+-- only a class with a heterogeneous constant is not kept as it was
+changed-is : (c : Class) (k : Cleared) → clearedBy c ≡ k → (k ≡ kept → ⊥) → c .constant ≡ heterogeneous
 unfolding clearedBy
-dropped-is c h = go (c .constant) refl
+changed-is c k h n = go (c .constant) refl
   where
-    go : (k : Constant) → c .constant ≡ k → k ≡ heterogeneous
-    go noConstant q = absurd (let r = rw q at h in let z : _≡_ {A = ℕ} 0 1 = cc in omega arith)
+    go : (d : Constant) → c .constant ≡ d → d ≡ heterogeneous
+    go noConstant q = absurd (n (sym h ∙ rw q))
     go heterogeneous q = refl
-    go unknown q = absurd (let r = rw q at h in let z : _≡_ {A = ℕ} 0 1 = cc in omega arith)
-    go (known v) q = absurd (let r = rw q at h in let z : _≡_ {A = ℕ} 0 1 = cc in omega arith)
-
-gone-is : (c : Class) → clearedBy c ≡ gone → c .constant ≡ heterogeneous
-unfolding clearedBy
-gone-is c h = go (c .constant) refl
-  where
-    go : (k : Constant) → c .constant ≡ k → k ≡ heterogeneous
-    go noConstant q = absurd (let r = rw q at h in let z : _≡_ {A = ℕ} 0 1 = cc in omega arith)
-    go heterogeneous q = refl
-    go unknown q = absurd (let r = rw q at h in let z : _≡_ {A = ℕ} 0 1 = cc in omega arith)
-    go (known v) q = absurd (let r = rw q at h in let z : _≡_ {A = ℕ} 0 1 = cc in omega arith)
+    go unknown q = absurd (n (sym h ∙ rw q))
+    go (known v) q = absurd (n (sym h ∙ rw q))
 
 -- where a constant is heterogeneous there is a class
-heterogeneous-below : (cs : List Class) (i : ℕ) → classAt cs i .constant ≡ heterogeneous → i < length cs
+pub heterogeneous-below : (cs : List Class) (i : ℕ) → classAt cs i .constant ≡ heterogeneous → i < length cs
 heterogeneous-below cs i h = go (decLt i (length cs))
   where
     go : Dec (i < length cs) → i < length cs
@@ -283,20 +259,35 @@ parts-gone ns cs i p h = record {
   fine = all-removed (Fine ns) cs i (p .fine);
 }
 
-parts-clear : (ns : List Node) (n i : ℕ) (changed : Bool) (cs : List Class) → Parts ns cs → Parts ns (clearFrom n i changed cs .1)
-unfolding clearFrom
-parts-clear ns zero i changed cs p = p
-parts-clear ns (suc n) i changed cs p = go (clearedBy (classAt cs i)) refl (parts-clear ns n)
-  where
-    go : (k : Cleared) → clearedBy (classAt cs i) ≡ k → ((i : ℕ) (changed : Bool) (cs : List Class) → Parts ns cs → Parts ns (clearFrom n i changed cs .1)) → Parts ns (clearFrom (suc n) i changed cs .1)
-    go kept q r = rw (clear-kept n i changed cs q) (r (i + 1) changed cs p)
-    go dropped q r =
-        rw (clear-dropped n i changed cs q) (r (i + 1) true (set cs i (record { members = classAt cs i .members; constant = noConstant })) (parts-dropped ns cs i p (dropped-is (classAt cs i) q)))
-    go gone q r = rw (clear-gone n i changed cs q) (r i true (removed cs i) (parts-gone ns cs i p (gone-is (classAt cs i) q)))
+-- what a dropped constant and a dropped class keep, clearing keeps
+module _ (P : List Class → Type 0)
+    (d : (cs : List Class) (i : ℕ) → classAt cs i .constant ≡ heterogeneous → P cs → P (set cs i (record { members = classAt cs i .members; constant = noConstant })))
+    (g : (cs : List Class) (i : ℕ) → classAt cs i .constant ≡ heterogeneous → P cs → P (removed cs i)) where
+  rest-keeps : (n i : ℕ) (changed : Bool) (cs : List Class) → length cs - i ≡ n → P cs → P (clearRest i changed cs .1)
+  rest-keeps zero i changed cs e p = rw (clear-end i changed cs (omega arith)) p
+  rest-keeps (suc n) i changed cs e p = go (clearedBy (classAt cs i)) refl (rest-keeps n)
+    where
+      l : i < length cs
+      l = omega arith
+
+      go : (k : Cleared) → clearedBy (classAt cs i) ≡ k → ((i : ℕ) (changed : Bool) (cs : List Class) → length cs - i ≡ n → P cs → P (clearRest i changed cs .1)) → P (clearRest i changed cs .1)
+      go kept q r = rw (clear-kept i changed cs l q) (r (i + 1) changed cs (omega arith) p)
+      go dropped q r =
+          let ds : List Class = set cs i (record { members = classAt cs i .members; constant = noConstant }) in
+          rw (clear-dropped i changed cs l q)
+          (r (i + 1) true ds (omega (arith, length-set cs i (record { members = classAt cs i .members; constant = noConstant })))
+          (d cs i (changed-is (classAt cs i) dropped q (λ e. let z : _≡_ {A = ℕ} 0 1 = cc in omega arith)) p))
+      go gone q r =
+          rw (clear-gone i changed cs l q)
+          (r i true (removed cs i) (omega (arith, length-removed cs i)) (g cs i (changed-is (classAt cs i) gone q (λ e. let z : _≡_ {A = ℕ} 0 1 = cc in omega arith)) p))
+
+  pub clear-keeps : (cs : List Class) → P cs → P (cleared cs .1)
+  unfolding cleared
+  clear-keeps cs p = rest-keeps (length cs) 0 false cs (omega arith) p
 
 pub clear-good : (ns : List Node) (cs : List Class) → Good ns cs → Good ns (cleared cs .1)
-unfolding cleared
-clear-good ns cs g = parts-good ns (cleared cs .1) (parts-clear ns (length cs) 0 false cs (good-parts ns cs g))
+clear-good ns cs g =
+    parts-good ns (cleared cs .1) (clear-keeps (λ (ds : List Class). Parts ns ds) (λ ds i h p. parts-dropped ns ds i p h) (λ ds i h p. parts-gone ns ds i p h) cs (good-parts ns cs g))
 
 -- no class at all
 pub empty-good : (ns : List Node) → Good ns []
@@ -304,31 +295,11 @@ unfolding sum
 empty-good ns = parts-good ns [] (record { once = λ e. omega arith; fine = λ i l. absurd (omega arith) })
 
 -- the calls, refused or not
-judged-good : (limit : ℕ) (ns : List Node) (cs : List Class) (o : Bool × List Class) → Good ns cs → Good ns (o .1) → Good ns (judged limit cs o .classes)
-unfolding judged refused
-judged-good limit ns cs o g h = go (fits limit (o .1))
-  where
-    go : (t : Bool) → Good ns ((if t then record { number = 0; answer = o .0; classes = o .1 } else refused 4 cs) .classes)
-    go true = h
-    go false = g
-
 pub addEqual-good : (limit : ℕ) (ns : List Node) (a b : ℕ) (cs : List Class) → Good ns cs → Good ns (addEqual limit ns a b cs .classes)
-unfolding addEqual refused
-addEqual-good limit ns a b cs g = go (ltb a (length ns) && ltb b (length ns)) refl
-  where
-    go : (t : Bool) → (ltb a (length ns) && ltb b (length ns)) ≡ t → Good ns ((if t then judged limit cs (equalCondition ns cs a b) else refused 1 cs) .classes)
-    go true q =
-        judged-good limit ns cs (equalCondition ns cs a b) g
-        (condition-good ns cs a b g (ltb-true a (length ns) (and-left (ltb a (length ns)) (ltb b (length ns)) q)) (ltb-true b (length ns) (and-right (ltb a (length ns)) (ltb b (length ns)) q)))
-    go false q = g
+addEqual-good limit ns a b cs g = addEqual-holds (λ (ds : List Class). Good ns ds) limit cs g ns a b (λ la lb q. condition-good ns cs a b g la lb)
 
 pub addConstant-good : (two : Bool) (limit : ℕ) (ns : List Node) (e : ℕ) (said : Constant) (cs : List Class) → Good ns cs → Good ns (addConstant two limit ns e said cs .classes)
-unfolding addConstant refused
-addConstant-good two limit ns e said cs g = go (ltb e (length ns)) refl
-  where
-    go : (t : Bool) → ltb e (length ns) ≡ t → Good ns ((if t then judged limit cs (false, withConstant two ns cs e said) else refused 1 cs) .classes)
-    go true q = judged-good limit ns cs (false, withConstant two ns cs e said) g (constant-good two ns cs e g (ltb-true e (length ns) q) said)
-    go false q = g
+addConstant-good two limit ns e said cs g = addConstant-holds (λ (ds : List Class). Good ns ds) limit cs g two ns e said (λ l q. constant-good two ns cs e g l said)
 
 pub clear-call-good : (ns : List Node) (cs : List Class) → Good ns cs → Good ns (clear cs .classes)
 unfolding clear

@@ -21,7 +21,10 @@ use Rattle.classes.specs.Calls.{groupNumber}
 use Rattle.classes.specs.Inner.{Held}
 use Rattle.classes.specs.declared.Group.{Group}
 use Rattle.classes.proofs.Places.{nothing, among-place, getD-among, length-flat}
-use Rattle.classes.proofs.GroupLayout.{flavour-known, flavour-back, value-back, flavour-uniform, uniform-flavour, padded-is, sum-part, sum-total, sum-whole, flat-is, size-at, flavour-at, value-at, member-at, class-member, length-decode, class-decode, length-class-in, member-class-in}
+use Rattle.classes.proofs.Numbers.{sum-holds}
+use Rattle.classes.proofs.Marks.{flavour-known, flavour-back, value-back, flavour-uniform, uniform-flavour}
+use Rattle.classes.proofs.Codec.{size-encode, flavour-encode, value-encode, flat-encode, member-encode, length-decode}
+use Rattle.classes.proofs.GroupLayout.{padded-is, sum-total, sum-whole, flat-is, class-decode, length-class-in, member-class-in}
 
 -- the places of a table from n on are 0
 abbrev Unused : ℕ → ℕ → List ℕ → Type 0
@@ -269,16 +272,39 @@ module _ (ns : List Node) (g : Group) (c : Checked ns g) where
           let p = among-place e (classAt (decode g) j .members) h in
           let n : p .0 < getD (g .sizes) j 0 = omega (arith, p .1, size-decode j l) in
           let is : memberOf g j (p .0) ≡ e = sym (member-class-in g j (p .0) n) ∙ ap (λ (x : Class). getD (x .members) (p .0) 0) (sym (class-decode g j d)) ∙ p .2 in
-          let b : memberOf g j (p .0) < length ns = c .inside (sumTo (g .sizes) j + p .0) (omega (arith, sum-part (g .sizes) j (g .count) d, c .sums)) in
+          let b : memberOf g j (p .0) < length ns = c .inside (sumTo (g .sizes) j + p .0) (omega (arith, sum-holds (g .sizes) j (g .count) d, c .sums)) in
           rw (class-decode g j d)
           (flavour-uniform (getD (g .flavours) j 0) (getD (g .values) j 0) (c .known j d) (c .uniform j d (p .0) n b (ap (λ (x : ℕ). isLiteral (nodeAt ns x)) is ∙ ap isLiteral q)))
 
--- a group that passes the check is the layout of a good group
+-- what it says where it lets a group pass
+number-checked : (cells : List ℕ) (g : Group) → groupNumber cells g ≡ 0 → Checked (nodes cells) g
+number-checked cells g e = let p = parts cells g e in checked-of (nodes cells) g (p .0) (p .2) (p .3)
+
+-- classes that are a group: good, few, and within a limit from 1 to 256
+pub record Fit (ns : List Node) (l : ℕ) (cs : List Class) : Type 0 where
+  pub low : 0 < l
+  pub high : l ≤ 256
+  pub few : length cs ≤ 64
+  pub within : total cs ≤ l
+  pub good : Good ns cs
+
+-- a group that passes the check has such classes
+pub number-fit : (cells : List ℕ) (g : Group) → groupNumber cells g ≡ 0 → Fit (nodes cells) (g .limit) (decode g)
+number-fit cells g e =
+    let c = number-checked cells g e in
+    record {
+      low = c .low;
+      high = c .high;
+      few = omega (arith, length-decode g, c .few);
+      within = omega (arith, total-decode (nodes cells) g c, c .within);
+      good = good-of (nodes cells) g c;
+    }
+
+-- and is their layout
 pub number-held : (cells : List ℕ) (g : Group) → length (g .sizes) ≡ 64 → length (g .flavours) ≡ 64 → length (g .values) ≡ 64 → length (g .members) ≡ 256
     → groupNumber cells g ≡ 0 → Held (nodes cells) g
 number-held cells g s f v m e =
-    let p = parts cells g e in
-    let c = checked-of (nodes cells) g (p .0) (p .2) (p .3) in
+    let c = number-checked cells g e in
     record {
       coded = record { coded = coded-of (nodes cells) g c s f v m; few = c .few; small = omega (arith, c .within, c .high) };
       low = c .low;
@@ -295,23 +321,23 @@ literal-of (literal v) h = (v, refl)
 literal-of (operation label children) h = absurd (true-not-false h refl)
 
 -- the layout of a good group is what the check asks
-checked-good : (ns : List Node) (l : ℕ) (cs : List Class) → 0 < l → l ≤ 256 → length cs ≤ 64 → total cs ≤ l → Good ns cs → Checked ns (encode l cs)
+checked-good : (ns : List Node) (l : ℕ) (cs : List Class) → Fit ns l cs → Checked ns (encode l cs)
 unfolding encode flavourOf valueOf
-checked-good ns l cs a b few fits good = record {
-  low = a;
-  high = b;
-  known = λ j i. rw (flavour-at l cs j, value-at l cs j) (flavour-known (classAt cs j .constant));
-  few = few;
-  within = fits;
-  filled = λ j i. omega (arith, size-at l cs j, good .filled j i);
-  sums = sum-whole (encode l cs .sizes) cs (λ j i. size-at l cs j);
-  apart = λ i k p q e. good .distinct .apart i k p (omega (arith, length-flat cs)) (sym (member-at l cs i) ∙ e ∙ member-at l cs k);
-  uniform = λ j i k p q h. uniform-at j i k (omega (arith, size-at l cs j)) h;
-  no-sizes = λ k p q. size-at l cs k ∙ ap (λ (c : Class). length (c .members)) (past k p);
-  no-flavours = λ k p q. flavour-at l cs k ∙ ap (λ (c : Class). flavourOf (c .constant)) (past k p);
-  no-values = λ k p q. value-at l cs k ∙ ap (λ (c : Class). valueOf (c .constant)) (past k p);
-  no-members = λ k p q. member-at l cs k ∙ List·getD-eq-default (flat cs) 0 (omega (arith, length-flat cs));
-  inside = λ k p. rw (member-at l cs k) (good .inside (getD (flat cs) k 0) (getD-among (flat cs) k (omega (arith, length-flat cs))));
+checked-good ns l cs f = record {
+  low = f .low;
+  high = f .high;
+  known = λ j i. rw (flavour-encode l cs j, value-encode l cs j) (flavour-known (classAt cs j .constant));
+  few = f .few;
+  within = f .within;
+  filled = λ j i. omega (arith, size-encode l cs j, f .good .filled j i);
+  sums = sum-whole (encode l cs .sizes) cs (λ j i. size-encode l cs j);
+  apart = λ i k p q e. f .good .distinct .apart i k p (omega (arith, length-flat cs)) (sym (flat-encode l cs i) ∙ e ∙ flat-encode l cs k);
+  uniform = λ j i k p q h. uniform-at j i k (omega (arith, size-encode l cs j)) h;
+  no-sizes = λ k p q. size-encode l cs k ∙ ap (λ (c : Class). length (c .members)) (past k p);
+  no-flavours = λ k p q. flavour-encode l cs k ∙ ap (λ (c : Class). flavourOf (c .constant)) (past k p);
+  no-values = λ k p q. value-encode l cs k ∙ ap (λ (c : Class). valueOf (c .constant)) (past k p);
+  no-members = λ k p q. flat-encode l cs k ∙ List·getD-eq-default (flat cs) 0 (omega (arith, length-flat cs));
+  inside = λ k p. rw (flat-encode l cs k) (f .good .inside (getD (flat cs) k 0) (getD-among (flat cs) k (omega (arith, length-flat cs))));
 }
   where
     past : (k : ℕ) → length cs ≤ k → classAt cs k ≡ nothing
@@ -319,15 +345,14 @@ checked-good ns l cs a b few fits good = record {
 
     uniform-at : (j : ℕ) → j < length cs → (k : ℕ) → k < length (classAt cs j .members) → isLiteral (nodeAt ns (memberOf (encode l cs) j k)) ≡ true → 2 ≤ getD (encode l cs .flavours) j 0
     uniform-at j i k p h =
-        let e = class-member l cs j k i p in
+        let e = member-encode l cs j k p in
         let v = literal-of (nodeAt ns (getD (classAt cs j .members) k 0)) (subst (λ (x : ℕ). isLiteral (nodeAt ns x) ≡ true) e h) in
-        rw (flavour-at l cs j)
-        (uniform-flavour (classAt cs j .constant) (good .uniform j (getD (classAt cs j .members) k 0) (v .0) i (getD-among (classAt cs j .members) k p) (v .1)))
+        rw (flavour-encode l cs j)
+        (uniform-flavour (classAt cs j .constant) (f .good .uniform j (getD (classAt cs j .members) k 0) (v .0) i (getD-among (classAt cs j .members) k p) (v .1)))
 
 -- the layout of a good group passes the check
-pub held-number : (cells : List ℕ) → lawful cells ≡ true → (l : ℕ) (cs : List Class) → 0 < l → l ≤ 256 → length cs ≤ 64 → total cs ≤ l → Good (nodes cells) cs
-    → groupNumber cells (encode l cs) ≡ 0
+pub held-number : (cells : List ℕ) → lawful cells ≡ true → (l : ℕ) (cs : List Class) → Fit (nodes cells) l cs → groupNumber cells (encode l cs) ≡ 0
 unfolding groupNumber
-held-number cells w l cs a b few fits good =
-    let p = of-checked (nodes cells) (encode l cs) (checked-good (nodes cells) l cs a b few fits good) in
+held-number cells w l cs f =
+    let p = of-checked (nodes cells) (encode l cs) (checked-good (nodes cells) l cs f) in
     rw (p .set, w, p .lawful, p .inside)

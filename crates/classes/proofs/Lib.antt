@@ -9,8 +9,9 @@ pub mod Conditions
 pub mod Limits
 pub mod GoodKept
 pub mod Demands
-pub mod Codec
+pub mod Numbers
 pub mod Marks
+pub mod Codec
 pub mod Members
 pub mod Rebuilding
 pub mod Turns
@@ -26,3 +27,5 @@ pub mod ClearLaws
 pub mod ConstantLaws
 pub mod EquatingLaws
 pub mod Calling
+pub mod Asked
+pub mod Valid

@@ -1,7 +1,7 @@
 -- Whether an expression is among members, and in which class of a struct.
 use Prim.Native.Nat.{ℕ, zero, suc, _+_, _-_, _<_, _≤_}
 use mathlib.Core.Bool.{Bool, true, false, _||_}
-use mathlib.Core.List.{List, [], _∷_, _++_}
+use mathlib.Core.List.{[], _∷_}
 use mathlib.Core.Path.{_≡_, refl, sym, ap, _∙_, subst}
 use native.Mathlib.Numerals.{add-one}
 use native.Mathlib.Decide.{ℕ-discrete}
@@ -16,17 +16,8 @@ use Rattle.classes.specs.Group.{among, classAt, classOf}
 use Rattle.classes.specs.Layout.{sumTo, decode}
 use Rattle.classes.specs.Inner.{Coded}
 use Rattle.classes.specs.declared.Group.{Group}
+use Rattle.classes.proofs.Places.{among-append}
 use Rattle.classes.proofs.Codec.{length-decode, members-part}
-
--- among the members of both lists
-among-append : (e : ℕ) (xs ys : List ℕ) → among e (xs ++ ys) ≡ (among e xs || among e ys)
-unfolding among
-among-append e [] ys = refl
-among-append e (x ∷ xs) ys = at (eqb x e) (among-append e xs ys)
-  where
-    at : (b : Bool) → among e (xs ++ ys) ≡ (among e xs || among e ys) → (b || among e (xs ++ ys)) ≡ ((b || among e xs) || among e ys)
-    at true r = refl
-    at false r = r
 
 or-true : (b : Bool) → (b || true) ≡ true
 or-true true = refl

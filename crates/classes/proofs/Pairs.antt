@@ -1,8 +1,8 @@
 -- The table of pairs: one bit a pair, 16 words a number. A pair that is put in changes no other pair.
-use Prim.Native.Nat.{ℕ, zero, suc, _+_, _-_, _*_, _/_, _%_, _^_, _<_}
+use Prim.Native.Nat.{ℕ, suc, _+_, _-_, _*_, _/_, _%_, _^_, _<_}
 use mathlib.Core.Bool.{true, false}
 use mathlib.Core.List.{List}
-use mathlib.Core.Path.{_≡_, refl, sym, ap, _∙_}
+use mathlib.Core.Path.{_≡_, sym, ap, _∙_}
 use native.Mathlib.Decide.{ℕ-discrete, decLt}
 use native.Mathlib.Nat.{div-eq-of-lt, one-mul, zero-div}
 use native.Mathlib.Omega.{arith}
@@ -12,6 +12,7 @@ use lib.ListN.{length, getD, set, replicate}
 use lib.Pow.{pow-lt, pow-add, shl-exact, shl-shr}
 use lib.Seq.{set-out, getD-set-same, getD-set-other}
 use Rattle.classes.specs.Inner.{toldPair}
+use Rattle.classes.proofs.Numbers.{zeros-at}
 
 -- bit i of a power of two with another exponent is 0
 other-bit : (i j : ℕ) → (i ≡ j → ⊥) → 2 ^ j / 2 ^ i % 2 ≡ 0
@@ -71,9 +72,4 @@ module _ (seen : List ℕ) where
 -- a fresh table has no pair
 pub none-told : (n a b : ℕ) → toldPair (replicate n 0) a b ≡ false
 unfolding toldPair
-none-told n a b = rw (zero-at n (a * 16 + b / 64), zero-div (2 ^ (b % 64)))
-  where
-    zero-at : (n i : ℕ) → getD (replicate {A = ℕ} n 0) i 0 ≡ 0
-    zero-at zero i = refl
-    zero-at (suc n) zero = refl
-    zero-at (suc n) (suc i) = zero-at n i
+none-told n a b = rw (zeros-at n (a * 16 + b / 64), zero-div (2 ^ (b % 64)))

@@ -14,8 +14,8 @@ use lib.Seq.{take-length, take-suc, set-out, getD-set-same, getD-set-other, getD
 use Rattle.laws.specs.Tests.{if_then_else_}
 use Rattle.laws.proofs.Booleans.{true-not-false}
 use Rattle.laws.proofs.First.{first-some, first-none, first-only, first-missing}
-use Rattle.classes.specs.Class.{noConstant, Class, merged}
-use Rattle.classes.specs.Group.{among, classAt, classOf, total, removed, mergedAt}
+use Rattle.classes.specs.Class.{Constant, noConstant, Class, merged}
+use Rattle.classes.specs.Group.{among, classAt, classOf, total, removed, length-removed, mergedAt}
 use Rattle.classes.specs.Good.{flat, Distinct}
 
 -- a sum over a list
@@ -325,11 +325,6 @@ flat-class cs e h = go (classOf cs e) refl
     go (some i) q = let f = classOf-some cs e i q in (i, f .0, f .1)
 
 -- a class removed
-pub length-removed : (cs : List Class) (i : ℕ) → length (removed cs i) ≡ length cs - 1
-unfolding removed
-length-removed cs i =
-    length-set (take (length cs - 1) cs) i (classAt cs (length cs - 1)) ∙ length-take-le (length cs - 1) cs (omega arith)
-
 pub removed-gap : (cs : List Class) (i : ℕ) → i < length cs - 1 → classAt (removed cs i) i ≡ classAt cs (length cs - 1)
 unfolding removed
 removed-gap cs i l =
@@ -353,6 +348,19 @@ total-removed cs i l =
 -- a class in another's place
 pub counts-set : (e : ℕ) (cs : List Class) (i : ℕ) (c : Class) → i < length cs → counts e (set cs i c) + count e (classAt cs i .members) ≡ counts e cs + count e (c .members)
 counts-set e cs i c l = sum-set (λ (c : Class). count e (c .members)) cs i c nothing l
+
+-- a class with another constant: the members are the same
+pub flat-same : (cs : List Class) (i : ℕ) (k : Constant) → flat (set cs i (record { members = classAt cs i .members; constant = k })) ≡ flat cs
+unfolding flat
+flat-same [] i k = refl
+flat-same (c ∷ cs) zero k = refl
+flat-same (c ∷ cs) (suc i) k = ap (λ (t : List ℕ). c .members ++ t) (flat-same cs i k)
+
+pub total-same : (cs : List Class) (i : ℕ) (k : Constant) → total (set cs i (record { members = classAt cs i .members; constant = k })) ≡ total cs
+unfolding total
+total-same [] i k = refl
+total-same (c ∷ cs) zero k = refl
+total-same (c ∷ cs) (suc i) k = omega (arith, total-same cs i k)
 
 -- a class merged in
 pub length-mergedAt : (cs : List Class) (i : ℕ) (d : Class) → length (mergedAt cs i d) ≡ length cs

@@ -6,7 +6,7 @@ use native.Mathlib.Numerals.{add-one}
 use native.Mathlib.Decide.{ℕ-discrete}
 use native.Mathlib.Omega.{arith}
 use lib.ListN.{length, getD, take, drop, set, length-append, length-set, length-map}
-use lib.Seq.{take-suc, take-all, length-take-le, map-set-same, getD-at, getD-set-same, getD-set-other, getD-take, set-at, paste}
+use lib.Seq.{take-suc, take-all, length-take-le, map-set-same, getD-at, set-at, paste}
 use Rattle.classes.specs.Class.{Constant, Class, taken, merged}
 use Rattle.classes.specs.Group.{classAt, total, removed, mergedAt, constantAt}
 use Rattle.classes.specs.Good.{flat}
@@ -14,11 +14,9 @@ use Rattle.classes.specs.Layout.{constantFrom, padded, encode, sumTo, de
 use Rattle.classes.specs.Inner.{Coded, Room, markOf}
 use Rattle.classes.specs.declared.Group.{Group}
 use Rattle.classes.specs.declared.Mark.{Mark}
-use Rattle.classes.proofs.Codec.{noClass, sizeOf, flavourIn, valueIn, constant-from, set-padded, snoc-padded, paste-padded, map-append, map-set, length-flat, flat-append, total-append, total-take, total-front, decode-encode, coded-encode, length-decode, used-is, sizes-is, flavours-is, values-is, members-is, size-is, flavour-is, value-is, class-ends, class-inside, members-cut}
-
--- the constant of a mark
-from-mark : (m : Mark) (c : Constant) → m ≡ markOf c → constantFrom (m .flavour) (m .value) ≡ c
-from-mark m c e = ap (λ (x : Mark). constantFrom (x .flavour) (x .value)) e ∙ constant-from c
+use Rattle.classes.proofs.Codec.{sizeOf, flavourIn, valueIn, set-padded, snoc-padded, paste-padded, map-append, map-set, flat-append, total-take, total-front, built-count, built-used, built-limit, built-classes, built-coded, length-decode, used-is, sizes-is, flavours-is, values-is, members-is, size-is, flavour-is, value-is, class-ends, class-inside, members-cut}
+use Rattle.classes.proofs.Marks.{mark-constant}
+use Rattle.classes.proofs.Places.{nothing, length-flat, flat-same, total-same, total-more, total-mergedAt, removed-gap, removed-other}
 
 -- a column with one number more
 column-more : (f : Class → ℕ) (cs : List Class) (c : Class) (xs : List ℕ) (n v : ℕ)
@@ -27,7 +25,7 @@ column-more f cs c xs n v p q r l =
     cc (snoc-padded 64 (map f cs) (f c) (omega (arith, length-map cs f)), length-map cs f, map-append f cs (c ∷ []))
 
 -- a column with a number changed
-column-set : (f : Class → ℕ) (cs : List Class) (i : ℕ) (c : Class) (xs : List ℕ) (v : ℕ)
+pub column-set : (f : Class → ℕ) (cs : List Class) (i : ℕ) (c : Class) (xs : List ℕ) (v : ℕ)
     → xs ≡ padded 64 (map f cs) → v ≡ f c → i < length cs → set xs i v ≡ padded 64 (map f (set cs i c))
 column-set f cs i c xs v p r l =
     cc (set-padded 64 (map f cs) i (f c) (omega (arith, length-map cs f)), map-set f cs i c)
@@ -44,10 +42,6 @@ flat-more : (cs : List Class) (c : Class) → flat (cs ++ (c ∷ [])) ≡ flat c
 unfolding flat
 flat-more cs c = flat-append cs (c ∷ []) ∙ rw (append-nil (c .members))
 
-pub total-more : (cs : List Class) (c : Class) → total (cs ++ (c ∷ [])) ≡ total cs + length (c .members)
-unfolding total
-total-more cs c = omega (arith, total-append cs (c ∷ []))
-
 flat-last : (cs : List Class) (i : ℕ) (d : Class) → suc i ≡ length cs → flat (set cs i (merged (classAt cs i) d)) ≡ flat cs ++ d .members
 unfolding flat merged
 flat-last [] i d p = absurd (omega arith)
@@ -55,30 +49,6 @@ flat-last (c ∷ []) zero d p = simp append-nil
 flat-last (c ∷ (e ∷ cs)) zero d p = absurd (omega arith)
 flat-last (c ∷ cs) (suc i) d p =
     ap (λ (t : List ℕ). c .members ++ t) (flat-last cs i d (omega arith)) ∙ sym (append-assoc (c .members) (flat cs) (d .members))
-
-total-merged : (cs : List Class) (i : ℕ) (d : Class) → i < length cs → total (set cs i (merged (classAt cs i) d)) ≡ total cs + length (d .members)
-unfolding total merged
-total-merged [] i d l = absurd (omega arith)
-total-merged (c ∷ cs) zero d l = omega (arith, length-append (c .members) (d .members))
-total-merged (c ∷ cs) (suc i) d l = omega (arith, total-merged cs i d (omega arith))
-
-total-set : (cs : List Class) (i : ℕ) (c : Class) → total (set cs i c) ≤ total cs + length (c .members)
-unfolding total
-total-set [] i c = omega arith
-total-set (d ∷ cs) zero c = omega arith
-total-set (d ∷ cs) (suc i) c = omega (arith, total-set cs i c)
-
-flat-same : (cs : List Class) (i : ℕ) (k : Constant) → flat (set cs i (record { members = classAt cs i .members; constant = k })) ≡ flat cs
-unfolding flat
-flat-same [] i k = refl
-flat-same (c ∷ cs) zero k = refl
-flat-same (c ∷ cs) (suc i) k = ap (λ (t : List ℕ). c .members ++ t) (flat-same cs i k)
-
-total-same : (cs : List Class) (i : ℕ) (k : Constant) → total (set cs i (record { members = classAt cs i .members; constant = k })) ≡ total cs
-unfolding total
-total-same [] i k = refl
-total-same (c ∷ cs) zero k = refl
-total-same (c ∷ cs) (suc i) k = omega (arith, total-same cs i k)
 
 -- the places that a call is asked for
 module _ (g : Group) (v : Coded g) (j : ℕ) (there : j < g .count) where
@@ -202,13 +172,40 @@ module _ (out src : Group) (j : ℕ) (r : Room out src j) where
       counted = omega (arith, length-decode out, length-set (decode out) (out .count - 1) (merged (classAt (decode out) (out .count - 1)) came))
 
       held : out .used + getD (src .sizes) j 0 ≡ total (set (decode out) (out .count - 1) (merged (classAt (decode out) (out .count - 1)) came))
-      held = omega (arith, total-merged (decode out) (out .count - 1) came inside, came-size, used-is out v)
+      held = omega (arith, total-mergedAt (decode out) (out .count - 1) came inside, came-size, used-is out v)
 
       grown : getD (out .sizes) (out .count - 1) 0 + getD (src .sizes) j 0 ≡ length (classAt (decode out) (out .count - 1) .members ++ came .members)
       grown = omega (arith, size-is out v (out .count - 1), came-size, length-append (classAt (decode out) (out .count - 1) .members) (came .members))
 
       over : m ≡ markOf (taken (classAt (decode out) (out .count - 1) .constant) (came .constant))
-      over = w ∙ ap₂ (λ (x y : Constant). markOf (taken x y)) (from-mark a (classAt (decode out) (out .count - 1) .constant) s) (from-mark b (came .constant) t)
+      over = w ∙ ap₂ (λ (x y : Constant). markOf (taken x y)) (mark-constant a (classAt (decode out) (out .count - 1) .constant) s) (mark-constant b (came .constant) t)
+
+-- a group with another constant for a class
+module _ (g : Group) (v : Coded g) (i : ℕ) (k : Constant) where
+  abbrev put : List Class
+  put = set (decode g) i (record { members = classAt (decode g) i .members; constant = k })
+
+  pub count-put : g .count ≡ length (set (decode g) i (record { members = classAt (decode g) i .members; constant = k }))
+  count-put = omega (arith, length-decode g, length-set (decode g) i (record { members = classAt (decode g) i .members; constant = k }))
+
+  pub used-put : g .used ≡ total (set (decode g) i (record { members = classAt (decode g) i .members; constant = k }))
+  used-put = sym (used-is g v) ∙ sym (total-same (decode g) i k)
+
+  pub constant-put : (fs vs : List ℕ) → fs ≡ padded 64 (map flavourIn put) → vs ≡ padded 64 (map valueIn put)
+      → _≡_ {A = Group}
+      (record { limit = g .limit; count = g .count; used = g .used; sizes = g .sizes; flavours = fs; values = vs; members = g .members })
+      (encode (g .limit) (set (decode g) i (record { members = classAt (decode g) i .members; constant = k })))
+  unfolding encode
+  constant-put fs vs p q = λ t.
+      record {
+        limit = g .limit;
+        count = count-put t;
+        used = used-put t;
+        sizes = (sizes-is g v ∙ ap (padded 64) (sym (map-set-same sizeOf (decode g) i (record { members = classAt (decode g) i .members; constant = k }) nothing refl))) t;
+        flavours = p t;
+        values = q t;
+        members = (members-is g v ∙ ap (padded 256) (sym (flat-same (decode g) i k))) t;
+      }
 
 -- a group with a constant over that of a class
 pub constant-made : (g : Group) (i : ℕ) (d : Constant) (m a : Mark) → Coded g → i < g .count
@@ -224,21 +221,12 @@ pub constant-made : (g : Group) (i : ℕ) (d : Constant) (m a : Mark) → Coded 
       members = g .members;
     })
     (encode (g .limit) (constantAt (decode g) i d))
-unfolding encode constantAt
-constant-made g i d m a v l s w = λ t.
-    record {
-      limit = g .limit;
-      count = counted t;
-      used = (sym (used-is g v) ∙ sym (total-same cs i k)) t;
-      sizes = (sizes-is g v ∙ ap (padded 64) (sym (map-set-same sizeOf cs i c noClass refl))) t;
-      flavours = column-set flavourIn cs i c (g .flavours) (m .flavour) (flavours-is g v) (ap (λ (x : Mark). x .flavour) over) inside t;
-      values = column-set valueIn cs i c (g .values) (m .value) (values-is g v) (ap (λ (x : Mark). x .value) over) inside t;
-      members = (members-is g v ∙ ap (padded 256) (sym (flat-same cs i k))) t;
-    }
+unfolding constantAt
+constant-made g i d m a v l s w =
+    constant-put g v i k (set (g .flavours) i (m .flavour)) (set (g .values) i (m .value))
+    (column-set flavourIn (decode g) i c (g .flavours) (m .flavour) (flavours-is g v) (ap (λ (x : Mark). x .flavour) over) inside)
+    (column-set valueIn (decode g) i c (g .values) (m .value) (values-is g v) (ap (λ (x : Mark). x .value) over) inside)
   where
-    cs : List Class
-    cs = decode g
-
     k : Constant
     k = taken (classAt (decode g) i .constant) d
 
@@ -248,34 +236,21 @@ constant-made g i d m a v l s w = λ t.
     inside : i < length (decode g)
     inside = omega (arith, length-decode g)
 
-    counted : g .count ≡ length (set (decode g) i (record { members = classAt (decode g) i .members; constant = taken (classAt (decode g) i .constant) d }))
-    counted = omega (arith, length-decode g, length-set (decode g) i (record { members = classAt (decode g) i .members; constant = taken (classAt (decode g) i .constant) d }))
-
     over : m ≡ markOf (taken (classAt (decode g) i .constant) d)
-    over = w ∙ ap (λ (x : Constant). markOf (taken x d)) (from-mark a (classAt (decode g) i .constant) s)
+    over = w ∙ ap (λ (x : Constant). markOf (taken x d)) (mark-constant a (classAt (decode g) i .constant) s)
 
 -- a group that is built class by class
 module _ (l : ℕ) (rs : List Class) (few : length rs ≤ 64) (small : total rs ≤ 256) where
   module _ (k : ℕ) (inside : k < length rs) (out : Group) (is : out ≡ encode l (take k rs)) where
     -- a group with the first k classes
     rebuilt-count : out .count ≡ k
-    unfolding encode
-    rebuilt-count = ap (λ (g : Group). g .count) is ∙ length-take-le k rs (omega arith)
+    rebuilt-count = built-count l (take k rs) out is ∙ length-take-le k rs (omega arith)
 
     rebuilt-used : out .used ≡ total (take k rs)
-    unfolding encode
-    rebuilt-used = ap (λ (g : Group). g .used) is
-
-    rebuilt-limit : out .limit ≡ l
-    unfolding encode
-    rebuilt-limit = ap (λ (g : Group). g .limit) is
-
-    rebuilt-classes : decode out ≡ take k rs
-    rebuilt-classes = ap decode is ∙ decode-encode l (take k rs)
+    rebuilt-used = built-used l (take k rs) out is
 
     pub rebuilt-coded : Coded out
-    rebuilt-coded =
-        rw is (coded-encode l (take k rs) (omega (arith, length-take-le k rs (omega arith))) (omega (arith, total-front rs k)))
+    rebuilt-coded = built-coded l (take k rs) out is (omega (arith, length-take-le k rs (omega arith))) (omega (arith, total-front rs k))
 
     pub rebuilt-few : out .count < 64
     rebuilt-few = omega (arith, rebuilt-count)
@@ -287,56 +262,22 @@ module _ (l : ℕ) (rs : List Class) (few : length rs ≤ 64) (small : total rs 
     -- and with it the group has the first k + 1
     pub rebuilt-next : (next : Group) (c : Class) → c ≡ classAt rs k → next ≡ encode (out .limit) (decode out ++ (c ∷ [])) → next ≡ encode l (take (k + 1) rs)
     rebuilt-next next c e f =
-        f ∙ rw (rebuilt-classes, rebuilt-limit, e, add-one, take-suc rs k noClass inside)
+        f ∙ rw (built-classes l (take k rs) out is, built-limit l (take k rs) out is, e, add-one, take-suc rs k nothing inside)
 
   -- after the last
   pub rebuilt-all : (n k : ℕ) (out : Group) → n ≡ length rs → k ≤ n → n ≤ k → out ≡ encode l (take k rs) → out ≡ encode l rs
   rebuilt-all n k out e a b is = is ∙ ap (encode l) (take-all k rs (omega arith))
 
--- a group without a class
-module _ (cs : List Class) (i : ℕ) where
-  pub length-removed : length (removed cs i) ≡ length cs - 1
-  unfolding removed
-  length-removed = length-set (take (length cs - 1) cs) i (classAt cs (length cs - 1)) ∙ length-take-le (length cs - 1) cs (omega arith)
-
-  pub total-removed : i < length cs → total (removed cs i) ≤ total cs
-  unfolding removed
-  total-removed b =
-      let e : suc (length cs - 1) ≡ length cs = omega arith in
-      omega (arith, total-set (take (length cs - 1) cs) i (classAt cs (length cs - 1)), total-take cs (length cs - 1), total-front cs (suc (length cs - 1)))
-
-  -- the class at k, by the place that it comes from
-  pub class-removed : (k m : ℕ) → k < length cs - 1 → (k ≡ i → m ≡ length cs - 1) → ((k ≡ i → ⊥) → m ≡ k) → classAt cs m ≡ classAt (removed cs i) k
-  unfolding removed
-  class-removed k m b p q = at (ℕ-discrete k i)
-    where
-      at : Dec (k ≡ i) → classAt cs m ≡ getD (set (take (length cs - 1) cs) i (classAt cs (length cs - 1))) k noClass
-      at (yes e) =
-          rw (p e, e) (sym (getD-set-same (take (length cs - 1) cs) i (classAt cs (length cs - 1)) noClass (omega (arith, length-take-le (length cs - 1) cs (omega arith)))))
-      at (no e) =
-          rw (q e) (sym (getD-set-other (take (length cs - 1) cs) i k (classAt cs (length cs - 1)) noClass e ∙ getD-take (length cs - 1) cs k noClass b))
-
--- a group with a class merged into one of its classes
-module _ (cs : List Class) (i : ℕ) (d : Class) where
-  pub length-merged : length (mergedAt cs i d) ≡ length cs
-  unfolding mergedAt
-  length-merged = length-set cs i (merged (classAt cs i) d)
-
-  pub total-merged-at : i < length cs → total (mergedAt cs i d) ≡ total cs + length (d .members)
-  unfolding mergedAt
-  total-merged-at b = total-merged cs i d b
-
-  -- the classes of it
-  pub merged-same : i < length cs → classAt (mergedAt cs i d) i ≡ merged (classAt cs i) d
-  unfolding mergedAt
-  merged-same b = getD-set-same cs i (merged (classAt cs i) d) noClass b
-
-  pub merged-other : (k : ℕ) → (k ≡ i → ⊥) → classAt (mergedAt cs i d) k ≡ classAt cs k
-  unfolding mergedAt
-  merged-other k e = getD-set-other cs i k (merged (classAt cs i) d) noClass e
+-- a group without a class: the class at k, by the place that it comes from
+pub class-removed : (cs : List Class) (i k m : ℕ) → k < length cs - 1 → (k ≡ i → m ≡ length cs - 1) → ((k ≡ i → ⊥) → m ≡ k) → classAt cs m ≡ classAt (removed cs i) k
+class-removed cs i k m b p q = at (ℕ-discrete k i)
+  where
+    at : Dec (k ≡ i) → classAt cs m ≡ classAt (removed cs i) k
+    at (yes e) = let l : i < length cs - 1 = rw e at b in rw (p e, e) (sym (removed-gap cs i l))
+    at (no e) = rw (q e) (sym (removed-other cs i k b e))
 
 -- a class merged into the last
 pub merged-last : (cs : List Class) (c d : Class) (n : ℕ) → n ≡ length cs → mergedAt (cs ++ (c ∷ [])) n d ≡ cs ++ (merged c d ∷ [])
 unfolding mergedAt
 merged-last cs c d n e =
-    rw (getD-at cs c [] noClass n (sym e)) (set-at cs c [] (merged c d) n (sym e))
+    rw (getD-at cs c [] nothing n (sym e)) (set-at cs c [] (merged c d) n (sym e))

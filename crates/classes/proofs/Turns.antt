@@ -6,12 +6,13 @@ use native.Mathlib.Decide.{ℕ-discrete}
 use native.Mathlib.Omega.{arith}
 use lib.ListN.{length, getD, take, length-append}
 use Rattle.classes.specs.Class.{Class, merged}
-use Rattle.classes.specs.Group.{classAt, total, removed, mergedAt}
+use Rattle.classes.specs.Group.{classAt, total, removed, length-removed, mergedAt}
 use Rattle.classes.specs.Layout.{encode, decode}
 use Rattle.classes.specs.Inner.{Coded, Room}
 use Rattle.classes.specs.declared.Group.{Group}
-use Rattle.classes.proofs.Codec.{decode-encode, coded-encode, length-decode, used-is, size-is}
-use Rattle.classes.proofs.Rebuilding.{total-more, rebuilt-few, rebuilt-coded, rebuilt-room, rebuilt-next, rebuilt-all, length-removed, total-removed, class-removed, length-merged, total-merged-at, merged-same, merged-other, merged-last}
+use Rattle.classes.proofs.Places.{total-removed, length-mergedAt, total-mergedAt, mergedAt-same, mergedAt-other, length-more, total-more}
+use Rattle.classes.proofs.Codec.{built-count, built-used, built-limit, built-classes, built-coded, length-decode, used-is, size-is}
+use Rattle.classes.proofs.Rebuilding.{rebuilt-few, rebuilt-coded, rebuilt-room, rebuilt-next, rebuilt-all, class-removed, merged-last}
 
 -- without class i
 module _ (g : Group) (v : Coded g) (i : ℕ) (there : i < g .count) where
@@ -71,8 +72,8 @@ class-grows cs i d k l = at (ℕ-discrete k i)
     at : Dec (k ≡ i) → length (classAt cs k .members) ≤ length (classAt (mergedAt cs i d) k .members)
     at (yes e) =
         let b : i < length cs = rw e at l in
-        rw (e, merged-same cs i d b) (omega (arith, length-merged-class (classAt cs i) d))
-    at (no e) = rw (merged-other cs i d k e) (omega arith)
+        rw (e, mergedAt-same cs i d b) (omega (arith, length-merged-class (classAt cs i) d))
+    at (no e) = rw (mergedAt-other cs i k d e) (omega arith)
 
 -- what the next class of a group with class j of another merged into class i asks
 abbrev pub Mergeable : Group → Group → ℕ → ℕ → Group → ℕ → Type 0
@@ -99,30 +100,23 @@ module _ (out g : Group) (k i : ℕ) (src : Group) (j : ℕ) (p : Mergeable out 
   -- any other class than class i
   pub merged-passed : (next : Group) → (k ≡ i → ⊥) → next ≡ encode (out .limit) (decode out ++ (classAt (decode g) k ∷ []))
       → next ≡ encode (out .limit) (decode out ++ (classAt (mergedAt (decode g) i (classAt (decode src) j)) k ∷ []))
-  merged-passed next e f = f ∙ rw (merged-other (decode g) i (classAt (decode src) j) k e)
+  merged-passed next e f = f ∙ rw (mergedAt-other (decode g) i k (classAt (decode src) j) e)
 
   -- class i
   module _ (next : Group) (e : k ≡ i) (f : next ≡ encode (out .limit) (decode out ++ (classAt (decode g) k ∷ []))) where
     result-is : classAt (mergedAt (decode g) i (classAt (decode src) j)) k ≡ merged (classAt (decode g) k) (classAt (decode src) j)
     result-is =
         let b : i < length (decode g) = rw e at long in
-        rw e (merged-same (decode g) i (classAt (decode src) j) b)
+        rw e (mergedAt-same (decode g) i (classAt (decode src) j) b)
+
+    abbrev grown : List Class
+    grown = decode out ++ (classAt (decode g) k ∷ [])
 
     next-count : next .count ≡ out .count + 1
-    unfolding encode
-    next-count =
-        ap (λ (h : Group). h .count) f ∙ length-append (decode out) (classAt (decode g) k ∷ []) ∙ rw (length-decode out)
+    next-count = omega (arith, built-count (out .limit) grown next f, length-more (decode out) (classAt (decode g) k), length-decode out)
 
     next-used : next .used ≡ out .used + length (classAt (decode g) k .members)
-    unfolding encode
-    next-used = ap (λ (h : Group). h .used) f ∙ total-more (decode out) (classAt (decode g) k) ∙ rw (used-is out (p .0 .0 .0))
-
-    next-limit : next .limit ≡ out .limit
-    unfolding encode
-    next-limit = ap (λ (h : Group). h .limit) f
-
-    next-classes : decode next ≡ decode out ++ (classAt (decode g) k ∷ [])
-    next-classes = ap decode f ∙ decode-encode (out .limit) (decode out ++ (classAt (decode g) k ∷ []))
+    next-used = omega (arith, built-used (out .limit) grown next f, total-more (decode out) (classAt (decode g) k), used-is out (p .0 .0 .0))
 
     next-fits : next .used + getD (src .sizes) j 0 ≤ 256
     next-fits =
@@ -131,9 +125,8 @@ module _ (out g : Group) (k i : ℕ) (src : Group) (j : ℕ) (p : Mergeable out 
 
     next-coded : Coded next
     next-coded =
-        let a : length (decode out ++ (classAt (decode g) k ∷ [])) ≤ 64 = omega (arith, length-append (decode out) (classAt (decode g) k ∷ []), length-decode out, p .0 .0 .1) in
-        let b : total (decode out ++ (classAt (decode g) k ∷ [])) ≤ 256 = omega (arith, total-more (decode out) (classAt (decode g) k), used-is out (p .0 .0 .0), next-used, next-fits) in
-        rw f (coded-encode (out .limit) (decode out ++ (classAt (decode g) k ∷ [])) a b)
+        built-coded (out .limit) grown next f (omega (arith, length-more (decode out) (classAt (decode g) k), length-decode out, p .0 .0 .1))
+        (omega (arith, total-more (decode out) (classAt (decode g) k), used-is out (p .0 .0 .0), next-used, next-fits))
 
     -- the other class has room
     pub merged-next-room : Room next src j × (0 < next .count)
@@ -145,19 +138,19 @@ module _ (out g : Group) (k i : ℕ) (src : Group) (j : ℕ) (p : Mergeable out 
         → r ≡ encode (out .limit) (decode out ++ (classAt (mergedAt (decode g) i (classAt (decode src) j)) k ∷ []))
     merged-made r q =
         let n : next .count - 1 ≡ length (decode out) = omega (arith, next-count, length-decode out) in
-        q ∙ rw (next-classes, next-limit, result-is) (ap (encode (out .limit)) (merged-last (decode out) (classAt (decode g) k) (classAt (decode src) j) (next .count - 1) n))
+        q ∙ rw (built-classes (out .limit) grown next f, built-limit (out .limit) grown next f, result-is) (ap (encode (out .limit)) (merged-last (decode out) (classAt (decode g) k) (classAt (decode src) j) (next .count - 1) n))
 
 -- class j of another merged into class i
 module _ (g : Group) (v : Coded g) (i : ℕ) (there : i < g .count) (src : Group) (w : Coded src) (j : ℕ) (other : j < src .count) (room : g .used + getD (src .sizes) j 0 ≤ 256) where
   merged-long : g .count ≡ length (mergedAt (decode g) i (classAt (decode src) j))
-  merged-long = omega (arith, length-merged (decode g) i (classAt (decode src) j), length-decode g)
+  merged-long = omega (arith, length-mergedAt (decode g) i (classAt (decode src) j), length-decode g)
 
   merged-few : length (mergedAt (decode g) i (classAt (decode src) j)) ≤ 64
   merged-few = omega (arith, merged-long, v .few)
 
   merged-small : total (mergedAt (decode g) i (classAt (decode src) j)) ≤ 256
   merged-small =
-      omega (arith, total-merged-at (decode g) i (classAt (decode src) j) (omega (arith, length-decode g)), used-is g v, size-is src w j)
+      omega (arith, total-mergedAt (decode g) i (classAt (decode src) j) (omega (arith, length-decode g)), used-is g v, size-is src w j)
 
   module _ (k : ℕ) (out : Group) (inside : k < g .count) (is : out ≡ encode (g .limit) (take k (mergedAt (decode g) i (classAt (decode src) j)))) where
     merged-within : k < length (mergedAt (decode g) i (classAt (decode src) j))

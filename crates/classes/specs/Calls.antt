@@ -1,17 +1,15 @@
 -- What each public call answers and the group that it hands back, over the lent cells and the struct, in document 01's order of refusals.
-use Rattle.classes.specs.declared.ClassIs.the-variants.{At as Class-At, Nowhere as NoClass, Refused as Class-Refused}
-use Rattle.classes.specs.declared.ClassIs.{ClassIs}
-use Rattle.classes.specs.Group.{classAt, classOf}
-use mathlib.Core.Option.{Option, none, some}
 use Prim.Native.Nat.{ℕ, _+_}
 use mathlib.Core.Bool.{Bool, true, false, _&&_, _||_}
-use mathlib.Core.List.{List, []}
+use mathlib.Core.List.{List, [], _∷_}
+use mathlib.Core.Option.{Option, none, some}
 use lib.Dec.{eqb, ltb, leb}
 use lib.ListN.{length, getD}
 use Rattle.laws.specs.Tests.{if_then_else_}
 use Rattle.arena.specs.Node.{Node}
 use Rattle.arena.specs.Layout.{lawful, decode as nodes}
 use Rattle.classes.specs.Class.{Class}
+use Rattle.classes.specs.Group.{classAt, classOf}
 use Rattle.classes.specs.Questions.{exprsEqual, exprConstant}
 use Rattle.classes.specs.Steps.{Outcome, addConstant}
 use Rattle.classes.specs.Layout.{encode, decode, markOf, inSet, lawfulGroup, membersInside, constantFrom}
@@ -21,6 +19,8 @@ use Rattle.classes.specs.declared.Answer.{Answer}
 use Rattle.classes.specs.declared.Answer.the-variants.{Yes, No, Refused as Answer-Refused}
 use Rattle.classes.specs.declared.ConstantIs.{ConstantIs}
 use Rattle.classes.specs.declared.ConstantIs.the-variants.{Is, Refused as Constant-Refused}
+use Rattle.classes.specs.declared.ClassIs.{ClassIs}
+use Rattle.classes.specs.declared.ClassIs.the-variants.{At as Class-At, Nowhere as NoClass, Refused as Class-Refused}
 
 -- the check of a lent group over a lent arena: 12, then 11 for the arena or the group, then 1, else 0
 unfoldable pub groupNumber : List ℕ → Group → ℕ
@@ -77,3 +77,33 @@ unfoldable pub onConstant : ℕ → ℕ → ℕ → List ℕ → Group → Chang
 onConstant e flavour value cells g =
     if sayable flavour value then onGroup (λ ns cs. addConstant true (g .limit) ns e (constantFrom (flavour + 1) value) cs) cells g
     else record { number = 12; answer = false; group = g }
+
+-- document 01's number of each answer: 0 is done. The number of a call that changes a group stands in what it hands back
+abbrev pub answerNumber : Answer → ℕ
+answerNumber Yes = 0
+answerNumber No = 0
+answerNumber (Answer-Refused k) = k
+
+abbrev pub constantIsNumber : ConstantIs → ℕ
+constantIsNumber (Is mark) = 0
+constantIsNumber (Constant-Refused k) = k
+
+abbrev pub classIsNumber : ClassIs → ℕ
+classIsNumber (Class-At place size first mark) = 0
+classIsNumber NoClass = 0
+classIsNumber (Class-Refused k) = k
+
+-- the values of each answer: 1 for yes and 0 for no, a constant's flavour and value, a class's numbers in their order; a refusal has none
+abbrev pub answerValues : Answer → List ℕ
+answerValues Yes = 1 ∷ []
+answerValues No = 0 ∷ []
+answerValues (Answer-Refused k) = []
+
+abbrev pub constantIsValues : ConstantIs → List ℕ
+constantIsValues (Is mark) = mark .flavour ∷ mark .value ∷ []
+constantIsValues (Constant-Refused k) = []
+
+abbrev pub classIsValues : ClassIs → List ℕ
+classIsValues (Class-At place size first mark) = place ∷ size ∷ first ∷ mark .flavour ∷ mark .value ∷ []
+classIsValues NoClass = []
+classIsValues (Class-Refused k) = []

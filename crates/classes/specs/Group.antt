@@ -1,10 +1,13 @@
 -- A group is a list of classes. What document 01 says of it, in its order: the class of an expression, an equal condition, a constant, a gap, clearing.
-use Prim.Native.Nat.{ℕ, zero, suc, _+_, _-_, min, max}
+use Prim.Native.Nat.{ℕ, zero, suc, _+_, _-_, _<_, _≤_, min, max}
 use mathlib.Core.Bool.{Bool, true, false, _||_}
 use mathlib.Core.List.{List, [], _∷_, _++_}
 use mathlib.Core.Option.{Option, none, some}
+use mathlib.Core.Path.{_≡_, ap, _∙_}
+use native.Mathlib.Omega.{arith}
 use lib.Dec.{eqb}
-use lib.ListN.{length, getD, take, set}
+use lib.ListN.{length, getD, take, set, length-set}
+use lib.Seq.{length-take-le}
 use Rattle.laws.specs.Tests.{if_then_else_, first}
 use Rattle.arena.specs.Node.{Node, nodeAt}
 use Rattle.classes.specs.Class.{Constant, noConstant, heterogeneous, unknown, known, Class, isUniform, taken, carried, single, merged, sameConstant}
@@ -30,6 +33,12 @@ total (c ∷ cs) = length (c .members) + total cs
 -- where a class goes, the last moves into its gap
 unfoldable pub removed : List Class → ℕ → List Class
 removed cs i = set (take (length cs - 1) cs) i (classAt cs (length cs - 1))
+
+-- and there is one fewer
+pub length-removed : (cs : List Class) (i : ℕ) → length (removed cs i) ≡ length cs - 1
+unfolding removed
+length-removed cs i =
+    length-set (take (length cs - 1) cs) i (classAt cs (length cs - 1)) ∙ length-take-le (length cs - 1) cs (omega arith)
 
 -- a class is merged into the one at a place
 unfoldable pub mergedAt : List Class → ℕ → Class → List Class
@@ -103,6 +112,35 @@ clearFrom (suc n) i changed cs =
       | gone ↦ clearFrom n i true (removed cs i)
     ]
 
--- front to back, over all classes: each step passes one class or drops one, so there are as many as classes
+-- clearing from a place to the end: each step passes one class or drops one, so there are as many as classes from there on
+unfoldable pub clearRest : ℕ → Bool → List Class → Bool × List Class
+clearRest i changed cs = clearFrom (length cs - i) i changed cs
+
+-- what it comes to: past the end, and by the class at the place
+module _ (i : ℕ) (changed : Bool) (cs : List Class) where
+  pub clear-end : length cs ≤ i → clearRest i changed cs ≡ (changed, cs)
+  unfolding clearRest clearFrom
+  clear-end l = let e : length cs - i ≡ 0 = omega arith in ap (λ (n : ℕ). clearFrom n i changed cs) e
+
+  pub clear-kept : i < length cs → clearedBy (classAt cs i) ≡ kept → clearRest i changed cs ≡ clearRest (i + 1) changed cs
+  unfolding clearRest clearFrom
+  clear-kept l q =
+      let e : length cs - i ≡ suc (length cs - (i + 1)) = omega arith in
+      ap (λ (n : ℕ). clearFrom n i changed cs) e ∙ rw (q, clearFrom)
+
+  pub clear-dropped : i < length cs → clearedBy (classAt cs i) ≡ dropped → clearRest i changed cs ≡ clearRest (i + 1) true (set cs i (record { members = classAt cs i .members; constant = noConstant }))
+  unfolding clearRest clearFrom
+  clear-dropped l q =
+      let ds : List Class = set cs i (record { members = classAt cs i .members; constant = noConstant }) in
+      let e : length cs - i ≡ suc (length ds - (i + 1)) = omega (arith, length-set cs i (record { members = classAt cs i .members; constant = noConstant })) in
+      ap (λ (n : ℕ). clearFrom n i changed cs) e ∙ rw (q, clearFrom)
+
+  pub clear-gone : i < length cs → clearedBy (classAt cs i) ≡ gone → clearRest i changed cs ≡ clearRest i true (removed cs i)
+  unfolding clearRest clearFrom
+  clear-gone l q =
+      let e : length cs - i ≡ suc (length (removed cs i) - i) = omega (arith, length-removed cs i) in
+      ap (λ (n : ℕ). clearFrom n i changed cs) e ∙ rw (q, clearFrom)
+
+-- front to back, over all classes
 unfoldable pub cleared : List Class → Bool × List Class
-cleared cs = clearFrom (length cs) 0 false cs
+cleared cs = clearRest 0 false cs

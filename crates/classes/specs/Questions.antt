@@ -1,12 +1,12 @@
 -- The two questions. Each is answered for every number of the arena, from the answers for the nodes before it.
 use Prim.Native.Nat.{ℕ}
-use mathlib.Core.Bool.{Bool, true, false, _&&_, _||_, not}
+use mathlib.Core.Bool.{Bool, true, false, _&&_, _||_}
 use mathlib.Core.List.{List}
 use mathlib.Core.Option.{Option, none, some}
 use lib.Dec.{eqb, ltb}
 use lib.ListN.{length, getD}
 use Rattle.laws.specs.Tests.{if_then_else_, each}
-use Rattle.arena.specs.Node.{Node, literal, nodeAt, childNumbers, made}
+use Rattle.arena.specs.Node.{Node, nodeAt, childNumbers, made}
 use Rattle.classes.specs.Class.{Constant, noConstant, heterogeneous, unknown, known, Class, carried}
 use Rattle.classes.specs.Group.{classAt, classOf}
 

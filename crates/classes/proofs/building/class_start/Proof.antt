@@ -3,7 +3,7 @@ use Prim.Native.Nat.{_+_, _-_, _≤_}
 use mathlib.Core.Path.{_≡_, sym}
 use native.Mathlib.Omega.{arith}
 use Rattle.classes.specs.Layout.{sumTo}
-use Rattle.classes.proofs.Codec.{sum-more, sum-upto}
+use Rattle.classes.proofs.Numbers.{sum-next, sum-more}
 use borrow.Author.Needs.{needs}
 use Rattle.classes.proofs.building.class_start.Statement.{statement}
 use Rattle.classes.proofs.building.class_start.Tie as tie
@@ -28,7 +28,7 @@ add-sum : tie.Need-add-sum Inv-loop μ-loop
 add-sum c =
     let s = c .before .before in
     let l = c .before .loop in
-    omega (arith, sum-more (s .args .t1) (l .i), sum-upto (s .args .t1) (l .i + 1) (s .args .j) (omega arith))
+    omega (arith, sum-next (s .args .t1) (l .i), sum-more (s .args .t1) (l .i + 1) (s .args .j) (omega arith))
 
 add-i : tie.Need-add-i Inv-loop μ-loop
 add-i c = search needs
@@ -38,7 +38,7 @@ loop-less c = search needs
 
 loop-again : tie.Need-loop-again Inv-loop μ-loop
 loop-again c =
-    (search needs, rw (c .before .loop .inv .1) (sym (sum-more (c .before .before .args .t1) (c .before .loop .i))))
+    (search needs, rw (c .before .loop .inv .1) (sym (sum-next (c .before .before .args .t1) (c .before .loop .i))))
 
 returns : tie.Need-returns Inv-loop μ-loop
 returns c = let e : c .before .loop .i ≡ c .before .before .args .j = omega arith in rw e at (c .before .loop .inv .1)

@@ -8,7 +8,7 @@ use borrow.Author.Tests.{not-true, not-false}
 use Rattle.laws.specs.Tests.{each}
 use Rattle.laws.proofs.Each.{each-none, each-more, each-stops, each-ends}
 use Rattle.classes.specs.Layout.{sumTo, uniformAt}
-use Rattle.classes.proofs.Checks.{sum-none, sum-next, sum-holds}
+use Rattle.classes.proofs.Numbers.{sum-none, sum-next, sum-holds}
 use Rattle.classes.proofs.checking.classes_uniform.Statement.{statement}
 use Rattle.classes.proofs.checking.classes_uniform.Tie as tie
 use Rattle.arena.specs.Layout.{decode as nodes}

@@ -4,7 +4,7 @@ use mathlib.Core.Path.{_≡_}
 use native.Mathlib.Omega.{arith}
 use borrow.Author.Needs.{needs}
 use Rattle.classes.specs.Layout.{sumTo}
-use Rattle.classes.proofs.Checks.{sum-none, sum-next, sum-over, sum-all}
+use Rattle.classes.proofs.Numbers.{sum-none, sum-next, sum-over, sum-all}
 use Rattle.classes.proofs.checking.sizes_agree.Statement.{statement}
 use Rattle.classes.proofs.checking.sizes_agree.Tie as tie
 

@@ -11,7 +11,8 @@ use Rattle.classes.specs.Steps.{judged}
 use Rattle.classes.specs.Layout.{decode}
 use Rattle.classes.specs.Calls.{changed}
 use Rattle.classes.proofs.ConstantLaws.{place-at, place-nowhere, accepted-is}
-use Rattle.classes.proofs.EquatingLaws.{class-below, join-fits, equal-both, equal-left, equal-right, equal-new}
+use Rattle.classes.proofs.ClassPlaces.{class-below}
+use Rattle.classes.proofs.EquatingLaws.{join-fits, equal-both, equal-left, equal-right, equal-new}
 use borrow.Author.Needs.{needs}
 use Rattle.classes.proofs.equating.equate.Statement.{statement}
 use Rattle.classes.proofs.equating.equate.Tie as tie

@@ -8,8 +8,8 @@ use Rattle.arena.specs.Layout.{decode as nodes}
 use Rattle.classes.specs.Class.{Class, carried, single}
 use Rattle.classes.specs.Group.{pair}
 use Rattle.classes.specs.Layout.{encode, decode}
-use Rattle.classes.proofs.ConstantLaws.{refusal-is, accepted-is, one-coded, one-count, one-size, one-is}
-use Rattle.classes.proofs.EquatingLaws.{pair-same, pair-two, pair-one, pair-both, pair-filled, more-many, more-full, more-room, last-asks, last-is}
+use Rattle.classes.proofs.ConstantLaws.{refusal-is, accepted-is, more-many, more-full, more-room, one-coded, one-count, one-size, one-is}
+use Rattle.classes.proofs.EquatingLaws.{pair-same, pair-two, pair-one, pair-both, pair-filled, last-asks, last-is}
 use borrow.Author.Needs.{needs}
 use Rattle.classes.proofs.equating.open_class.Statement.{statement}
 use Rattle.classes.proofs.equating.open_class.Tie as tie

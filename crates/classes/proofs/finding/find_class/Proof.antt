@@ -7,7 +7,8 @@ use Rattle.laws.proofs.First.{first-hit, first-on, first-ends}
 use Rattle.classes.specs.Group.{classOf}
 use Rattle.classes.specs.Layout.{sumTo, decode}
 use Rattle.classes.specs.Inner.{placeOf}
-use Rattle.classes.proofs.Codec.{class-inside, sum-more}
+use Rattle.classes.proofs.Numbers.{sum-next}
+use Rattle.classes.proofs.Codec.{class-inside}
 use Rattle.classes.proofs.Members.{Holds, class-begins, part-holds}
 use borrow.Author.Needs.{needs}
 use Rattle.classes.proofs.finding.find_class.Statement.{statement}
@@ -55,7 +56,7 @@ loop-again : tie.Need-loop-again Inv-loop μ-loop
 loop-again c =
     let s = c .before .before .before .before .before .before in
     let l = c .before .before .before .before .loop in
-    (search needs, (rw (l .inv .1 .0) (sym (sum-more (s .args .t1 .sizes) (l .i))), l .inv .1 .1 ∙ first-on (Holds (s .args .t1) (s .args .e)) (s .args .t1 .count) (l .i) (search needs) (part-holds (s .args .t1) (s .args .e) (l .i) (l .start) (c .before .among .result) (s .pre) (l .inv .1 .0) (c .before .among .ensures) ∙ c .if1 .left)))
+    (search needs, (rw (l .inv .1 .0) (sym (sum-next (s .args .t1 .sizes) (l .i))), l .inv .1 .1 ∙ first-on (Holds (s .args .t1) (s .args .e)) (s .args .t1 .count) (l .i) (search needs) (part-holds (s .args .t1) (s .args .e) (l .i) (l .start) (c .before .among .result) (s .pre) (l .inv .1 .0) (c .before .among .ensures) ∙ c .if1 .left)))
 
 returns-2 : tie.Need-returns-2 Inv-loop μ-loop
 returns-2 c =
