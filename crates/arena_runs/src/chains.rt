@@ -1,7 +1,8 @@
 // Chains: a column, and operations over it, each with the one before as all of its children.
 use crate::calls;
-use crate::print;
 use arena::Added;
+use showing::nodes;
+use showing::print;
 
 // The examples, on an arena each.
 pub fn run() {
@@ -30,7 +31,7 @@ fn chain(cells: &mut [u32; 11265], n: u32, width: u32) {
         grow(cells, i, width);
         i += 1;
     }
-    print::nodes(cells);
+    nodes::count(cells);
 }
 
 // 1,000 doublings: shifted they would need 2,002 nodes. The first 22 of them just fit.
@@ -43,7 +44,7 @@ fn doublings_1000() {
     calls::up(&mut cells, 23, 5);
     calls::up(&mut cells, 22, 5);
     calls::up(&mut cells, 21, 5);
-    print::nodes(&cells);
+    nodes::count(&cells);
 }
 
 // 500 doublings, shifted there and back.
@@ -52,7 +53,7 @@ fn doublings_500() {
     let mut cells = [0; 11265];
     chain(&mut cells, 500, 2);
     calls::up(&mut cells, 500, 5);
-    print::nodes(&cells);
+    nodes::count(&cells);
     calls::down(&mut cells, 1001, 5);
     calls::up(&mut cells, 500, 5);
     calls::up(&mut cells, 500, 0);
@@ -78,7 +79,7 @@ fn eights_500() {
     chain(&mut cells, 500, 8);
     calls::up(&mut cells, 500, 0);
     calls::up(&mut cells, 500, 5);
-    print::nodes(&cells);
+    nodes::count(&cells);
     calls::read(&cells, 1001);
     calls::down(&mut cells, 1001, 5);
 }

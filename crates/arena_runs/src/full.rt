@@ -1,7 +1,8 @@
 // A full arena: no new node, but every old one is still answered.
 use crate::calls;
-use crate::print;
 use crate::refusals;
+use showing::nodes;
+use showing::print;
 
 // The examples, on one arena.
 pub fn run() {
@@ -9,7 +10,7 @@ pub fn run() {
     let mut cells = [0; 11265];
     start(&mut cells);
     fill(&mut cells);
-    print::nodes(&cells);
+    nodes::count(&cells);
     calls::check(&cells);
     new_nodes(&mut cells);
     old_nodes(&mut cells);

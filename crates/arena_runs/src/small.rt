@@ -1,6 +1,7 @@
 // Small examples: equal nodes have one number, different nodes different ones, and each is read back.
 use crate::calls;
-use crate::print;
+use showing::nodes;
+use showing::print;
 
 // The examples, on one arena.
 pub fn run() {
@@ -66,7 +67,7 @@ fn again(cells: &mut [u32; 11265]) {
 
 // Each node read, and the number after the last.
 fn read_back(cells: &[u32; 11265]) {
-    print::nodes(cells);
+    nodes::count(cells);
     let mut e = 0;
     while e < 17 {
         calls::read(cells, e);

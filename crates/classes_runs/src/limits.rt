@@ -1,13 +1,14 @@
 // Limits: how many members and classes fit, and what is refused with 4.
-use crate::calls;
-use crate::nodes;
-use crate::print;
 use classes::Group;
+use showing::print;
+use showing_groups::calls;
+use showing_groups::examples;
+use showing_groups::show;
 
 // The examples, on an arena of 300 columns.
 pub fn run() {
     let mut cells = [0; 11265];
-    nodes::columns(&mut cells, 300);
+    examples::columns(&mut cells, 300);
     print::line(b"-- 256 members fit in one class, and no more");
     full(&cells);
     print::line(b"-- 255 members: (x,x) fits, two unknowns don't");
@@ -46,7 +47,7 @@ fn ones(cells: &[u32; 11265], n: u32) -> Group {
 // A 257th member in each way that there is; then what needs no room.
 fn full(cells: &[u32; 11265]) {
     let g = star(cells, 255);
-    print::group(g);
+    show::group(g);
     calls::class_of(cells, g, 255);
     calls::class_of(cells, g, 256);
     calls::equal(cells, g, 0, 256);
@@ -63,7 +64,7 @@ fn full(cells: &[u32; 11265]) {
 // Room for one member.
 fn one_below(cells: &[u32; 11265]) {
     let g = star(cells, 254);
-    print::group(g);
+    show::group(g);
     calls::equal(cells, g, 256, 257);
     calls::equal(cells, g, 256, 256);
     calls::equal(cells, g, 256, 254);
@@ -102,7 +103,7 @@ fn one(cells: &[u32; 11265]) {
 // A 65th class in each way that there is.
 fn classes_full(cells: &[u32; 11265]) {
     let g = ones(cells, 64);
-    print::group(g);
+    show::group(g);
     calls::class_of(cells, g, 63);
     calls::equal(cells, g, 64, 64);
     calls::equal(cells, g, 64, 65);

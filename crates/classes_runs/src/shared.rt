@@ -1,8 +1,8 @@
 // Chains: an expression, and operations over it, each with the one before as all of its children.
-use crate::calls;
-use crate::nodes;
-use crate::print;
 use arena::Added;
+use showing::print;
+use showing_groups::calls;
+use showing_groups::examples;
 
 // The examples, on an arena each.
 pub fn run() {
@@ -48,7 +48,7 @@ fn chain(cells: &mut [u32; 11265], start: u32, n: u32, width: u32) -> u32 {
 // A chain over a column, and the same shifted by one: equal where the two columns are, expressions 0 and 501.
 fn two_chains() {
     let mut cells = [0; 11265];
-    nodes::columns(&mut cells, 1);
+    examples::columns(&mut cells, 1);
     let left = chain(&mut cells, 0, 500, 2);
     let right = added(arena::add_offset_to_expr(&mut cells, left, 1), left);
     let mut g = calls::fresh(256);
@@ -65,7 +65,7 @@ fn two_chains() {
 // A chain of 1,000 operations over a column. Where it equals the first operation, each operation equals the next.
 fn over_column(width: u32) {
     let mut cells = [0; 11265];
-    nodes::columns(&mut cells, 1);
+    examples::columns(&mut cells, 1);
     let top = chain(&mut cells, 0, 1000, width);
     let mut g = calls::fresh(256);
     calls::ask_constant(&cells, g, top);
