@@ -2,7 +2,6 @@
 use arena::Read;
 use showing::nodes;
 use showing::print;
-use showing::same;
 
 // The check.
 pub fn check(cells: &[u32; 11265]) {
@@ -16,9 +15,8 @@ pub fn column(cells: &mut [u32; 11265], name: u16, index: u16) {
     let before = *cells;
     print::words(b"add ");
     nodes::column(name, index);
-    print::words(b": ");
-    nodes::added(arena::add_column(cells, name, index));
-    print::kept(b"cells", same::cells(&before, cells));
+    let answer = arena::add_column(cells, name, index);
+    nodes::ended(answer, &before, cells);
 }
 
 // Adds a literal.
@@ -26,9 +24,8 @@ pub fn literal(cells: &mut [u32; 11265], value: u32) {
     let before = *cells;
     print::words(b"add ");
     nodes::literal(value);
-    print::words(b": ");
-    nodes::added(arena::add_literal(cells, value));
-    print::kept(b"cells", same::cells(&before, cells));
+    let answer = arena::add_literal(cells, value);
+    nodes::ended(answer, &before, cells);
 }
 
 // Adds an operation.
@@ -38,9 +35,8 @@ pub fn operation(cells: &mut [u32; 11265], label: u32, children: &[u32]) {
     print::number(label);
     print::words(b" ");
     print::list(children);
-    print::words(b": ");
-    nodes::added(arena::add_operation(cells, label, children));
-    print::kept(b"cells", same::cells(&before, cells));
+    let answer = arena::add_operation(cells, label, children);
+    nodes::ended(answer, &before, cells);
 }
 
 // Reads a node, with its children.
@@ -96,9 +92,8 @@ pub fn child(cells: &[u32; 11265], expr: u32, place: u32) {
 // The answer of a shift, and the end of its line.
 fn shift(cells: &mut [u32; 11265], expr: u32, offset: i64) {
     let before = *cells;
-    print::words(b": ");
-    nodes::added(arena::add_offset_to_expr(cells, expr, offset));
-    print::kept(b"cells", same::cells(&before, cells));
+    let answer = arena::add_offset_to_expr(cells, expr, offset);
+    nodes::ended(answer, &before, cells);
 }
 
 // The first words of a shift's line.

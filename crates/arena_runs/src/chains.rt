@@ -1,6 +1,6 @@
 // Chains: a column, and operations over it, each with the one before as all of its children.
 use crate::calls;
-use arena::Added;
+use showing::making;
 use showing::nodes;
 use showing::print;
 
@@ -14,23 +14,10 @@ pub fn run() {
     eights_1023();
 }
 
-// The next operation of a chain, over one, two or eight children, all the same.
-fn grow(cells: &mut [u32; 11265], child: u32, width: u32) -> Added {
-    match width {
-        1 => arena::add_operation(cells, 1, &[child]),
-        2 => arena::add_operation(cells, 1, &[child, child]),
-        _ => arena::add_operation(cells, 1, &[child; 8]),
-    }
-}
-
-// A chain of n operations with this many children each.
+// A chain of n operations over column 0 0, with this many children each.
 fn chain(cells: &mut [u32; 11265], n: u32, width: u32) {
     arena::add_column(cells, 0, 0);
-    let mut i = 0;
-    while i < n {
-        grow(cells, i, width);
-        i += 1;
-    }
+    making::chain(cells, 0, n, width);
     nodes::count(cells);
 }
 

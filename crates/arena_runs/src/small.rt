@@ -56,13 +56,7 @@ fn again(cells: &mut [u32; 11265]) {
     calls::operation(cells, 9, &[0, 2]);
     calls::operation(cells, 9, &[1, 0]);
     calls::operation(cells, 8, &[0, 1]);
-    calls::operation(cells, 9, &[]);
-    calls::operation(cells, 9, &[0]);
-    calls::operation(cells, 9, &[0, 0]);
-    calls::operation(cells, 9, &[0, 0, 0, 0, 0, 0, 0, 0]);
-    calls::operation(cells, 9, &[4]);
-    calls::operation(cells, 9, &[4, 4]);
-    calls::operation(cells, 458755, &[]);
+    counts(cells);
 }
 
 // Each node read, and the number after the last.

@@ -1,5 +1,6 @@
 // The nodes of an arena, and what its calls answered.
 use crate::print;
+use crate::same;
 use arena::Added;
 use arena::Child;
 use arena::Read;
@@ -71,6 +72,13 @@ pub fn added(answer: Added) {
         Added::Number(i) => print::number(i),
         Added::Refused(k) => print::refused(k),
     }
+}
+
+// The end of an addition's line: what it answered, and whether the cells are as they were.
+pub fn ended(answer: Added, before: &[u32; 11265], after: &[u32; 11265]) {
+    print::words(b": ");
+    added(answer);
+    print::kept(b"cells", same::cells(before, after));
 }
 
 // What a read of a child answered: a node's number, that there is none, or a refusal.

@@ -1,23 +1,15 @@
 // The arena of the small examples.
+use showing::making;
 
 // Columns 0 to 7, literals 8 to 11, operations 12 to 26.
 pub fn base() -> [u32; 11265] {
     let mut cells = [0; 11265];
-    columns(&mut cells, 8);
+    making::columns(&mut cells, 0, 0, 8);
     literals(&mut cells);
     wide(&mut cells);
     narrow(&mut cells);
     deep(&mut cells);
     cells
-}
-
-// The first n columns of name 0.
-pub fn columns(cells: &mut [u32; 11265], n: u16) {
-    let mut index = 0;
-    while index < n {
-        arena::add_column(cells, 0, index);
-        index += 1;
-    }
 }
 
 // Literals 1, 2, 5 and 7.

@@ -1,6 +1,7 @@
 // Whether two groups are the same, field by field, the unused places of their tables too.
 use classes::Group;
 use showing::same::numbers;
+use showing::same::sizes;
 ghost use mathlib.Core.Bool.{true};
 ghost use mathlib.Core.Path.{_≡_};
 
@@ -16,23 +17,6 @@ fn counts(a: Group, b: Group) -> bool
     }
     if a.used != b.used {
         return false;
-    }
-    true
-}
-
-// Each size of one list is that of the other, and there are as many. True is answered only then.
-fn sizes(a: &[usize], b: &[usize]) -> bool
-    ensures { λ r. ⌜ (r ≡ true → now (a .entry) ≡ now (b .entry)) ⌝ }
-{
-    if a.len() != b.len() {
-        return false;
-    }
-    let mut i = 0;
-    while i < a.len() {
-        if a[i] != b[i] {
-            return false;
-        }
-        i += 1;
     }
     true
 }

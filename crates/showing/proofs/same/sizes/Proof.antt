@@ -1,23 +1,19 @@
--- `sizes` is safe, ends, and answers true only where the lists are one. In the loop the sizes passed are the same.
-use Prim.Native.Nat.{ℕ, _≤_, _<_, _-_}
-use mathlib.Core.Path.{_≡_, sym, subst}
-use native.Mathlib.Omega.{arith}
-use lib.Dec.{T}
-use lib.ListN.{length, getD}
-use lib.Seq.{ext-getD}
-use borrow.Author.Count.{below-more}
+-- `sizes` is safe, ends, and answers true only where the lists are one.
+use Prim.Native.Nat.{_-_}
+use lib.ListN.{length}
 use borrow.Author.Needs.{needs}
-use Rattle.showing_groups.proofs.same.sizes.Statement.{statement}
-use Rattle.showing_groups.proofs.same.sizes.Tie as tie
+use Rattle.showing.proofs.Lists.{Passed, passed-more, passed-all, never}
+use Rattle.showing.proofs.same.sizes.Statement.{statement}
+use Rattle.showing.proofs.same.sizes.Tie as tie
 
 abbrev Inv-loop : tie.InvT-loop
-Inv-loop a b i₀ i = (length a ≡ length b) × ((i ≤ length a) × ((k : ℕ) → k < i → getD a k 0 ≡ getD b k 0))
+Inv-loop a b i₀ i = Passed a b i
 
 abbrev μ-loop : tie.MeasureT-loop
 μ-loop a b i₀ i = length a - i
 
 returns : tie.Need-returns Inv-loop μ-loop
-returns c = λ e. absurd (subst T (sym e) tt)
+returns c = λ e. never e
 
 loop-holds : tie.Need-loop-holds Inv-loop μ-loop
 loop-holds c = search needs
@@ -35,7 +31,7 @@ shared-slice-read-if2-2 : tie.Need-shared-slice-read-if2-2 Inv-loop μ-loop
 shared-slice-read-if2-2 c = search needs
 
 returns-2 : tie.Need-returns-2 Inv-loop μ-loop
-returns-2 c = λ e. absurd (subst T (sym e) tt)
+returns-2 c = λ e. never e
 
 add-i : tie.Need-add-i Inv-loop μ-loop
 add-i c = search needs
@@ -45,13 +41,12 @@ loop-less c = search needs
 
 loop-again : tie.Need-loop-again Inv-loop μ-loop
 loop-again c =
-    let s = c .before .before .before .before .loop .inv in
-    (s .0, (search needs, below-more _ _ (s .1 .1) (c .if2 .left)))
+    let s = c .before .before .before .before in
+    let x = s .before .before .args in
+    passed-more (x .a .now) (x .b .now) (s .loop .i) (s .loop .inv) (search needs) (c .if2 .left)
 
 returns-3 : tie.Need-returns-3 Inv-loop μ-loop
-returns-3 c =
-    let s = c .before .loop .inv in
-    λ e. ext-getD 0 _ _ (s .0) (λ k l. s .1 .1 k (omega arith))
+returns-3 c = λ e. passed-all _ _ _ (c .before .loop .inv) (search needs)
 
 pub sizes-spec : {M : Type 1} → statement M
 sizes-spec =

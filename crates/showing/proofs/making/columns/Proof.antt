@@ -1,14 +1,14 @@
--- `fill` is safe and ends: the index counts up to 1,018.
+-- `columns` is safe and ends: the index counts up.
 use Prim.Native.Nat.{_≤_, _-_}
 use borrow.Author.Needs.{needs}
-use Rattle.arena_runs.proofs.full.fill.Statement.{statement}
-use Rattle.arena_runs.proofs.full.fill.Tie as tie
+use Rattle.showing.proofs.making.columns.Statement.{statement}
+use Rattle.showing.proofs.making.columns.Tie as tie
 
 abbrev Inv-loop : tie.InvT-loop
-Inv-loop cells₀ index₀ cells index = index ≤ 1018
+Inv-loop cells₀ name from to index₀ cells index = from ≤ index
 
 abbrev μ-loop : tie.MeasureT-loop
-μ-loop cells₀ index₀ cells index = 1018 - index
+μ-loop cells₀ name from to index₀ cells index = to - index
 
 loop-holds : tie.Need-loop-holds Inv-loop μ-loop
 loop-holds c = search needs
@@ -28,8 +28,8 @@ loop-again c = search needs
 returns : tie.Need-returns Inv-loop μ-loop
 returns c = search needs
 
-pub fill-spec : {M : Type 1} → statement M
-fill-spec =
+pub columns-spec : {M : Type 1} → statement M
+columns-spec =
     tie.close
     (tie.spec
     Inv-loop

@@ -1,8 +1,8 @@
 -- `chain` is safe and ends: k counts up to n.
 use Prim.Native.Nat.{_≤_, _-_}
 use borrow.Author.Needs.{needs}
-use Rattle.classes_runs.proofs.shared.chain.Statement.{statement}
-use Rattle.classes_runs.proofs.shared.chain.Tie as tie
+use Rattle.showing.proofs.making.chain.Statement.{statement}
+use Rattle.showing.proofs.making.chain.Tie as tie
 
 abbrev Inv-loop : tie.InvT-loop
 Inv-loop cells₀ start n width top₀ k₀ cells top k = k ≤ n
