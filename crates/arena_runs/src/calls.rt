@@ -1,24 +1,7 @@
 // Each public call of the arena, with its line: the call, its answer, and whether the cells are as they were.
-use crate::print;
 use arena::Read;
-ghost use mathlib.Core.Bool.{true};
-ghost use mathlib.Core.Path.{_≡_};
-ghost use Prim.Native.Nat.{ℕ, _<_};
-ghost use lib.ListN.{getD};
-
-// Each cell of one arena is that of the other. True is answered only then.
-pub fn same(a: &[u32; 11265], b: &[u32; 11265]) -> bool
-    ensures { λ r. ⌜ (r ≡ true → (k : ℕ) → k < 11265 → getD (now (a .entry)) k 0 ≡ getD (now (b .entry)) k 0) ⌝ }
-{
-    let mut i = 0;
-    while i < 11265 {
-        if a[i] != b[i] {
-            return false;
-        }
-        i += 1;
-    }
-    true
-}
+use showing::nodes;
+use showing::print;
 
 // The check.
 pub fn check(cells: &[u32; 11265]) {
@@ -31,20 +14,18 @@ pub fn check(cells: &[u32; 11265]) {
 pub fn column(cells: &mut [u32; 11265], name: u16, index: u16) {
     let before = *cells;
     print::words(b"add ");
-    print::column(name, index);
-    print::words(b": ");
-    print::added(arena::add_column(cells, name, index));
-    print::kept(same(&before, cells));
+    nodes::column(name, index);
+    let answer = arena::add_column(cells, name, index);
+    nodes::ended(answer, &before, cells);
 }
 
 // Adds a literal.
 pub fn literal(cells: &mut [u32; 11265], value: u32) {
     let before = *cells;
     print::words(b"add ");
-    print::literal(value);
-    print::words(b": ");
-    print::added(arena::add_literal(cells, value));
-    print::kept(same(&before, cells));
+    nodes::literal(value);
+    let answer = arena::add_literal(cells, value);
+    nodes::ended(answer, &before, cells);
 }
 
 // Adds an operation.
@@ -54,9 +35,8 @@ pub fn operation(cells: &mut [u32; 11265], label: u32, children: &[u32]) {
     print::number(label);
     print::words(b" ");
     print::list(children);
-    print::words(b": ");
-    print::added(arena::add_operation(cells, label, children));
-    print::kept(same(&before, cells));
+    let answer = arena::add_operation(cells, label, children);
+    nodes::ended(answer, &before, cells);
 }
 
 // Reads a node, with its children.
@@ -65,7 +45,7 @@ pub fn read(cells: &[u32; 11265], expr: u32) {
     print::number(expr);
     print::words(b": ");
     let answer = arena::read_node(cells, expr);
-    print::node(answer);
+    found(answer);
     match answer {
         Read::Operation(_, n) => children(cells, expr, n),
         _ => {}
@@ -73,16 +53,29 @@ pub fn read(cells: &[u32; 11265], expr: u32) {
     print::line(b"");
 }
 
+// An operation: its label and the number of its children.
+fn operation_of(label: u32, n: u32) {
+    print::words(b"operation ");
+    print::number(label);
+    print::words(b" of ");
+    print::number(n);
+}
+
 // The first n children of an operation, in parentheses.
 fn children(cells: &[u32; 11265], expr: u32, n: u32) {
     print::words(b" (");
-    let mut k = 0;
-    while k < n {
-        print::gap(k == 0);
-        print::child(arena::read_child(cells, expr, k));
-        k += 1;
-    }
+    nodes::children(cells, expr, n);
     print::words(b")");
+}
+
+// What a read answered, an operation with the number of its children.
+pub fn found(answer: Read) {
+    match answer {
+        Read::Column(name, index) => nodes::column(name, index),
+        Read::Literal(value) => nodes::literal(value),
+        Read::Operation(label, n) => operation_of(label, n),
+        Read::Refused(k) => print::refused(k),
+    }
 }
 
 // Reads the child of a node at a place.
@@ -92,16 +85,15 @@ pub fn child(cells: &[u32; 11265], expr: u32, place: u32) {
     print::words(b" ");
     print::number(place);
     print::words(b": ");
-    print::child(arena::read_child(cells, expr, place));
+    nodes::child(arena::read_child(cells, expr, place));
     print::line(b"");
 }
 
 // The answer of a shift, and the end of its line.
 fn shift(cells: &mut [u32; 11265], expr: u32, offset: i64) {
     let before = *cells;
-    print::words(b": ");
-    print::added(arena::add_offset_to_expr(cells, expr, offset));
-    print::kept(same(&before, cells));
+    let answer = arena::add_offset_to_expr(cells, expr, offset);
+    nodes::ended(answer, &before, cells);
 }
 
 // The first words of a shift's line.

@@ -1,7 +1,8 @@
 // Chains: a column, and operations over it, each with the one before as all of its children.
 use crate::calls;
-use crate::print;
-use arena::Added;
+use showing::making;
+use showing::nodes;
+use showing::print;
 
 // The examples, on an arena each.
 pub fn run() {
@@ -13,24 +14,11 @@ pub fn run() {
     eights_1023();
 }
 
-// The next operation of a chain, over one, two or eight children, all the same.
-fn grow(cells: &mut [u32; 11265], child: u32, width: u32) -> Added {
-    match width {
-        1 => arena::add_operation(cells, 1, &[child]),
-        2 => arena::add_operation(cells, 1, &[child, child]),
-        _ => arena::add_operation(cells, 1, &[child; 8]),
-    }
-}
-
-// A chain of n operations with this many children each.
+// A chain of n operations over column 0 0, with this many children each.
 fn chain(cells: &mut [u32; 11265], n: u32, width: u32) {
     arena::add_column(cells, 0, 0);
-    let mut i = 0;
-    while i < n {
-        grow(cells, i, width);
-        i += 1;
-    }
-    print::nodes(cells);
+    making::chain(cells, 0, n, width);
+    nodes::count(cells);
 }
 
 // 1,000 doublings: shifted they would need 2,002 nodes. The first 22 of them just fit.
@@ -43,7 +31,7 @@ fn doublings_1000() {
     calls::up(&mut cells, 23, 5);
     calls::up(&mut cells, 22, 5);
     calls::up(&mut cells, 21, 5);
-    print::nodes(&cells);
+    nodes::count(&cells);
 }
 
 // 500 doublings, shifted there and back.
@@ -52,7 +40,7 @@ fn doublings_500() {
     let mut cells = [0; 11265];
     chain(&mut cells, 500, 2);
     calls::up(&mut cells, 500, 5);
-    print::nodes(&cells);
+    nodes::count(&cells);
     calls::down(&mut cells, 1001, 5);
     calls::up(&mut cells, 500, 5);
     calls::up(&mut cells, 500, 0);
@@ -78,7 +66,7 @@ fn eights_500() {
     chain(&mut cells, 500, 8);
     calls::up(&mut cells, 500, 0);
     calls::up(&mut cells, 500, 5);
-    print::nodes(&cells);
+    nodes::count(&cells);
     calls::read(&cells, 1001);
     calls::down(&mut cells, 1001, 5);
 }

@@ -1,15 +1,17 @@
 // A full arena: no new node, but every old one is still answered.
 use crate::calls;
-use crate::print;
 use crate::refusals;
+use showing::making;
+use showing::nodes;
+use showing::print;
 
-// The examples, on one arena.
+// The examples, on one arena: nine nodes, and 1,015 columns more.
 pub fn run() {
     print::line(b"-- a full arena");
     let mut cells = [0; 11265];
     start(&mut cells);
-    fill(&mut cells);
-    print::nodes(&cells);
+    making::columns(&mut cells, 1, 3, 1018);
+    nodes::count(&cells);
     calls::check(&cells);
     new_nodes(&mut cells);
     old_nodes(&mut cells);
@@ -29,15 +31,6 @@ fn start(cells: &mut [u32; 11265]) {
     calls::column(cells, 1, 2);
     calls::operation(cells, 1, &[4, 5]);
     calls::operation(cells, 1, &[5, 6]);
-}
-
-// 1,015 columns more, name 1, index 3 to 1,017.
-fn fill(cells: &mut [u32; 11265]) {
-    let mut index = 3;
-    while index < 1018 {
-        arena::add_column(cells, 1, index);
-        index += 1;
-    }
 }
 
 // The 1,025th node, of each kind.

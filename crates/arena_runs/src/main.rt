@@ -4,7 +4,6 @@ mod calls;
 mod chains;
 mod full;
 mod order;
-mod print;
 mod refusals;
 mod small;
 

@@ -1,7 +1,8 @@
 // The order of refusals where several hold: 11, 1, 2, 10, 3. That 1, 2 and 10 come before 3 is shown on the full arena.
 use crate::calls;
-use crate::print;
 use crate::refusals;
+use showing::nodes;
+use showing::print;
 
 // The examples: cells in which column 0 0 stands twice, then the same arena with column 0 7 again.
 pub fn run() {
@@ -32,5 +33,5 @@ fn second(cells: &mut [u32; 11265]) {
     calls::operation(cells, 1, &[5, 0, 0, 0, 0, 0, 0, 0, 0]);
     calls::highest(cells, 5);
     calls::lowest(cells, 5);
-    print::nodes(cells);
+    nodes::count(cells);
 }

@@ -1,6 +1,8 @@
 // Refusals: each rule of number 11 broken by one cell of a small arena, then the numbers 1, 2 and 10.
 use crate::calls;
-use crate::print;
+use showing::nodes;
+use showing::print;
+use showing::same;
 
 // The examples, on an arena each.
 pub fn run() {
@@ -35,18 +37,18 @@ pub fn every_call(cells: &mut [u32; 11265]) {
     print::words(b"check ");
     print::number(arena::check_arena(cells));
     print::words(b", column ");
-    print::added(arena::add_column(cells, 0, 0));
+    nodes::added(arena::add_column(cells, 0, 0));
     print::words(b", literal ");
-    print::added(arena::add_literal(cells, 7));
+    nodes::added(arena::add_literal(cells, 7));
     print::words(b", operation ");
-    print::added(arena::add_operation(cells, 1, &[0, 1]));
+    nodes::added(arena::add_operation(cells, 1, &[0, 1]));
     print::words(b", read ");
-    print::node(arena::read_node(cells, 3));
+    calls::found(arena::read_node(cells, 3));
     print::words(b", child ");
-    print::child(arena::read_child(cells, 3, 1));
+    nodes::child(arena::read_child(cells, 3, 1));
     print::words(b", shift ");
-    print::added(arena::add_offset_to_expr(cells, 3, 0));
-    print::kept(calls::same(&before, cells));
+    nodes::added(arena::add_offset_to_expr(cells, 3, 0));
+    print::kept(b"cells", same::cells(&before, cells));
 }
 
 // The small arena with another value in one cell.
@@ -145,5 +147,5 @@ fn extremes(cells: &mut [u32; 11265]) {
     calls::highest(cells, 2);
     calls::lowest(cells, 9);
     calls::highest(cells, 10);
-    print::nodes(cells);
+    nodes::count(cells);
 }

@@ -1,6 +1,7 @@
 // Small examples: equal nodes have one number, different nodes different ones, and each is read back.
 use crate::calls;
-use crate::print;
+use showing::nodes;
+use showing::print;
 
 // The examples, on one arena.
 pub fn run() {
@@ -55,18 +56,12 @@ fn again(cells: &mut [u32; 11265]) {
     calls::operation(cells, 9, &[0, 2]);
     calls::operation(cells, 9, &[1, 0]);
     calls::operation(cells, 8, &[0, 1]);
-    calls::operation(cells, 9, &[]);
-    calls::operation(cells, 9, &[0]);
-    calls::operation(cells, 9, &[0, 0]);
-    calls::operation(cells, 9, &[0, 0, 0, 0, 0, 0, 0, 0]);
-    calls::operation(cells, 9, &[4]);
-    calls::operation(cells, 9, &[4, 4]);
-    calls::operation(cells, 458755, &[]);
+    counts(cells);
 }
 
 // Each node read, and the number after the last.
 fn read_back(cells: &[u32; 11265]) {
-    print::nodes(cells);
+    nodes::count(cells);
     let mut e = 0;
     while e < 17 {
         calls::read(cells, e);

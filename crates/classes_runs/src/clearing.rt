@@ -1,6 +1,7 @@
 // Clearing: heterogeneous constants go, and classes of one member with them.
-use crate::calls;
-use crate::print;
+use showing::print;
+use showing_groups::calls;
+use showing_groups::show;
 
 // The examples, on one arena.
 pub fn run(cells: &[u32; 11265]) {
@@ -23,7 +24,7 @@ fn nothing(cells: &[u32; 11265]) {
     g = calls::fix(cells, g, 10, 2, 5);
     g = calls::fix(cells, g, 2, 1, 0);
     g = calls::pair(cells, g, 3, 3);
-    print::group(g);
+    show::group(g);
     calls::clear(cells, g);
 }
 
@@ -33,10 +34,10 @@ fn one(cells: &[u32; 11265]) {
     g = calls::fix(cells, g, 0, 0, 0);
     g = calls::pair(cells, g, 1, 2);
     g = calls::pair(cells, g, 3, 4);
-    print::group(g);
+    show::group(g);
     calls::clear(cells, g);
     g = calls::fix(cells, calls::fresh(256), 0, 0, 0);
-    print::group(g);
+    show::group(g);
     calls::clear(cells, g);
 }
 
@@ -45,7 +46,7 @@ fn larger(cells: &[u32; 11265]) {
     let mut g = calls::fresh(256);
     g = calls::pair(cells, g, 0, 1);
     g = calls::fix(cells, g, 0, 0, 0);
-    print::group(g);
+    show::group(g);
     g = calls::clear(cells, g);
     calls::clear(cells, g);
 }
@@ -60,7 +61,7 @@ fn several(cells: &[u32; 11265]) {
     g = calls::fix(cells, g, 4, 0, 0);
     g = calls::fix(cells, g, 5, 0, 0);
     g = calls::pair(cells, g, 6, 7);
-    print::group(g);
+    show::group(g);
     g = calls::clear(cells, g);
     calls::clear(cells, g);
 }
@@ -71,6 +72,6 @@ fn all(cells: &[u32; 11265]) {
     g = calls::fix(cells, g, 0, 0, 0);
     g = calls::fix(cells, g, 1, 0, 0);
     g = calls::fix(cells, g, 2, 0, 0);
-    print::group(g);
+    show::group(g);
     calls::clear(cells, g);
 }

@@ -1,8 +1,9 @@
 // Constants: what a class takes, where a nonmember goes, and what literals and merges bring along.
-use crate::calls;
-use crate::print;
 use crate::small;
 use classes::Group;
+use showing::print;
+use showing_groups::calls;
+use showing_groups::show;
 
 // The examples, on one arena.
 pub fn run(cells: &[u32; 11265]) {
@@ -38,7 +39,7 @@ fn own_value(cells: &[u32; 11265]) {
 // A class without a constant, then with a value, which stays.
 fn over_none(cells: &[u32; 11265]) {
     let mut g = two(cells);
-    print::group(g);
+    show::group(g);
     g = calls::constant(cells, g, 3, 2, 5);
     g = calls::constant(cells, g, 2, 2, 7);
     g = calls::constant(cells, g, 2, 1, 0);
@@ -77,7 +78,7 @@ fn first_class(cells: &[u32; 11265]) {
     let mut g = two(cells);
     g = calls::fix(cells, g, 2, 2, 5);
     g = calls::fix(cells, g, 0, 2, 5);
-    print::group(g);
+    show::group(g);
     g = calls::constant(cells, g, 4, 2, 5);
     calls::constant(cells, g, 10, 1, 0);
 }
@@ -94,7 +95,7 @@ fn new_classes(cells: &[u32; 11265]) {
 
 // Literal 5 pushed into the second class, whichever side it stands on.
 fn push(cells: &[u32; 11265], g: Group) {
-    print::group(g);
+    show::group(g);
     calls::equal(cells, g, 10, 2);
     calls::equal(cells, g, 2, 10);
 }
@@ -117,7 +118,7 @@ fn merged(cells: &[u32; 11265], first: u32, second: u32) {
     if second < 3 {
         g = calls::fix(cells, g, 2, second, value_for(second, 7));
     }
-    print::group(g);
+    show::group(g);
     calls::equal(cells, g, 2, 0);
 }
 

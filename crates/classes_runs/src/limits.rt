@@ -1,13 +1,14 @@
 // Limits: how many members and classes fit, and what is refused with 4.
-use crate::calls;
-use crate::nodes;
-use crate::print;
 use classes::Group;
+use showing::making;
+use showing::print;
+use showing_groups::calls;
+use showing_groups::show;
 
 // The examples, on an arena of 300 columns.
 pub fn run() {
     let mut cells = [0; 11265];
-    nodes::columns(&mut cells, 300);
+    making::columns(&mut cells, 0, 0, 300);
     print::line(b"-- 256 members fit in one class, and no more");
     full(&cells);
     print::line(b"-- 255 members: (x,x) fits, two unknowns don't");
@@ -21,32 +22,26 @@ pub fn run() {
     room_again(&cells);
 }
 
-// One class of n + 1 members: column 0 equals each of the next n.
-fn star(cells: &[u32; 11265], n: u32) -> Group {
+// The first n columns, in one class or in a class each.
+fn first(cells: &[u32; 11265], n: u32, together: bool) -> Group {
     let mut g = calls::fresh(256);
     let mut k = 0;
     while k < n {
+        g = calls::pair(cells, g, partner(k, together), k);
         k += 1;
-        g = calls::pair(cells, g, 0, k);
     }
     g
 }
 
-// The first n columns as classes of one.
-fn ones(cells: &[u32; 11265], n: u32) -> Group {
-    let mut g = calls::fresh(256);
-    let mut k = 0;
-    while k < n {
-        g = calls::pair(cells, g, k, k);
-        k += 1;
-    }
-    g
+// What a column is made equal to: the first column, or itself.
+fn partner(k: u32, together: bool) -> u32 {
+    if together { 0 } else { k }
 }
 
 // A 257th member in each way that there is; then what needs no room.
 fn full(cells: &[u32; 11265]) {
-    let g = star(cells, 255);
-    print::group(g);
+    let g = first(cells, 256, true);
+    show::group(g);
     calls::class_of(cells, g, 255);
     calls::class_of(cells, g, 256);
     calls::equal(cells, g, 0, 256);
@@ -62,8 +57,8 @@ fn full(cells: &[u32; 11265]) {
 
 // Room for one member.
 fn one_below(cells: &[u32; 11265]) {
-    let g = star(cells, 254);
-    print::group(g);
+    let g = first(cells, 255, true);
+    show::group(g);
     calls::equal(cells, g, 256, 257);
     calls::equal(cells, g, 256, 256);
     calls::equal(cells, g, 256, 254);
@@ -101,8 +96,8 @@ fn one(cells: &[u32; 11265]) {
 
 // A 65th class in each way that there is.
 fn classes_full(cells: &[u32; 11265]) {
-    let g = ones(cells, 64);
-    print::group(g);
+    let g = first(cells, 64, false);
+    show::group(g);
     calls::class_of(cells, g, 63);
     calls::equal(cells, g, 64, 64);
     calls::equal(cells, g, 64, 65);
@@ -114,7 +109,7 @@ fn classes_full(cells: &[u32; 11265]) {
 
 // What needs no new class still fits, and a merge makes room for one.
 fn room_again(cells: &[u32; 11265]) {
-    let mut g = ones(cells, 64);
+    let mut g = first(cells, 64, false);
     g = calls::equal(cells, g, 0, 64);
     g = calls::constant(cells, g, 3, 2, 7);
     g = calls::constant(cells, g, 65, 2, 7);

@@ -1,6 +1,7 @@
 // The three questions: equality, the constant, the class.
-use crate::calls;
-use crate::print;
+use showing::print;
+use showing_groups::calls;
+use showing_groups::show;
 
 // The examples, on one arena.
 pub fn run(cells: &[u32; 11265]) {
@@ -41,7 +42,7 @@ fn no_classes(cells: &[u32; 11265]) {
 // Operations over a and b: one level and two, both orders, one child more, another child.
 fn one_class(cells: &[u32; 11265]) {
     let g = calls::pair(cells, calls::fresh(256), 0, 1);
-    print::group(g);
+    show::group(g);
     calls::ask_equal(cells, g, 0, 1);
     calls::ask_equal(cells, g, 0, 2);
     calls::ask_equal(cells, g, 17, 18);
@@ -59,7 +60,7 @@ fn one_class(cells: &[u32; 11265]) {
 fn operations(cells: &[u32; 11265]) {
     let mut g = calls::pair(cells, calls::fresh(256), 0, 1);
     g = calls::pair(cells, g, 17, 2);
-    print::group(g);
+    show::group(g);
     calls::ask_equal(cells, g, 17, 18);
     calls::ask_equal(cells, g, 17, 2);
     calls::ask_equal(cells, g, 18, 2);
@@ -71,7 +72,7 @@ fn operations(cells: &[u32; 11265]) {
 fn leaves(cells: &[u32; 11265]) {
     let mut g = calls::pair(cells, calls::fresh(256), 21, 22);
     g = calls::pair(cells, g, 8, 9);
-    print::group(g);
+    show::group(g);
     calls::ask_equal(cells, g, 21, 22);
     calls::ask_equal(cells, g, 8, 9);
     calls::ask_equal(cells, g, 8, 21);
@@ -92,7 +93,7 @@ fn no_constants(cells: &[u32; 11265]) {
 // A column whose class has a value: operations over it are heterogeneous.
 fn constant_column(cells: &[u32; 11265]) {
     let g = calls::fix(cells, calls::fresh(256), 0, 2, 7);
-    print::group(g);
+    show::group(g);
     calls::ask_constant(cells, g, 0);
     calls::ask_constant(cells, g, 17);
     calls::ask_constant(cells, g, 23);
@@ -104,7 +105,7 @@ fn constant_column(cells: &[u32; 11265]) {
 fn constant_operation(cells: &[u32; 11265]) {
     let mut g = calls::fix(cells, calls::fresh(256), 17, 1, 0);
     g = calls::fix(cells, g, 21, 0, 0);
-    print::group(g);
+    show::group(g);
     calls::ask_constant(cells, g, 17);
     calls::ask_constant(cells, g, 23);
     calls::ask_constant(cells, g, 21);
@@ -116,7 +117,7 @@ fn fall_through(cells: &[u32; 11265]) {
     let mut g = calls::pair(cells, calls::fresh(256), 20, 2);
     g = calls::fix(cells, g, 0, 2, 7);
     g = calls::pair(cells, g, 0, 10);
-    print::group(g);
+    show::group(g);
     calls::ask_constant(cells, g, 20);
     calls::ask_constant(cells, g, 2);
     calls::ask_constant(cells, g, 10);
@@ -128,7 +129,7 @@ fn places(cells: &[u32; 11265]) {
     let mut g = calls::pair(cells, calls::fresh(256), 3, 1);
     g = calls::fix(cells, g, 10, 1, 0);
     g = calls::pair(cells, g, 10, 0);
-    print::group(g);
+    show::group(g);
     calls::class_of(cells, g, 3);
     calls::class_of(cells, g, 1);
     calls::class_of(cells, g, 10);

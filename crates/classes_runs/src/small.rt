@@ -1,7 +1,8 @@
 // Document 01's small examples that speak of classes, and merges that leave a gap.
-use crate::calls;
-use crate::print;
 use classes::Group;
+use showing::print;
+use showing_groups::calls;
+use showing_groups::show;
 
 // The examples, on one arena.
 pub fn run(cells: &[u32; 11265]) {
@@ -46,7 +47,7 @@ pub fn pairs(cells: &[u32; 11265], n: u32) -> Group {
 fn merge(cells: &[u32; 11265]) {
     print::line(b"-- P3: (d,a) on [a,b],[c,d],[e,f]");
     let g = pairs(cells, 3);
-    print::group(g);
+    show::group(g);
     calls::equal(cells, g, 3, 0);
     calls::equal(cells, g, 0, 3);
 }
@@ -73,6 +74,6 @@ fn questions(cells: &[u32; 11265]) {
 // An equal condition on four classes of two.
 fn gap(cells: &[u32; 11265], left: u32, right: u32) {
     let g = pairs(cells, 4);
-    print::group(g);
+    show::group(g);
     calls::equal(cells, g, left, right);
 }

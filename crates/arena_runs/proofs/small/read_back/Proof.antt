@@ -10,8 +10,8 @@ Inv-loop cells e₀ e = e ≤ 17
 abbrev μ-loop : tie.MeasureT-loop
 μ-loop cells e₀ e = 17 - e
 
-nodes-requires : tie.Need-nodes-requires Inv-loop μ-loop
-nodes-requires c κs = search needs
+count-requires : tie.Need-count-requires Inv-loop μ-loop
+count-requires c κs = search needs
 
 loop-holds : tie.Need-loop-holds Inv-loop μ-loop
 loop-holds c = search needs
@@ -37,7 +37,7 @@ read-back-spec =
     (tie.spec
     Inv-loop
     μ-loop
-    nodes-requires
+    count-requires
     loop-holds
     read-requires
     add-e

@@ -1,0 +1,34 @@
+-- `chain` is safe and ends: k counts up to n.
+use Prim.Native.Nat.{_≤_, _-_}
+use borrow.Author.Needs.{needs}
+use Rattle.showing.proofs.making.chain.Statement.{statement}
+use Rattle.showing.proofs.making.chain.Tie as tie
+
+abbrev Inv-loop : tie.InvT-loop
+Inv-loop cells₀ start n width top₀ k₀ cells top k = k ≤ n
+
+abbrev μ-loop : tie.MeasureT-loop
+μ-loop cells₀ start n width top₀ k₀ cells top k = n - k
+
+loop-holds : tie.Need-loop-holds Inv-loop μ-loop
+loop-holds c = search needs
+
+grow-requires : tie.Need-grow-requires Inv-loop μ-loop
+grow-requires c κs = search needs
+
+add-k : tie.Need-add-k Inv-loop μ-loop
+add-k c = search needs
+
+loop-less : tie.Need-loop-less Inv-loop μ-loop
+loop-less c = search needs
+
+loop-again : tie.Need-loop-again Inv-loop μ-loop
+loop-again c = search needs
+
+returns : tie.Need-returns Inv-loop μ-loop
+returns c = search needs
+
+pub chain-spec : {M : Type 1} → statement M
+chain-spec =
+    tie.close
+    (tie.spec Inv-loop μ-loop loop-holds grow-requires add-k loop-less loop-again returns)

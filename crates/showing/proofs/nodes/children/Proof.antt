@@ -1,0 +1,50 @@
+-- `children` is safe and ends: k counts up to n.
+use Prim.Native.Nat.{_≤_, _-_}
+use borrow.Author.Needs.{needs}
+use Rattle.showing.proofs.nodes.children.Statement.{statement}
+use Rattle.showing.proofs.nodes.children.Tie as tie
+
+abbrev Inv-loop : tie.InvT-loop
+Inv-loop cells e n k₀ k = k ≤ n
+
+abbrev μ-loop : tie.MeasureT-loop
+μ-loop cells e n k₀ k = n - k
+
+loop-holds : tie.Need-loop-holds Inv-loop μ-loop
+loop-holds c = search needs
+
+gap-requires : tie.Need-gap-requires Inv-loop μ-loop
+gap-requires c κs = search needs
+
+read-child-requires : tie.Need-read-child-requires Inv-loop μ-loop
+read-child-requires c κs = search needs
+
+child-requires : tie.Need-child-requires Inv-loop μ-loop
+child-requires c κs = search needs
+
+add-k : tie.Need-add-k Inv-loop μ-loop
+add-k c = search needs
+
+loop-less : tie.Need-loop-less Inv-loop μ-loop
+loop-less c = search needs
+
+loop-again : tie.Need-loop-again Inv-loop μ-loop
+loop-again c = search needs
+
+returns : tie.Need-returns Inv-loop μ-loop
+returns c = search needs
+
+pub children-spec : {M : Type 1} → statement M
+children-spec =
+    tie.close
+    (tie.spec
+    Inv-loop
+    μ-loop
+    loop-holds
+    gap-requires
+    read-child-requires
+    child-requires
+    add-k
+    loop-less
+    loop-again
+    returns)
