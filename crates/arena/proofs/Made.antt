@@ -25,7 +25,7 @@ module _ {A : Type 0} (rule : List A → ℕ → Node → A) (d : A) where
   after-append xs [] ms = refl
   after-append xs (n ∷ ns) ms = after-append (xs ++ (rule xs (length xs) n ∷ [])) ns ms
 
-  made-append : (ns ms : List Node) → made rule (ns ++ ms) ≡ madeAfter rule (made rule ns) ms
+  pub made-append : (ns ms : List Node) → made rule (ns ++ ms) ≡ madeAfter rule (made rule ns) ms
   unfolding made
   made-append ns ms = after-append [] ns ms
 

@@ -107,13 +107,13 @@ offset-kept e offset ns s = go (ltb e (length ns)) refl (canMove (moved offset) 
     go false t b u = kept-none (Refused 1) ns s
 
 -- a refusal is no number
-not-number : (k i : ℕ) (ns ms : List Node) → _≡_ {A = Outcome} (Refused k, ns) (Number i, ms) → ⊥
+pub not-number : (k i : ℕ) (ns ms : List Node) → _≡_ {A = Outcome} (Refused k, ns) (Number i, ms) → ⊥
 not-number k i ns ms e =
     let a : Refused k ≡ Number i = ap (λ (o : Outcome). o .0) e in
     let z : _≡_ {A = ℕ} 0 1 = cc in omega arith
 
 -- where a number is answered, it was placed
-was-placed : (ns : List Node) (p : Placed ℕ) (i : ℕ) (ms : List Node) → answered ns p ≡ (Number i, ms) → p ≡ placed i ms
+pub was-placed : (ns : List Node) (p : Placed ℕ) (i : ℕ) (ms : List Node) → answered ns p ≡ (Number i, ms) → p ≡ placed i ms
 unfolding answered
 was-placed ns (placed j os) i ms e =
     let a : Number j ≡ Number i = ap (λ (o : Outcome). o .0) e in

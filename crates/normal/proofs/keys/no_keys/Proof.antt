@@ -1,0 +1,13 @@
+-- `normal::keys::no_keys` meets its contract.
+use Rattle.classes.specs.Layout.{padded}
+use Rattle.normal.specs.Calls.{sorted}
+use borrow.Author.Needs.{needs}
+use Rattle.normal.proofs.keys.no_keys.Statement.{statement}
+use Rattle.normal.proofs.keys.no_keys.Tie as tie
+
+returns : tie.Need-returns
+unfolding sorted padded
+returns c = search needs
+
+pub no-keys-spec : {M : Type 1} → statement M
+no-keys-spec = tie.close (tie.spec returns)

@@ -1,0 +1,46 @@
+-- `normal::normalizing::normalize_in` meets its contract.
+use mathlib.Core.Path.{sym, _∙_}
+use native.Mathlib.Omega.{arith}
+use Rattle.normal.proofs.Calling.{whole-ready, whole-done, whole-full}
+use borrow.Author.Needs.{needs}
+use Rattle.normal.proofs.normalizing.normalize_in.Statement.{statement}
+use Rattle.normal.proofs.normalizing.normalize_in.Tie as tie
+
+node-count-requires : tie.Need-node-count-requires
+node-count-requires c κs = search needs
+
+class-firsts-requires : tie.Need-class-firsts-requires
+class-firsts-requires c κs =
+    let b = c .before .before in
+    (b .pre .1 .coded, omega (arith, c .node-count .ensures, b .pre .0 .holds .few))
+
+normalize-requires : tie.Need-normalize-requires
+normalize-requires c κs =
+    let b = c .before .before .before .before .before .before .before in
+    whole-ready (b .args .cells .now) (b .args .g) (c .before .before .before .before .before .node-count .result) (c .before .before .before .before .class-firsts .result) (b .pre .0 .holds) (b .pre .1) (c .before .before .before .before .before .node-count .ensures) (c .before .before .before .before .class-firsts .ensures) (b .args .expr) (b .pre .0 .below) 1024
+
+refused-requires : tie.Need-refused-requires
+refused-requires c κs = search needs
+
+returns : tie.Need-returns
+returns c =
+    let b = c .before .before .before .before .before .before .before .before .before .before in
+    let x = c .before .before .normalize in
+    whole-full (b .args .cells .now) (b .args .g) (c .before .before .before .before .before .before .before .before .node-count .result) (c .before .before .before .before .before .before .before .class-firsts .result) (b .pre .0 .holds) (b .pre .1) (c .before .before .before .before .before .before .before .before .node-count .ensures) (c .before .before .before .before .before .before .before .class-firsts .ensures) (b .args .expr) (b .pre .0 .below) (x .last .0) (x .last .1 .1 .0) (x .result) (sym (c .before .refused .ensures) ∙ c .if1 .taken) (x .ensures)
+
+returns-2 : tie.Need-returns-2
+returns-2 c =
+    let b = c .before .before .before .before .before .before .before .before .before .before in
+    let x = c .before .before .normalize in
+    whole-done (b .args .cells .now) (b .args .g) (c .before .before .before .before .before .before .before .before .node-count .result) (c .before .before .before .before .before .before .before .class-firsts .result) (b .pre .0 .holds) (b .pre .1) (c .before .before .before .before .before .before .before .before .node-count .ensures) (c .before .before .before .before .before .before .before .class-firsts .ensures) (b .args .expr) (b .pre .0 .below) (x .last .0) (x .last .1 .1 .0) (x .result) (sym (c .before .refused .ensures) ∙ c .if1 .left) (x .ensures)
+
+pub normalize-in-spec : {M : Type 1} → statement M
+normalize-in-spec =
+    tie.close
+    (tie.spec
+    node-count-requires
+    class-firsts-requires
+    normalize-requires
+    refused-requires
+    returns
+    returns-2)

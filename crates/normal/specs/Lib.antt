@@ -1,0 +1,8 @@
+-- The normal form of an expression and of sort keys, in document 01's words ("Classes", Normal form).
+-- To be read in this order: Normal, Agree, Missing, Keys, Calls. Missing says what adding an expression adds; theorems cite it, and no contract. Inner is for the functions that the public ones call.
+pub mod Normal
+pub mod Agree
+pub mod Missing
+pub mod Keys
+pub mod Calls
+pub mod Inner
