@@ -5,11 +5,11 @@ use mathlib.Core.List.{List}
 use mathlib.Core.Path.{_≡_, refl, sym, ap, _∙_}
 use native.Mathlib.Decide.{ℕ-discrete}
 use native.Mathlib.Omega.{arith}
-use borrow.Author.Tests.{eq-eqb, ne-eqb, lt-ltb}
+use borrow.Author.Tests.{eq-eqb, ne-eqb, eqb-true}
 use lib.Dec.{eqb, ltb}
 use lib.ListN.{length, getD, replicate}
 use Rattle.laws.specs.Tests.{each}
-use Rattle.laws.proofs.Booleans.{true-not-false}
+use Rattle.laws.proofs.Booleans.{true-not-false, and-right}
 use Rattle.laws.proofs.Each.{each-none, each-more, each-stops, each-ends}
 use Rattle.arena.specs.Node.{Node, nodeAt, childNumbers}
 use Rattle.arena.specs.Layout.{count, decode as nodes}
@@ -18,7 +18,7 @@ use Rattle.arena.proofs.Layouts.{length-decode}
 use Rattle.arena.proofs.Moves.{child-below, known-lower}
 use Rattle.classes.specs.Class.{Class}
 use Rattle.classes.specs.Questions.{equalBy, exprsEqual, sameClass}
-use Rattle.classes.specs.Inner.{Placed, samePlace, toldPair, Told, Asked, Answered, AskedAll, AnsweredAll}
+use Rattle.classes.specs.Inner.{Placed, samePlace, toldPair, Told, Asked, Answered, AskedAll, AnsweredAll, pairUp}
 use Rattle.classes.proofs.Asking.{equal-by-is, equal-by-cong}
 use Rattle.classes.proofs.ClassPlaces.{same-placed}
 use Rattle.classes.proofs.Pairs.{none-told}
@@ -50,6 +50,15 @@ or-second : (p q r : Bool) → q ≡ true → (p || q || r) ≡ true
 or-second true q r e = refl
 or-second false q r e = rw e
 
+-- an `&&` of three whose first two fail, or pass
+and-stops : (p q r : Bool) → (p && q) ≡ false → (p && q && r) ≡ false
+and-stops true q r e = rw e
+and-stops false q r e = refl
+
+and-last : (p q r : Bool) → (p && q) ≡ true → (p && q && r) ≡ r
+and-last true q r e = rw e
+and-last false q r e = absurd (true-not-false e refl)
+
 module _ (s places seen : List ℕ) (a b : ℕ) (q : Asked s places seen a b) where
   rule : equalBy (nodes s) (samePlace places) a b ≡ (eqb a b || samePlace places a b || Both s places a b)
   rule = equal-by-is (nodes s) (q .left .holds .sound) (samePlace places) a b (known-inside s a (q .left))
@@ -71,28 +80,23 @@ module _ (s places seen : List ℕ) (a b : ℕ) (q : Asked s places seen a b) wh
     by-children : equalBy (nodes s) (samePlace places) a b ≡ Both s places a b
     by-children = rule ∙ or-last (eqb a b) (samePlace places a b) (Both s places a b) (ne-eqb a b d) p
 
-    -- no children
-    pub leaf-answered : length (Children s a) ≡ 0 → Answered s places seen a b false
-    leaf-answered e = record { is = sym (by-children ∙ rw e); told = q .told }
+    -- no children, or another number of them
+    pub unpaired-answered : pairUp (Children s a) (Children s b) ≡ false → Answered s places seen a b false
+    unpaired-answered e = record { is = sym (by-children ∙ and-stops (ltb 0 (length (Children s a))) (eqb (length (Children s a)) (length (Children s b))) (each (Pair s places a b) (length (Children s a))) e); told = q .told }
 
-    -- another number of children
-    pub count-answered : (length (Children s b) ≡ length (Children s a) → ⊥) → Answered s places seen a b false
-    count-answered e = record { is = sym (by-children ∙ go (ltb 0 (length (Children s a)))); told = q .told }
-      where
-        go : (t : Bool) → (t && eqb (length (Children s a)) (length (Children s b)) && each (Pair s places a b) (length (Children s a))) ≡ false
-        go true = rw (ne-eqb (length (Children s a)) (length (Children s b)) (λ z. e (sym z)))
-        go false = refl
+    module _ (n : ℕ) (c : n ≡ length (Children s a)) (k : pairUp (Children s a) (Children s b) ≡ true) where
+      equally-many : length (Children s a) ≡ length (Children s b)
+      equally-many = eqb-true (length (Children s a)) (length (Children s b)) (and-right (ltb 0 (length (Children s a))) (eqb (length (Children s a)) (length (Children s b))) k)
 
-    module _ (n : ℕ) (c : n ≡ length (Children s a)) (k : length (Children s b) ≡ n) (z : n ≡ 0 → ⊥) where
       -- what the walk over the children asks
       pub children-asked : AskedAll s places seen a b n
-      children-asked = record { asked = q; left = sym c; right = k }
+      children-asked = record { asked = q; left = sym c; right = sym equally-many ∙ sym c }
 
       walked : equalBy (nodes s) (samePlace places) a b ≡ each (Pair s places a b) n
       walked =
-          let f : ltb 0 (length (Children s a)) ≡ true = lt-ltb 0 (length (Children s a)) (omega arith) in
-          let g : eqb (length (Children s a)) (length (Children s b)) ≡ true = eq-eqb _ _ (sym c ∙ sym k) in
-          by-children ∙ rw (f, g) (ap (each (Pair s places a b)) (sym c))
+          by-children
+          ∙ and-last (ltb 0 (length (Children s a))) (eqb (length (Children s a)) (length (Children s b))) (each (Pair s places a b) (length (Children s a))) k
+          ∙ ap (each (Pair s places a b)) (sym c)
 
       -- two children differ
       pub children-answered : (t : List ℕ) → AnsweredAll s places t a b n false → Answered s places t a b false

@@ -1,10 +1,10 @@
 -- What the inner functions ask and promise each other. The public contracts cite nothing of this file.
 use Prim.Native.Nat.{ℕ, _+_, _*_, _/_, _%_, _^_, _<_, _≤_}
-use mathlib.Core.Bool.{Bool, true, false}
+use mathlib.Core.Bool.{Bool, true, false, _&&_}
 use mathlib.Core.List.{List}
 use mathlib.Core.Option.{Option, none, some}
 use mathlib.Core.Path.{_≡_}
-use lib.Dec.{eqb}
+use lib.Dec.{eqb, ltb}
 use lib.ListN.{length, getD}
 use Rattle.laws.specs.Tests.{if_then_else_, each}
 use Rattle.arena.specs.Node.{Node, nodeAt, childNumbers}
@@ -77,6 +77,10 @@ pub record Asked (cells places seen : List ℕ) (a b : ℕ) : Type 0 where
 pub record Answered (cells places seen : List ℕ) (a b : ℕ) (answer : Bool) : Type 0 where
   pub is : answer ≡ equalBy (nodes cells) (samePlace places) a b
   pub told : Told (nodes cells) places seen
+
+-- two lists of children pair up: there are some, equally many
+abbrev pub pairUp : List ℕ → List ℕ → Bool
+pairUp js ks = ltb 0 (length js) && eqb (length js) (length ks)
 
 -- what the walk over the n children of a and of b asks and promises
 pub record AskedAll (cells places seen : List ℕ) (a b n : ℕ) : Type 0 where

@@ -176,8 +176,9 @@ pub fn remove_class_at_idx(g: Group, i: usize) -> Group
     let mut out = empty(g.limit);
     let mut k = 0;
     while k < last {
+        let next = k + 1;
         out = add_class(out, g, moved_place(k, i, last));
-        k += 1;
+        k = next;
     }
     out
 }
@@ -186,7 +187,10 @@ pub fn remove_class_at_idx(g: Group, i: usize) -> Group
 fn moved_place(k: usize, i: usize, last: usize) -> usize
     ensures { λ r. ⌜ (k ≡ i → r ≡ last) × ((k ≡ i → ⊥) → r ≡ k) ⌝ }
 {
-    if k == i { last } else { k }
+    if i == k {
+        return last;
+    }
+    k
 }
 
 // The next class of a group in which class j of another is merged into class i.

@@ -165,11 +165,14 @@ fn equate(cells: &[u32; 11265], g: Group, a: u32, b: u32, left: Place, right: Pl
 {
     match left {
         Place::At(i) => match right {
-            Place::At(j) => Changed {
-                number: 0,
-                answer: false,
-                group: join(g, i, j),
-            },
+            Place::At(j) => {
+                let both = join(g, i, j);
+                Changed {
+                    number: 0,
+                    answer: false,
+                    group: both,
+                }
+            }
             Place::Nowhere => push(cells, g, i, b),
         },
         Place::Nowhere => match right {

@@ -15,12 +15,13 @@ ghost use mathlib.Core.Bool.{Bool, true, false};
 ghost use mathlib.Core.Path.{_≡_};
 ghost use Prim.Native.Nat.{ℕ, _≤_, _<_, _+_, _*_};
 ghost use lib.ListN.{length, getD};
+ghost use Rattle.arena.specs.Node.{nodeAt, childNumbers};
 ghost use Rattle.arena.specs.Layout.{decode as nodes};
 ghost use Rattle.arena.specs.Inner.{Known};
 ghost use Rattle.classes.specs.Group.{classOf};
 ghost use Rattle.classes.specs.Questions.{exprsEqual, classConstant, exprConstant};
 ghost use Rattle.classes.specs.Layout.{decode};
-ghost use Rattle.classes.specs.Inner.{Coded, Held, Placed, Told, Asked, Answered, AskedAll, AnsweredAll, placeNumber, samePlace, toldPair, Marked, AskedConstant, AnsweredConstant, AskedConstants, AnsweredConstants, markOf};
+ghost use Rattle.classes.specs.Inner.{Coded, Held, Placed, Told, Asked, Answered, AskedAll, AnsweredAll, pairUp, placeNumber, samePlace, toldPair, Marked, AskedConstant, AnsweredConstant, AskedConstants, AnsweredConstants, markOf};
 
 // The place of the class of an expression as a number: 0 where there is none.
 fn place_number(g: Group, e: u32) -> u32
@@ -77,6 +78,17 @@ fn same_place(places: &[u32; 1024], a: usize, b: usize) -> bool
     i == places[b]
 }
 
+// Both have children, equally many.
+fn children_pair_up(cells: &[u32; 11265], x: usize, y: usize) -> bool
+    requires { ⌜ Known (now cells) x × Known (now cells) y ⌝ }
+    ensures { λ r. ⌜ r ≡ pairUp (childNumbers (nodeAt (nodes (now (cells .entry))) x)) (childNumbers (nodeAt (nodes (now (cells .entry))) y)) ⌝ }
+{
+    if cell_of(cells, x, 2) == 0 {
+        return false;
+    }
+    cell_of(cells, x, 2) == cell_of(cells, y, 2)
+}
+
 // The children of a and b, n each, are pairwise equal.
 fn children_equal(
     cells: &[u32; 11265],
@@ -120,16 +132,13 @@ fn nodes_equal(
     if same_place(places, x, y) {
         return true;
     }
-    let n = child_count(cells, x);
-    if n == 0 {
-        return false;
-    }
-    if child_count(cells, y) != n {
+    if !children_pair_up(cells, x, y) {
         return false;
     }
     if has_pair(seen, x, y) {
         return true;
     }
+    let n = child_count(cells, x);
     if !children_equal(cells, places, seen, a, b, n) {
         return false;
     }

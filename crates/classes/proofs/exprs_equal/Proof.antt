@@ -54,7 +54,7 @@ returns-4 : tie.Need-returns-4
 returns-4 c =
     let l : c .before .before .before .before .before .before .before .before .before .args .left < length (nodes (c .before .before .before .before .before .before .before .before .before .args .cells .now)) = omega (arith, length-decode (c .before .before .before .before .before .before .before .before .before .args .cells .now), c .before .before .before .before .before .before .node-count .ensures, c .before .before .before .before .before .wide .ensures) in
     let m : c .before .before .before .before .before .before .before .before .before .args .right < length (nodes (c .before .before .before .before .before .before .before .before .before .args .cells .now)) = omega (arith, length-decode (c .before .before .before .before .before .before .before .before .before .args .cells .now), c .before .before .before .before .before .before .node-count .ensures, c .before .before .before .wide2 .ensures) in
-    sym ((ask-done (c .before .before .before .before .before .before .before .before .before .args .cells .now) (c .before .before .before .before .before .before .before .before .before .args .group) (λ k. Answer.Refused k) (equalAnswer (c .before .before .before .before .before .before .before .before .before .args .left) (c .before .before .before .before .before .before .before .before .before .args .right)) (sym (c .before .before .before .before .before .before .before .before .check-group .ensures) ∙ c .before .before .before .before .before .before .before .if1 .left)) ∙ equal-yes (nodes (c .before .before .before .before .before .before .before .before .before .args .cells .now)) (decode (c .before .before .before .before .before .before .before .before .before .args .group)) (c .before .before .before .before .before .before .before .before .before .args .left) (c .before .before .before .before .before .before .before .before .before .args .right) l m (sym (c .before .equal-in .ensures) ∙ c .if4 .taken))
+    _∙_ {b = Answer.Yes} (search needs) (sym ((ask-done (c .before .before .before .before .before .before .before .before .before .args .cells .now) (c .before .before .before .before .before .before .before .before .before .args .group) (λ k. Answer.Refused k) (equalAnswer (c .before .before .before .before .before .before .before .before .before .args .left) (c .before .before .before .before .before .before .before .before .before .args .right)) (sym (c .before .before .before .before .before .before .before .before .check-group .ensures) ∙ c .before .before .before .before .before .before .before .if1 .left)) ∙ equal-yes (nodes (c .before .before .before .before .before .before .before .before .before .args .cells .now)) (decode (c .before .before .before .before .before .before .before .before .before .args .group)) (c .before .before .before .before .before .before .before .before .before .args .left) (c .before .before .before .before .before .before .before .before .before .args .right) l m (sym (c .before .equal-in .ensures) ∙ c .if4 .taken)))
 
 returns-5 : tie.Need-returns-5
 returns-5 c =

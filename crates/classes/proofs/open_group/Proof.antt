@@ -1,5 +1,6 @@
 -- `classes::open_group` meets its contract.
 use mathlib.Core.Path.{sym, ap, _∙_}
+use native.Mathlib.Omega.{arith}
 use borrow.Author.Needs.{needs}
 use Rattle.classes.proofs.Judging.{handedBack}
 use Rattle.classes.proofs.Calling.{refusal-is, opened-none, opened-over, opened-in}
@@ -24,14 +25,14 @@ refusal-requires-2 c κs = search needs
 
 returns-2 : tie.Need-returns-2
 returns-2 c =
-    refusal-is (c .refusal2 .result) 12 (c .before .empty2 .result) (c .refusal2 .ensures) ∙ ap (handedBack 12) (c .before .empty2 .ensures) ∙ sym (opened-over (c .before .before .before .before .args .limit) (c .before .before .if2 .taken))
+    refusal-is (c .refusal2 .result) 12 (c .before .empty2 .result) (c .refusal2 .ensures) ∙ ap (handedBack 12) (c .before .empty2 .ensures) ∙ sym (opened-over (c .before .before .before .before .args .limit) (omega (arith, c .before .before .if2 .taken)))
 
 empty-requires-3 : tie.Need-empty-requires-3
 empty-requires-3 c κs = search needs
 
 returns-3 : tie.Need-returns-3
 returns-3 c =
-    rw (c .empty3 .ensures) (sym (opened-in (c .before .before .before .args .limit) (c .before .before .if1 .left) (c .before .if2 .left)))
+    rw (c .empty3 .ensures) (sym (opened-in (c .before .before .before .args .limit) (c .before .before .if1 .left) (omega (arith, c .before .if2 .left))))
 
 pub open-group-spec : {M : Type 1} → statement M
 open-group-spec =

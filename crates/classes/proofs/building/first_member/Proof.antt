@@ -2,7 +2,6 @@
 use Prim.Native.Nat.{ℕ, _+_}
 use mathlib.Core.List.{List}
 use mathlib.Core.Path.{_≡_, sym, ap, _∙_}
-use native.Mathlib.Nat.{add-zero}
 use native.Mathlib.Omega.{arith}
 use borrow.Author.Needs.{needs}
 use lib.ListN.{getD}
@@ -22,19 +21,19 @@ class-start-requires c κs =
 
 mul-result : tie.Need-mul-result
 mul-result c =
-    omega (arith, c .class-start .ensures, class-inside (c .before .before .args .t1) (c .before .before .pre .0) (c .before .before .args .i), c .before .before .pre .1 .1)
+    omega (arith, c .class-start .ensures, class-inside (c .before .before .args .t1) (c .before .before .pre .0) (c .before .before .args .i), c .before .before .pre .1 .1, c .before .before .pre .1 .0, c .before .before .pre .0 .few)
 
 element-copy-out-result : tie.Need-element-copy-out-result
 element-copy-out-result c =
-    omega (arith, c .class-start .ensures, class-inside (c .before .before .args .t1) (c .before .before .pre .0) (c .before .before .args .i), c .before .before .pre .1 .1)
+    omega (arith, c .class-start .ensures, class-inside (c .before .before .args .t1) (c .before .before .pre .0) (c .before .before .args .i), c .before .before .pre .1 .1, c .before .before .pre .1 .0, c .before .before .pre .0 .few)
 
 returns : tie.Need-returns
 returns c =
     let g = c .before .before .before .args .t1 in
     let i = c .before .before .before .args .i in
     let t : getD (table (λ k. getD (g .members) (sumTo (g .sizes) i + k) 0) (getD (g .sizes) i 0)) 0 0 ≡ getD (g .members) (sumTo (g .sizes) i + 0) 0 = getD-table (λ k. getD (g .members) (sumTo (g .sizes) i + k) 0) (getD (g .sizes) i 0) 0 0 (c .before .before .before .pre .1 .1) in
-    let a : c .before .class-start .result ≡ sumTo (g .sizes) i + 0 = c .before .class-start .ensures ∙ sym (add-zero (sumTo (g .sizes) i)) in
-    ap (λ (k : ℕ). getD (g .members) k 0) a ∙ sym t ∙ ap (λ (l : List ℕ). getD l 0 0) (members-part g (c .before .before .before .pre .0) i)
+    let a : c .before .class-start .result ≡ sumTo (g .sizes) i + 0 = omega (arith, c .before .class-start .ensures) in
+    _∙_ {b = getD (g .members) (sumTo (g .sizes) i + 0) 0} (search a) (sym t ∙ ap (λ (l : List ℕ). getD l 0 0) (members-part g (c .before .before .before .pre .0) i))
 
 pub first-member-spec : {M : Type 1} → statement M
 first-member-spec =

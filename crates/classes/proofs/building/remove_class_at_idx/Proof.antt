@@ -24,6 +24,9 @@ empty-requires c κs = search needs
 loop-holds : tie.Need-loop-holds Inv-loop μ-loop
 loop-holds c = (search needs, c .empty .ensures)
 
+add-next : tie.Need-add-next Inv-loop μ-loop
+add-next c = search needs
+
 moved-place-requires : tie.Need-moved-place-requires Inv-loop μ-loop
 moved-place-requires c κs = search needs
 
@@ -32,9 +35,6 @@ add-class-requires c κs =
     let s = c .before .before .before .before .before in
     let l = c .before .before .loop in
     removed-room (s .args .g) (s .pre .0) (s .args .i) (s .pre .1) (l .k) (c .moved-place .result) (l .out) (search needs) (l .inv .1) (c .moved-place .ensures .0) (c .moved-place .ensures .1)
-
-add-k : tie.Need-add-k Inv-loop μ-loop
-add-k c = search needs
 
 loop-less : tie.Need-loop-less Inv-loop μ-loop
 loop-less c = search needs
@@ -61,9 +61,9 @@ remove-class-at-idx-spec =
     sub-last
     empty-requires
     loop-holds
+    add-next
     moved-place-requires
     add-class-requires
-    add-k
     loop-less
     loop-again
     returns)

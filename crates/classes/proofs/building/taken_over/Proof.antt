@@ -12,7 +12,7 @@ mark-from-requires-2 : tie.Need-mark-from-requires-2
 mark-from-requires-2 c κs = search needs
 
 returns : tie.Need-returns
-returns c = over-uniform _ _ (c .before .before .before .mark-from .result) (c .before .before .mark-from2 .result) (c .before .before .before .mark-from .ensures) (c .before .before .mark-from2 .ensures) (c .if1 .taken)
+returns c = over-uniform _ _ (c .before .before .before .mark-from .result) (c .before .before .mark-from2 .result) (c .before .before .before .mark-from .ensures) (c .before .before .mark-from2 .ensures) (omega (arith, c .if1 .taken))
 
 returns-2 : tie.Need-returns-2
 returns-2 c = over-none _ _ (c .before .before .before .before .before .mark-from .result) (c .before .before .before .before .mark-from2 .result) (c .before .before .before .before .before .mark-from .ensures) (c .before .before .before .before .mark-from2 .ensures) (c .if2 .taken)

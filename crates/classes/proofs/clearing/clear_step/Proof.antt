@@ -1,4 +1,5 @@
 -- `classes::clearing::clear_step` meets its contract.
+use native.Mathlib.Omega.{arith}
 use borrow.Author.Needs.{needs}
 use Rattle.classes.proofs.ClearLaws.{step-kept, step-gone, step-dropped}
 use Rattle.classes.proofs.clearing.clear_step.Statement.{statement}
@@ -30,7 +31,7 @@ remove-class-at-idx-requires c κs = c .before .before .before .before .pre
 returns-2 : tie.Need-returns-2
 returns-2 c =
     let s = c .before .before .before .before .before in
-    step-gone (s .args .t1) (s .pre .0) (s .args .i) (s .pre .1) (s .args .changed) (c .before .before .before .if1 .left) (c .before .if2 .taken) (c .remove-class-at-idx .result) (c .remove-class-at-idx .ensures)
+    step-gone (s .args .t1) (s .pre .0) (s .args .i) (s .pre .1) (s .args .changed) (c .before .before .before .if1 .left) (omega (arith, c .before .if2 .taken)) (c .remove-class-at-idx .result) (c .remove-class-at-idx .ensures)
 
 mul-next : tie.Need-mul-next
 mul-next c = search needs

@@ -1,14 +1,14 @@
 -- `classes::equating::equate` meets its contract.
 use mathlib.Core.Bool.{Bool, false}
 use mathlib.Core.List.{List}
-use mathlib.Core.Path.{sym, ap, _∙_}
+use mathlib.Core.Path.{refl, sym, ap, _∙_}
 use lib.Dec.{eqb}
 use Rattle.laws.specs.Tests.{if_then_else_}
 use Rattle.arena.specs.Layout.{decode as nodes}
 use Rattle.classes.specs.Class.{Class}
 use Rattle.classes.specs.Group.{classOf, joined}
 use Rattle.classes.specs.Steps.{judged}
-use Rattle.classes.specs.Layout.{decode}
+use Rattle.classes.specs.Layout.{encode, decode}
 use Rattle.classes.specs.Calls.{changed}
 use Rattle.classes.proofs.ConstantLaws.{place-at, place-nowhere, accepted-is}
 use Rattle.classes.proofs.ClassPlaces.{class-below}
@@ -78,7 +78,9 @@ returns c =
     let pi = place-at (classOf (decode g) (s .args .a)) (i .0 .0) (sym (s .pre .1 .0) ∙ i .1) in
     let j = c .before .before .right .given in
     let pj = place-at (classOf (decode g) (s .args .b)) (j .0 .0) (sym (s .pre .1 .1) ∙ j .1) in
-    accepted-is g (h .coded) false (if eqb (i .0 .0) (j .0 .0) then decode g else joined (decode g) (i .0 .0) (j .0 .0)) (c .join .result) (join-fits g (h .coded) (i .0 .0) (j .0 .0) (class-below g (s .args .a) (i .0 .0) pi) (class-below g (s .args .b) (j .0 .0) pj) (h .within)) (c .join .ensures)
+    let cs = if eqb (i .0 .0) (j .0 .0) then decode g else joined (decode g) (i .0 .0) (j .0 .0) in
+    let e = accepted-is g (h .coded) false cs (encode (g .limit) cs) (join-fits g (h .coded) (i .0 .0) (j .0 .0) (class-below g (s .args .a) (i .0 .0) pi) (class-below g (s .args .b) (j .0 .0) pj) (h .within)) refl in
+    _∙_ {b = record { number = 0; answer = false; group = encode (g .limit) cs }} (search (c .join .ensures)) e
     ∙ ap (λ (o : Bool × List Class). changed (g .limit) (judged (g .limit) (decode g) o)) (sym (equal-both ns (decode g) (s .args .a) (s .args .b) (i .0 .0) (j .0 .0) pi pj))
 
 returns-2 : tie.Need-returns-2

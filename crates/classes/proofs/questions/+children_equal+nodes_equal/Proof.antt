@@ -7,7 +7,7 @@ use borrow.Author.Needs.{needs}
 use borrow.Fn.Kinds.{In}
 use borrow.Fn.PlainCycle.{Measures, is, falls, and}
 use Rattle.classes.specs.Inner.{Answered, AnsweredAll}
-use Rattle.classes.proofs.Equality.{Going, self-answered, class-answered, pair-answered, leaf-answered, count-answered, children-asked, children-answered, children-noted, going-begins, going-ends, left-there, right-there, left-lower, pair-asked, going-on, going-stops}
+use Rattle.classes.proofs.Equality.{Going, self-answered, class-answered, pair-answered, unpaired-answered, children-asked, children-answered, children-noted, going-begins, going-ends, left-there, right-there, left-lower, pair-asked, going-on, going-stops}
 use Rattle.classes.proofs.questions.children_equal.Reads as children-equal
 use Rattle.classes.proofs.questions.children_equal.Kinds as children-equal-kinds
 use Rattle.classes.proofs.questions.+children_equal+nodes_equal.Lts-children_equal as children-equal-lts
@@ -18,6 +18,7 @@ use Rattle.arena.proofs.cells.wide.Reads as wide-reads
 use Rattle.arena.proofs.reading.child_count.Reads as child-count-reads
 use Rattle.arena.proofs.reading.child_in.Reads as child-in-reads
 use Rattle.classes.proofs.questions.add_pair.Reads as add-pair-reads
+use Rattle.classes.proofs.questions.children_pair_up.Reads as children-pair-up-reads
 use Rattle.classes.proofs.questions.has_pair.Reads as has-pair-reads
 use Rattle.classes.proofs.questions.same_place.Reads as same-place-reads
 use Rattle.classes.proofs.questions.+children_equal+nodes_equal.{statement}
@@ -202,10 +203,12 @@ nodes-equal-returns : (t : ℕ) → nodes-equal-lts.Need-returns (
   wide-reads.Learnt,
   same-place-reads.Asked,
   same-place-reads.Learnt,
-  child-count-reads.Asked,
-  child-count-reads.Learnt,
+  children-pair-up-reads.Asked,
+  children-pair-up-reads.Learnt,
   has-pair-reads.Asked,
   has-pair-reads.Learnt,
+  child-count-reads.Asked,
+  child-count-reads.Learnt,
   children-equal-below t,
   children-equal.Post,
   add-pair-reads.Asked,
@@ -220,10 +223,12 @@ nodes-equal-wide-requires : (t : ℕ) → nodes-equal-lts.Need-wide-requires (
   wide-reads.Learnt,
   same-place-reads.Asked,
   same-place-reads.Learnt,
-  child-count-reads.Asked,
-  child-count-reads.Learnt,
+  children-pair-up-reads.Asked,
+  children-pair-up-reads.Learnt,
   has-pair-reads.Asked,
   has-pair-reads.Learnt,
+  child-count-reads.Asked,
+  child-count-reads.Learnt,
   children-equal-below t,
   children-equal.Post,
   add-pair-reads.Asked,
@@ -236,10 +241,12 @@ nodes-equal-wide-requires-2 : (t : ℕ) → nodes-equal-lts.Need-wide-requires-2
   wide-reads.Learnt,
   same-place-reads.Asked,
   same-place-reads.Learnt,
-  child-count-reads.Asked,
-  child-count-reads.Learnt,
+  children-pair-up-reads.Asked,
+  children-pair-up-reads.Learnt,
   has-pair-reads.Asked,
   has-pair-reads.Learnt,
+  child-count-reads.Asked,
+  child-count-reads.Learnt,
   children-equal-below t,
   children-equal.Post,
   add-pair-reads.Asked,
@@ -252,10 +259,12 @@ nodes-equal-same-place-requires : (t : ℕ) → nodes-equal-lts.Need-same-place-
   wide-reads.Learnt,
   same-place-reads.Asked,
   same-place-reads.Learnt,
-  child-count-reads.Asked,
-  child-count-reads.Learnt,
+  children-pair-up-reads.Asked,
+  children-pair-up-reads.Learnt,
   has-pair-reads.Asked,
   has-pair-reads.Learnt,
+  child-count-reads.Asked,
+  child-count-reads.Learnt,
   children-equal-below t,
   children-equal.Post,
   add-pair-reads.Asked,
@@ -268,10 +277,12 @@ nodes-equal-returns-2 : (t : ℕ) → nodes-equal-lts.Need-returns-2 (
   wide-reads.Learnt,
   same-place-reads.Asked,
   same-place-reads.Learnt,
-  child-count-reads.Asked,
-  child-count-reads.Learnt,
+  children-pair-up-reads.Asked,
+  children-pair-up-reads.Learnt,
   has-pair-reads.Asked,
   has-pair-reads.Learnt,
+  child-count-reads.Asked,
+  child-count-reads.Learnt,
   children-equal-below t,
   children-equal.Post,
   add-pair-reads.Asked,
@@ -282,31 +293,35 @@ nodes-equal-returns-2 t c =
     let p = rw (c .before .before .before .wide .ensures, c .before .before .wide2 .ensures) at (c .before .same-place .ensures) in
     class-answered (s .cells .now) (s .places .now) (s .seen .now) (s .a) (s .b) (c .before .before .before .before .before .pre .1) (sym p ∙ c .if2 .taken)
 
-nodes-equal-child-count-requires : (t : ℕ) → nodes-equal-lts.Need-child-count-requires (
+nodes-equal-children-pair-up-requires : (t : ℕ) → nodes-equal-lts.Need-children-pair-up-requires (
   wide-reads.Asked,
   wide-reads.Learnt,
   same-place-reads.Asked,
   same-place-reads.Learnt,
-  child-count-reads.Asked,
-  child-count-reads.Learnt,
+  children-pair-up-reads.Asked,
+  children-pair-up-reads.Learnt,
   has-pair-reads.Asked,
   has-pair-reads.Learnt,
+  child-count-reads.Asked,
+  child-count-reads.Learnt,
   children-equal-below t,
   children-equal.Post,
   add-pair-reads.Asked,
   add-pair-reads.Learnt,
 ) (nodes-equal-at t) nodes-equal.Post
-nodes-equal-child-count-requires t c κs = search needs
+nodes-equal-children-pair-up-requires t c κs = search needs
 
 nodes-equal-returns-3 : (t : ℕ) → nodes-equal-lts.Need-returns-3 (
   wide-reads.Asked,
   wide-reads.Learnt,
   same-place-reads.Asked,
   same-place-reads.Learnt,
-  child-count-reads.Asked,
-  child-count-reads.Learnt,
+  children-pair-up-reads.Asked,
+  children-pair-up-reads.Learnt,
   has-pair-reads.Asked,
   has-pair-reads.Learnt,
+  child-count-reads.Asked,
+  child-count-reads.Learnt,
   children-equal-below t,
   children-equal.Post,
   add-pair-reads.Asked,
@@ -315,55 +330,20 @@ nodes-equal-returns-3 : (t : ℕ) → nodes-equal-lts.Need-returns-3 (
 nodes-equal-returns-3 t c =
     let s = c .before .before .before .before .before .before .before .args in
     let p = rw (c .before .before .before .before .before .wide .ensures, c .before .before .before .before .wide2 .ensures) at (c .before .before .before .same-place .ensures) in
-    let m = rw (c .before .before .before .before .before .wide .ensures) at (c .before .child-count .ensures) in
-    leaf-answered (s .cells .now) (s .places .now) (s .seen .now) (s .a) (s .b) (c .before .before .before .before .before .before .before .pre .1) (c .before .before .before .before .before .before .if1 .left) (sym p ∙ c .before .before .if2 .left) (sym m ∙ c .if3 .taken)
-
-nodes-equal-child-count-requires-2 : (t : ℕ) → nodes-equal-lts.Need-child-count-requires-2 (
-  wide-reads.Asked,
-  wide-reads.Learnt,
-  same-place-reads.Asked,
-  same-place-reads.Learnt,
-  child-count-reads.Asked,
-  child-count-reads.Learnt,
-  has-pair-reads.Asked,
-  has-pair-reads.Learnt,
-  children-equal-below t,
-  children-equal.Post,
-  add-pair-reads.Asked,
-  add-pair-reads.Learnt,
-) (nodes-equal-at t) nodes-equal.Post
-nodes-equal-child-count-requires-2 t c κs = search needs
-
-nodes-equal-returns-4 : (t : ℕ) → nodes-equal-lts.Need-returns-4 (
-  wide-reads.Asked,
-  wide-reads.Learnt,
-  same-place-reads.Asked,
-  same-place-reads.Learnt,
-  child-count-reads.Asked,
-  child-count-reads.Learnt,
-  has-pair-reads.Asked,
-  has-pair-reads.Learnt,
-  children-equal-below t,
-  children-equal.Post,
-  add-pair-reads.Asked,
-  add-pair-reads.Learnt,
-) (nodes-equal-at t) nodes-equal.Post
-nodes-equal-returns-4 t c =
-    let s = c .before .before .before .before .before .before .before .before .before .args in
-    let p = rw (c .before .before .before .before .before .before .before .wide .ensures, c .before .before .before .before .before .before .wide2 .ensures) at (c .before .before .before .before .before .same-place .ensures) in
-    let m = rw (c .before .before .before .before .before .before .before .wide .ensures) at (c .before .before .before .child-count .ensures) in
-    let n = rw (c .before .before .before .before .before .before .wide2 .ensures) at (c .before .child-count2 .ensures) in
-    count-answered (s .cells .now) (s .places .now) (s .seen .now) (s .a) (s .b) (c .before .before .before .before .before .before .before .before .before .pre .1) (c .before .before .before .before .before .before .before .before .if1 .left) (sym p ∙ c .before .before .before .before .if2 .left) (λ z. c .if4 .taken (n ∙ z ∙ sym m))
+    let m = rw (c .before .before .before .before .before .wide .ensures, c .before .before .before .before .wide2 .ensures) at (c .before .children-pair-up .ensures) in
+    unpaired-answered (s .cells .now) (s .places .now) (s .seen .now) (s .a) (s .b) (c .before .before .before .before .before .before .before .pre .1) (c .before .before .before .before .before .before .if1 .left) (sym p ∙ c .before .before .if2 .left) (sym m ∙ not-true _ (c .if3 .taken))
 
 nodes-equal-has-pair-requires : (t : ℕ) → nodes-equal-lts.Need-has-pair-requires (
   wide-reads.Asked,
   wide-reads.Learnt,
   same-place-reads.Asked,
   same-place-reads.Learnt,
-  child-count-reads.Asked,
-  child-count-reads.Learnt,
+  children-pair-up-reads.Asked,
+  children-pair-up-reads.Learnt,
   has-pair-reads.Asked,
   has-pair-reads.Learnt,
+  child-count-reads.Asked,
+  child-count-reads.Learnt,
   children-equal-below t,
   children-equal.Post,
   add-pair-reads.Asked,
@@ -371,78 +351,104 @@ nodes-equal-has-pair-requires : (t : ℕ) → nodes-equal-lts.Need-has-pair-requ
 ) (nodes-equal-at t) nodes-equal.Post
 nodes-equal-has-pair-requires t c κs = search needs
 
-nodes-equal-returns-5 : (t : ℕ) → nodes-equal-lts.Need-returns-5 (
+nodes-equal-returns-4 : (t : ℕ) → nodes-equal-lts.Need-returns-4 (
   wide-reads.Asked,
   wide-reads.Learnt,
   same-place-reads.Asked,
   same-place-reads.Learnt,
-  child-count-reads.Asked,
-  child-count-reads.Learnt,
+  children-pair-up-reads.Asked,
+  children-pair-up-reads.Learnt,
   has-pair-reads.Asked,
   has-pair-reads.Learnt,
+  child-count-reads.Asked,
+  child-count-reads.Learnt,
   children-equal-below t,
   children-equal.Post,
   add-pair-reads.Asked,
   add-pair-reads.Learnt,
 ) (nodes-equal-at t) nodes-equal.Post
-nodes-equal-returns-5 t c =
-    let s = c .before .before .before .before .before .before .before .before .before .before .before .before .args in
-    let h = rw (c .before .before .before .before .before .before .before .before .before .before .wide .ensures, c .before .before .before .before .before .before .before .before .before .wide2 .ensures) at (c .before .has-pair .ensures) in
-    pair-answered (s .cells .now) (s .places .now) (s .seen .now) (s .a) (s .b) (c .before .before .before .before .before .before .before .before .before .before .before .before .pre .1) (sym h ∙ c .if5 .taken)
+nodes-equal-returns-4 t c =
+    let s = c .before .before .before .before .before .before .before .before .before .before .args in
+    let h = rw (c .before .before .before .before .before .before .before .before .wide .ensures, c .before .before .before .before .before .before .before .wide2 .ensures) at (c .before .has-pair .ensures) in
+    pair-answered (s .cells .now) (s .places .now) (s .seen .now) (s .a) (s .b) (c .before .before .before .before .before .before .before .before .before .before .pre .1) (sym h ∙ c .if4 .taken)
+
+nodes-equal-child-count-requires : (t : ℕ) → nodes-equal-lts.Need-child-count-requires (
+  wide-reads.Asked,
+  wide-reads.Learnt,
+  same-place-reads.Asked,
+  same-place-reads.Learnt,
+  children-pair-up-reads.Asked,
+  children-pair-up-reads.Learnt,
+  has-pair-reads.Asked,
+  has-pair-reads.Learnt,
+  child-count-reads.Asked,
+  child-count-reads.Learnt,
+  children-equal-below t,
+  children-equal.Post,
+  add-pair-reads.Asked,
+  add-pair-reads.Learnt,
+) (nodes-equal-at t) nodes-equal.Post
+nodes-equal-child-count-requires t c κs = search needs
 
 nodes-equal-children-equal-requires : (t : ℕ) → nodes-equal-lts.Need-children-equal-requires (
   wide-reads.Asked,
   wide-reads.Learnt,
   same-place-reads.Asked,
   same-place-reads.Learnt,
-  child-count-reads.Asked,
-  child-count-reads.Learnt,
+  children-pair-up-reads.Asked,
+  children-pair-up-reads.Learnt,
   has-pair-reads.Asked,
   has-pair-reads.Learnt,
+  child-count-reads.Asked,
+  child-count-reads.Learnt,
   children-equal-below t,
   children-equal.Post,
   add-pair-reads.Asked,
   add-pair-reads.Learnt,
 ) (nodes-equal-at t) nodes-equal.Post
 nodes-equal-children-equal-requires t c κs =
-    let s = c .before .before .before .before .before .before .before .before .before .before .before .before .before .args in
-    let p = rw (c .before .before .before .before .before .before .before .before .before .before .before .wide .ensures, c .before .before .before .before .before .before .before .before .before .before .wide2 .ensures) at (c .before .before .before .before .before .before .before .before .before .same-place .ensures) in
-    let m = rw (c .before .before .before .before .before .before .before .before .before .before .before .wide .ensures) at (c .before .before .before .before .before .before .before .child-count .ensures) in
-    let n = rw (c .before .before .before .before .before .before .before .before .before .before .wide2 .ensures) at (c .before .before .before .before .before .child-count2 .ensures) in
-    (omega (arith, c .before .before .before .before .before .before .before .before .before .before .before .before .before .pre .0), children-asked (s .cells .now) (s .places .now) (s .seen .now) (s .a) (s .b) (c .before .before .before .before .before .before .before .before .before .before .before .before .before .pre .1) (c .before .before .before .before .before .before .before .before .before .before .before .before .if1 .left) (sym p ∙ c .before .before .before .before .before .before .before .before .if2 .left) (c .before .before .before .before .before .before .before .child-count .result) m (sym n ∙ c .before .before .before .before .if4 .left) (c .before .before .before .before .before .before .if3 .left))
+    let s = c .before .before .before .before .before .before .before .before .before .before .before .before .args in
+    let p = rw (c .before .before .before .before .before .before .before .before .before .before .wide .ensures, c .before .before .before .before .before .before .before .before .before .wide2 .ensures) at (c .before .before .before .before .before .before .before .before .same-place .ensures) in
+    let m = rw (c .before .before .before .before .before .before .before .before .before .before .wide .ensures, c .before .before .before .before .before .before .before .before .before .wide2 .ensures) at (c .before .before .before .before .before .before .children-pair-up .ensures) in
+    let n = rw (c .before .before .before .before .before .before .before .before .before .before .wide .ensures) at (c .before .child-count .ensures) in
+    (omega (arith, c .before .before .before .before .before .before .before .before .before .before .before .before .pre .0), children-asked (s .cells .now) (s .places .now) (s .seen .now) (s .a) (s .b) (c .before .before .before .before .before .before .before .before .before .before .before .before .pre .1) (c .before .before .before .before .before .before .before .before .before .before .before .if1 .left) (sym p ∙ c .before .before .before .before .before .before .before .if2 .left) (c .before .child-count .result) n (sym m ∙ not-false _ (c .before .before .before .before .before .if3 .left)))
 
-nodes-equal-returns-6 : (t : ℕ) → nodes-equal-lts.Need-returns-6 (
+nodes-equal-returns-5 : (t : ℕ) → nodes-equal-lts.Need-returns-5 (
   wide-reads.Asked,
   wide-reads.Learnt,
   same-place-reads.Asked,
   same-place-reads.Learnt,
-  child-count-reads.Asked,
-  child-count-reads.Learnt,
+  children-pair-up-reads.Asked,
+  children-pair-up-reads.Learnt,
   has-pair-reads.Asked,
   has-pair-reads.Learnt,
+  child-count-reads.Asked,
+  child-count-reads.Learnt,
   children-equal-below t,
   children-equal.Post,
   add-pair-reads.Asked,
   add-pair-reads.Learnt,
 ) (nodes-equal-at t) nodes-equal.Post
-nodes-equal-returns-6 t c =
-    let s = c .before .before .before .before .before .before .before .before .before .before .before .before .before .before .before .args in
-    let p = rw (c .before .before .before .before .before .before .before .before .before .before .before .before .before .wide .ensures, c .before .before .before .before .before .before .before .before .before .before .before .before .wide2 .ensures) at (c .before .before .before .before .before .before .before .before .before .before .before .same-place .ensures) in
-    let m = rw (c .before .before .before .before .before .before .before .before .before .before .before .before .before .wide .ensures) at (c .before .before .before .before .before .before .before .before .before .child-count .ensures) in
-    let n = rw (c .before .before .before .before .before .before .before .before .before .before .before .before .wide2 .ensures) at (c .before .before .before .before .before .before .before .child-count2 .ensures) in
+nodes-equal-returns-5 t c =
+    let s = c .before .before .before .before .before .before .before .before .before .before .before .before .before .before .args in
+    let p = rw (c .before .before .before .before .before .before .before .before .before .before .before .before .wide .ensures, c .before .before .before .before .before .before .before .before .before .before .before .wide2 .ensures) at (c .before .before .before .before .before .before .before .before .before .before .same-place .ensures) in
+    let m = rw (c .before .before .before .before .before .before .before .before .before .before .before .before .wide .ensures, c .before .before .before .before .before .before .before .before .before .before .before .wide2 .ensures) at (c .before .before .before .before .before .before .before .before .children-pair-up .ensures) in
+    let n = rw (c .before .before .before .before .before .before .before .before .before .before .before .before .wide .ensures) at (c .before .before .before .child-count .ensures) in
     let t = c .before .children-equal .last .1 .1 .0 in
-    let w = subst (AnsweredAll (s .cells .now) (s .places .now) t (s .a) (s .b) (c .before .before .before .before .before .before .before .before .before .child-count .result)) (not-true _ (c .if6 .taken)) (c .before .children-equal .ensures) in
-    children-answered (s .cells .now) (s .places .now) (s .seen .now) (s .a) (s .b) (c .before .before .before .before .before .before .before .before .before .before .before .before .before .before .before .pre .1) (c .before .before .before .before .before .before .before .before .before .before .before .before .before .before .if1 .left) (sym p ∙ c .before .before .before .before .before .before .before .before .before .before .if2 .left) (c .before .before .before .before .before .before .before .before .before .child-count .result) m (sym n ∙ c .before .before .before .before .before .before .if4 .left) (c .before .before .before .before .before .before .before .before .if3 .left) t w
+    let w = subst (AnsweredAll (s .cells .now) (s .places .now) t (s .a) (s .b) (c .before .before .before .child-count .result)) (not-true _ (c .if5 .taken)) (c .before .children-equal .ensures) in
+    children-answered (s .cells .now) (s .places .now) (s .seen .now) (s .a) (s .b) (c .before .before .before .before .before .before .before .before .before .before .before .before .before .before .pre .1) (c .before .before .before .before .before .before .before .before .before .before .before .before .before .if1 .left) (sym p ∙ c .before .before .before .before .before .before .before .before .before .if2 .left) (c .before .before .before .child-count .result) n (sym m ∙ not-false _ (c .before .before .before .before .before .before .before .if3 .left)) t w
 
 nodes-equal-add-pair-requires : (t : ℕ) → nodes-equal-lts.Need-add-pair-requires (
   wide-reads.Asked,
   wide-reads.Learnt,
   same-place-reads.Asked,
   same-place-reads.Learnt,
-  child-count-reads.Asked,
-  child-count-reads.Learnt,
+  children-pair-up-reads.Asked,
+  children-pair-up-reads.Learnt,
   has-pair-reads.Asked,
   has-pair-reads.Learnt,
+  child-count-reads.Asked,
+  child-count-reads.Learnt,
   children-equal-below t,
   children-equal.Post,
   add-pair-reads.Asked,
@@ -450,28 +456,30 @@ nodes-equal-add-pair-requires : (t : ℕ) → nodes-equal-lts.Need-add-pair-requ
 ) (nodes-equal-at t) nodes-equal.Post
 nodes-equal-add-pair-requires t c κs = search needs
 
-nodes-equal-returns-7 : (t : ℕ) → nodes-equal-lts.Need-returns-7 (
+nodes-equal-returns-6 : (t : ℕ) → nodes-equal-lts.Need-returns-6 (
   wide-reads.Asked,
   wide-reads.Learnt,
   same-place-reads.Asked,
   same-place-reads.Learnt,
-  child-count-reads.Asked,
-  child-count-reads.Learnt,
+  children-pair-up-reads.Asked,
+  children-pair-up-reads.Learnt,
   has-pair-reads.Asked,
   has-pair-reads.Learnt,
+  child-count-reads.Asked,
+  child-count-reads.Learnt,
   children-equal-below t,
   children-equal.Post,
   add-pair-reads.Asked,
   add-pair-reads.Learnt,
 ) (nodes-equal-at t) nodes-equal.Post
-nodes-equal-returns-7 t c =
-    let s = c .before .before .before .before .before .before .before .before .before .before .before .before .before .before .before .before .before .args in
-    let p = rw (c .before .before .before .before .before .before .before .before .before .before .before .before .before .before .before .wide .ensures, c .before .before .before .before .before .before .before .before .before .before .before .before .before .before .wide2 .ensures) at (c .before .before .before .before .before .before .before .before .before .before .before .before .before .same-place .ensures) in
-    let m = rw (c .before .before .before .before .before .before .before .before .before .before .before .before .before .before .before .wide .ensures) at (c .before .before .before .before .before .before .before .before .before .before .before .child-count .ensures) in
-    let n = rw (c .before .before .before .before .before .before .before .before .before .before .before .before .before .before .wide2 .ensures) at (c .before .before .before .before .before .before .before .before .before .child-count2 .ensures) in
+nodes-equal-returns-6 t c =
+    let s = c .before .before .before .before .before .before .before .before .before .before .before .before .before .before .before .before .args in
+    let p = rw (c .before .before .before .before .before .before .before .before .before .before .before .before .before .before .wide .ensures, c .before .before .before .before .before .before .before .before .before .before .before .before .before .wide2 .ensures) at (c .before .before .before .before .before .before .before .before .before .before .before .before .same-place .ensures) in
+    let m = rw (c .before .before .before .before .before .before .before .before .before .before .before .before .before .before .wide .ensures, c .before .before .before .before .before .before .before .before .before .before .before .before .before .wide2 .ensures) at (c .before .before .before .before .before .before .before .before .before .before .children-pair-up .ensures) in
+    let n = rw (c .before .before .before .before .before .before .before .before .before .before .before .before .before .before .wide .ensures) at (c .before .before .before .before .before .child-count .ensures) in
     let t = c .before .before .before .children-equal .last .1 .1 .0 in
-    let w = subst (AnsweredAll (s .cells .now) (s .places .now) t (s .a) (s .b) (c .before .before .before .before .before .before .before .before .before .before .before .child-count .result)) (not-false _ (c .before .before .if6 .left)) (c .before .before .before .children-equal .ensures) in
-    children-noted (s .cells .now) (s .places .now) (s .seen .now) (s .a) (s .b) (c .before .before .before .before .before .before .before .before .before .before .before .before .before .before .before .before .before .pre .1) (c .before .before .before .before .before .before .before .before .before .before .before .before .before .before .before .before .if1 .left) (sym p ∙ c .before .before .before .before .before .before .before .before .before .before .before .before .if2 .left) (c .before .before .before .before .before .before .before .before .before .before .before .child-count .result) m (sym n ∙ c .before .before .before .before .before .before .before .before .if4 .left) (c .before .before .before .before .before .before .before .before .before .before .if3 .left) t (c .add-pair .last .0) w (rw (c .before .before .before .before .before .before .before .before .before .before .before .before .before .before .before .wide .ensures, c .before .before .before .before .before .before .before .before .before .before .before .before .before .before .wide2 .ensures) at (c .add-pair .ensures))
+    let w = subst (AnsweredAll (s .cells .now) (s .places .now) t (s .a) (s .b) (c .before .before .before .before .before .child-count .result)) (not-false _ (c .before .before .if5 .left)) (c .before .before .before .children-equal .ensures) in
+    children-noted (s .cells .now) (s .places .now) (s .seen .now) (s .a) (s .b) (c .before .before .before .before .before .before .before .before .before .before .before .before .before .before .before .before .pre .1) (c .before .before .before .before .before .before .before .before .before .before .before .before .before .before .before .if1 .left) (sym p ∙ c .before .before .before .before .before .before .before .before .before .before .before .if2 .left) (c .before .before .before .before .before .child-count .result) n (sym m ∙ not-false _ (c .before .before .before .before .before .before .before .before .before .if3 .left)) t (c .add-pair .last .0) w (rw (c .before .before .before .before .before .before .before .before .before .before .before .before .before .before .wide .ensures, c .before .before .before .before .before .before .before .before .before .before .before .before .before .wide2 .ensures) at (c .add-pair .ensures))
 
 pub +children-equal+nodes-equal-spec : {M : Type 1} → statement M
 +children-equal+nodes-equal-spec =
@@ -503,10 +511,12 @@ pub +children-equal+nodes-equal-spec : {M : Type 1} → statement M
       wide-reads.Learnt,
       same-place-reads.Asked,
       same-place-reads.Learnt,
-      child-count-reads.Asked,
-      child-count-reads.Learnt,
+      children-pair-up-reads.Asked,
+      children-pair-up-reads.Learnt,
       has-pair-reads.Asked,
       has-pair-reads.Learnt,
+      child-count-reads.Asked,
+      child-count-reads.Learnt,
       children-equal-below t,
       children-equal.Post,
       add-pair-reads.Asked,
@@ -519,13 +529,12 @@ pub +children-equal+nodes-equal-spec : {M : Type 1} → statement M
     (nodes-equal-wide-requires-2 t)
     (nodes-equal-same-place-requires t)
     (nodes-equal-returns-2 t)
-    (nodes-equal-child-count-requires t)
+    (nodes-equal-children-pair-up-requires t)
     (nodes-equal-returns-3 t)
-    (nodes-equal-child-count-requires-2 t)
-    (nodes-equal-returns-4 t)
     (nodes-equal-has-pair-requires t)
-    (nodes-equal-returns-5 t)
+    (nodes-equal-returns-4 t)
+    (nodes-equal-child-count-requires t)
     (nodes-equal-children-equal-requires t)
-    (nodes-equal-returns-6 t)
+    (nodes-equal-returns-5 t)
     (nodes-equal-add-pair-requires t)
-    (nodes-equal-returns-7 t)
+    (nodes-equal-returns-6 t)

@@ -6,7 +6,7 @@ use Rattle.classes.specs.Layout.{decode}
 use Rattle.classes.proofs.Constancy.{fresh-constant, literal-mark, class-mark, walk-yes, walk-no}
 use Rattle.classes.proofs.questions.constant_in.Statement.{statement}
 use Rattle.classes.proofs.questions.constant_in.Tie as tie
-use Rattle.arena.specs.Layout.{decode as nodes}
+use Rattle.arena.specs.Layout.{cellOf, decode as nodes}
 
 wide-requires : tie.Need-wide-requires
 wide-requires c κs = search needs
@@ -22,7 +22,7 @@ returns c =
     let s = c .before .before .before .before .args in
     let m = rw (c .before .before .before .wide .ensures) at (c .before .before .cell-of .ensures) in
     let v = rw (c .before .before .before .wide .ensures) at (c .cell-of2 .ensures) in
-    rw v (literal-mark (s .cells .now) (decode (s .g)) (s .e) (c .before .before .before .before .pre .0) (sym m ∙ c .before .if1 .taken))
+    _∙_ {b = record { flavour = 3; value = cellOf (s .cells .now) (s .e) 1 }} (search v) (literal-mark (s .cells .now) (decode (s .g)) (s .e) (c .before .before .before .before .pre .0) (sym m ∙ c .before .if1 .taken))
 
 class-mark-requires : tie.Need-class-mark-requires
 class-mark-requires c κs = search needs
