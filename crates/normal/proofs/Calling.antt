@@ -10,7 +10,6 @@ use lib.Dec.{eqb}
 use lib.ListN.{length, getD, replicate}
 use lib.Seq.{take-all}
 use Rattle.laws.specs.Tests.{if_then_else_}
-use Rattle.laws.proofs.Booleans.{true-not-false}
 use Rattle.arena.specs.Node.{Node}
 use Rattle.arena.specs.Expression.{Expression, Expressions, col, lit, op, ∅, _▹_, expressionAt}
 use Rattle.arena.specs.Arena.{Sound, addExpression}
@@ -27,7 +26,7 @@ use Rattle.classes.specs.Inner.{Held}
 use Rattle.classes.specs.Calls.{groupNumber}
 use Rattle.classes.specs.declared.Group.{Group}
 use Rattle.normal.specs.Normal.{numberOf, firstOf, replacedBy, replaced, normalBy, normalsBy, normal, normals}
-use Rattle.normal.specs.Inner.{Firsts, olds, rewriting, Ready}
+use Rattle.normal.specs.Inner.{Firsts, olds, rewriting, Ready, settledBy}
 use Rattle.normal.specs.Calls.{onChecked, normalizeExpr, normalized, keyIs, normalizeSortExpr, keyNumber, normalizedKey}
 use Rattle.normal.specs.declared.KeyIs.{KeyIs}
 use Rattle.normal.specs.declared.KeyIs.the-variants.{Refused as Key-Refused}
@@ -95,19 +94,12 @@ module _ (s : List ℕ) (g : Group) (old : ℕ) (firsts : List ℕ) (holds : Hol
         }
 
     module _ (t memo : List ℕ) where
-      -- it has answered
-      pub whole-done : (a : Added) → isRefused a ≡ false → Walked (rewriting old firsts s) s t memo e a
-          → _≡_ {A = Added × List ℕ} (a, t) (inCells (answered (nodes s) (addExpression (normal (nodes s) (decode g) (expressionAt (nodes s) e)) (nodes s))))
-      unfolding inCells answered told isRefused
-      whole-done (Number i) q w = rw (← rewriting-normal (expressionAt (nodes s) e), ← w .grew .is, coded-cells t (w .grew .holds))
-      whole-done (Refused k) q w = absurd (true-not-false refl q)
-
-      -- there was no room
-      pub whole-full : (a : Added) → isRefused a ≡ true → Walked (rewriting old firsts s) s t memo e a
-          → _≡_ {A = Added × List ℕ} (Refused 3, s) (inCells (answered (nodes s) (addExpression (normal (nodes s) (decode g) (expressionAt (nodes s) e)) (nodes s))))
-      unfolding inCells answered told isRefused
-      whole-full (Number i) q w = absurd (true-not-false q refl)
-      whole-full (Refused k) q w = rw (← rewriting-normal (expressionAt (nodes s) e), ← w .grew .is, coded-cells s holds)
+      -- it has answered, or there was no room
+      pub whole-settled : (a : Added) → Walked (rewriting old firsts s) s t memo e a
+          → settledBy s t a ≡ inCells (answered (nodes s) (addExpression (normal (nodes s) (decode g) (expressionAt (nodes s) e)) (nodes s)))
+      unfolding settledBy inCells answered told isRefused
+      whole-settled (Number i) w = rw (← rewriting-normal (expressionAt (nodes s) e), ← w .grew .is, coded-cells t (w .grew .holds))
+      whole-settled (Refused k) w = rw (← rewriting-normal (expressionAt (nodes s) e), ← w .grew .is, coded-cells s holds)
 
 -- a call after the check's number
 module _ {A : Type 0} (number : ℕ) (refusedBy : ℕ → A) (call : List Node → List Class → A × List Node) (cells : List ℕ) (g : Group) where

@@ -10,7 +10,9 @@ use Rattle.arena.specs.Node.{Node, operation, nodeAt}
 use Rattle.arena.specs.Expression.{Expression, expressions, those}
 use Rattle.arena.specs.Arena.{Extends, Placed, placed, full, andThen, addExpressions}
 use Rattle.arena.specs.Layout.{count, childrenOf, decode}
-use Rattle.arena.specs.Inner.{Holds, Memo, operationRow, mapAll}
+use Rattle.arena.specs.Inner.{Holds, Memo, isRefused, operationRow, mapAll}
+use Rattle.arena.specs.declared.Added.{Added}
+use Rattle.arena.specs.declared.Added.the-variants.{Refused}
 use Rattle.classes.specs.Class.{Class}
 use Rattle.classes.specs.Layout.{isLiteral}
 use Rattle.normal.specs.Normal.{firstOf, normalBy}
@@ -47,6 +49,10 @@ pub record ReadyAll (old : ℕ) (firsts s memo r : List ℕ) (e : ℕ) : Type 0 
   pub ready : Ready old firsts s memo e
   pub node : nodeAt (decode s) e ≡ operation (getD r 1 0) (childrenOf r)
   pub row-is : r ≡ operationRow r (childrenOf r)
+
+-- what the caller is told of a walk from the cells s to the cells t: its answer; or, where there was no room, 3 and the cells as they were
+unfoldable pub settledBy : List ℕ → List ℕ → Added → Added × List ℕ
+settledBy s t answer = if isRefused answer then (Refused 3, s) else (answer, t)
 
 -- the keys that are lent: each one's expression is an old node, its options are 0 to 3
 pub record KeysKnown (old : ℕ) (numbers : List ℕ) : Type 0 where

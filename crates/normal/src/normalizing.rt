@@ -22,7 +22,7 @@ ghost use Rattle.arena.specs.Inner.{Known, Walked, WalkedAll};
 ghost use Rattle.classes.specs.Layout.{decode};
 ghost use Rattle.classes.specs.Inner.{Held};
 ghost use Rattle.normal.specs.Normal.{normal};
-ghost use Rattle.normal.specs.Inner.{Ready, ReadyAll, rewriting, replacement as replacementBy};
+ghost use Rattle.normal.specs.Inner.{Ready, ReadyAll, rewriting, replacement as replacementBy, settledBy};
 
 // What replaces a node: the table's entry for one of the old nodes; a node that was added is in no class.
 fn replacement(firsts: &[u32; 1024], old: usize, i: u32) -> u32
@@ -105,6 +105,17 @@ pub fn normalize(
     answer
 }
 
+// What the caller is told of a walk: where it found no room 3, and every cell is as it was saved.
+fn settled(cells: &mut [u32; 11265], saved: &[u32; 11265], answer: Added) -> Added
+    ensures { λ r. ⌜ (r, now (cells .exit)) ≡ settledBy (now (saved .entry)) (now (cells .entry)) answer ⌝ }
+{
+    if refused(answer) {
+        *cells = *saved;
+        return Added::Refused(3);
+    }
+    answer
+}
+
 // The normal form of an expression: 3 where its missing nodes don't fit, and then every cell is as it was.
 pub fn normalize_in(cells: &mut [u32; 11265], g: Group, expr: u32) -> Added
     requires { ⌜ Known (now cells) expr × Held (nodes (now cells)) g ⌝ }
@@ -115,9 +126,5 @@ pub fn normalize_in(cells: &mut [u32; 11265], g: Group, expr: u32) -> Added
     let saved = *cells;
     let mut memo = [0u32; 1024];
     let answer = normalize(cells, &firsts, &mut memo, expr, old);
-    if refused(answer) {
-        *cells = saved;
-        return Added::Refused(3);
-    }
-    answer
+    settled(cells, &saved, answer)
 }

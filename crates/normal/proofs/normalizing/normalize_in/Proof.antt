@@ -1,7 +1,7 @@
 -- `normal::normalizing::normalize_in` meets its contract.
-use mathlib.Core.Path.{sym, _∙_}
+use mathlib.Core.Path.{_∙_}
 use native.Mathlib.Omega.{arith}
-use Rattle.normal.proofs.Calling.{whole-ready, whole-done, whole-full}
+use Rattle.normal.proofs.Calling.{whole-ready, whole-settled}
 use borrow.Author.Needs.{needs}
 use Rattle.normal.proofs.normalizing.normalize_in.Statement.{statement}
 use Rattle.normal.proofs.normalizing.normalize_in.Tie as tie
@@ -19,28 +19,16 @@ normalize-requires c κs =
     let b = c .before .before .before .before .before .before .before in
     whole-ready (b .args .cells .now) (b .args .g) (c .before .before .before .before .before .node-count .result) (c .before .before .before .before .class-firsts .result) (b .pre .0 .holds) (b .pre .1) (c .before .before .before .before .before .node-count .ensures) (c .before .before .before .before .class-firsts .ensures) (b .args .expr) (b .pre .0 .below) 1024
 
-refused-requires : tie.Need-refused-requires
-refused-requires c κs = search needs
+settled-requires : tie.Need-settled-requires
+settled-requires c κs = search needs
 
 returns : tie.Need-returns
 returns c =
-    let b = c .before .before .before .before .before .before .before .before .before .before in
-    let x = c .before .before .normalize in
-    whole-full (b .args .cells .now) (b .args .g) (c .before .before .before .before .before .before .before .before .node-count .result) (c .before .before .before .before .before .before .before .class-firsts .result) (b .pre .0 .holds) (b .pre .1) (c .before .before .before .before .before .before .before .before .node-count .ensures) (c .before .before .before .before .before .before .before .class-firsts .ensures) (b .args .expr) (b .pre .0 .below) (x .last .0) (x .last .1 .1 .0) (x .result) (sym (c .before .refused .ensures) ∙ c .if1 .taken) (x .ensures)
-
-returns-2 : tie.Need-returns-2
-returns-2 c =
-    let b = c .before .before .before .before .before .before .before .before .before .before in
-    let x = c .before .before .normalize in
-    whole-done (b .args .cells .now) (b .args .g) (c .before .before .before .before .before .before .before .before .node-count .result) (c .before .before .before .before .before .before .before .class-firsts .result) (b .pre .0 .holds) (b .pre .1) (c .before .before .before .before .before .before .before .before .node-count .ensures) (c .before .before .before .before .before .before .before .class-firsts .ensures) (b .args .expr) (b .pre .0 .below) (x .last .0) (x .last .1 .1 .0) (x .result) (sym (c .before .refused .ensures) ∙ c .if1 .left) (x .ensures)
+    let b = c .before .before .before .before .before .before .before .before .before .before .before in
+    let x = c .before .before .before .normalize in
+    c .settled .ensures ∙ whole-settled (b .args .cells .now) (b .args .g) (c .before .before .before .before .before .before .before .before .before .node-count .result) (c .before .before .before .before .before .before .before .before .class-firsts .result) (b .pre .0 .holds) (b .pre .1) (c .before .before .before .before .before .before .before .before .before .node-count .ensures) (c .before .before .before .before .before .before .before .before .class-firsts .ensures) (b .args .expr) (b .pre .0 .below) (x .last .0) (x .last .1 .1 .0) (x .result) (x .ensures)
 
 pub normalize-in-spec : {M : Type 1} → statement M
 normalize-in-spec =
     tie.close
-    (tie.spec
-    node-count-requires
-    class-firsts-requires
-    normalize-requires
-    refused-requires
-    returns
-    returns-2)
+    (tie.spec node-count-requires class-firsts-requires normalize-requires settled-requires returns)
