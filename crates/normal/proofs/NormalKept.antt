@@ -29,7 +29,6 @@ use Rattle.classes.proofs.HeldLaws.{number-lawful, number-fit}
 use Rattle.normal.specs.Normal.{normal, normals}
 use Rattle.normal.specs.Keys.{Key, exprsOf, keysOf, normalForms, withExprs, sorting}
 use Rattle.normal.specs.Calls.{onChecked, normalizeExpr, normalized, keyIs, normalizeSortExpr, keyNumber, normalizedKey, sorted, unsorted, sortedBy, normalizeSortExprs, optionsKnown, keysNumber, normalizedKeys, keyIsNumber}
-use Rattle.normal.specs.declared.KeyIs.{KeyIs}
 use Rattle.normal.specs.declared.KeyIs.the-variants.{Refused as Key-Refused}
 use Rattle.normal.specs.declared.Sorted.{Sorted}
 use Rattle.normal.proofs.Calling.{checked-done, checked-refused}
