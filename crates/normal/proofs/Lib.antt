@@ -14,3 +14,4 @@ pub mod NormalValue
 pub mod NormalDemand
 pub mod Missing
 pub mod NormalAdded
+pub mod NormalKept
