@@ -26,14 +26,14 @@ pub record AddedExpressions (es : Expressions) (ns : List Node) (ks : List ℕ) 
   pub is : those (expressions ms) ks ≡ es
 
 -- what was placed in between, where something is handed on
-record Between {A B : Type 0} (p : Placed A) (f : A → List Node → Placed B) (b : B) (os : List Node) : Type 0 where
-  answer : A
-  arena : List Node
-  first : p ≡ placed answer arena
-  then : f answer arena ≡ placed b os
+pub record Between {A B : Type 0} (p : Placed A) (f : A → List Node → Placed B) (b : B) (os : List Node) : Type 0 where
+  pub answer : A
+  pub arena : List Node
+  pub first : p ≡ placed answer arena
+  pub then : f answer arena ≡ placed b os
 
 -- where the end was placed, so was the beginning
-between : {A B : Type 0} (p : Placed A) (f : A → List Node → Placed B) (b : B) (os : List Node) → andThen p f ≡ placed b os → Between p f b os
+pub between : {A B : Type 0} (p : Placed A) (f : A → List Node → Placed B) (b : B) (os : List Node) → andThen p f ≡ placed b os → Between p f b os
 unfolding andThen
 between (placed a ns) f b os e = record { answer = a; arena = ns; first = refl; then = e }
 between full f b os e = absurd (let z : _≡_ {A = ℕ} 0 1 = cc in omega arith)

@@ -24,7 +24,7 @@ ghost use Rattle.arena.specs.Calls.{inCells, shiftedOutcome};
 ghost use Rattle.arena.specs.Inner.{Known, Grew, Ready, Walked, ReadyAll, WalkedAll, lifted, shiftedBy};
 
 // The lift of an offset.
-fn lift_of(offset: i64) -> u32
+pub fn lift_of(offset: i64) -> u32
     ensures { λ r. ⌜ (r ≤ 200000) × ((i : ℕ) → i < 65536 → moved offset i ≡ lifted r i) ⌝ }
 {
     if offset < -65535 {
@@ -76,7 +76,7 @@ fn node_moves(cells: &[u32; 11265], table: &[bool; 1024], e: usize, lift: u32) -
 }
 
 // Every column of expression e can move. Each node up to e is looked at once.
-fn can_move(cells: &[u32; 11265], e: usize, lift: u32) -> bool
+pub fn can_move(cells: &[u32; 11265], e: usize, lift: u32) -> bool
     requires { ⌜ Known (now cells) e × (lift ≤ 200000) ⌝ }
     ensures { λ r. ⌜ r ≡ canMove (lifted lift) (expressionAt (decode (now (cells .entry))) e) ⌝ }
 {
@@ -146,7 +146,7 @@ fn shift_new(cells: &mut [u32; 11265], memo: &mut [u32; 1024], expr: u32, lift: 
 }
 
 // Shifts an expression, each node once: what was answered stands in the memo.
-fn shift(cells: &mut [u32; 11265], memo: &mut [u32; 1024], expr: u32, lift: u32) -> Added
+pub fn shift(cells: &mut [u32; 11265], memo: &mut [u32; 1024], expr: u32, lift: u32) -> Added
     requires { ⌜ Ready lift (now cells) (now memo) expr ⌝ }
     ensures { λ r. ⌜ Walked (shiftedBy lift) (now (cells .entry)) (now (cells .exit)) (now (memo .exit)) expr r ⌝ }
 {

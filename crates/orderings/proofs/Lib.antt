@@ -1,0 +1,27 @@
+-- Laws of the definitions in specs/.
+pub mod Examples
+pub mod Kept
+pub mod Codec
+pub mod Meeting
+pub mod OneOrdering
+pub mod Extending
+pub mod Leads
+pub mod Suffixes
+pub mod Appending
+pub mod JoinLaws
+pub mod Contests
+pub mod Rounds
+pub mod Passes
+pub mod ListChecks
+pub mod ListHeld
+pub mod ListValid
+pub mod Overlaps
+pub mod Reduces
+pub mod Asking
+pub mod Offsets
+pub mod KeyTests
+pub mod KeyWalk
+pub mod OffsetCall
+pub mod OffsetLaws
+pub mod LentLaws
+pub mod Adding

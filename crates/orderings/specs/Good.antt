@@ -1,0 +1,24 @@
+-- Which lists of orderings are a state, and what reduction achieves.
+use Prim.Native.Nat.{ℕ, _<_, _≤_}
+use mathlib.Core.Bool.{Bool}
+use mathlib.Core.List.{List}
+use mathlib.Core.Option.{none}
+use mathlib.Core.Path.{_≡_}
+use lib.ListN.{length, getD}
+use Rattle.orderings.specs.Ordering.{exprOf}
+use Rattle.orderings.specs.Reduction.{orderingAt, overlap}
+
+-- an ordering: at least one key, at most 16, no expression twice
+pub record GoodOrdering (o : List ℕ) : Type 0 where
+  pub filled : 0 < length o
+  pub few : length o ≤ 16
+  pub distinct : (i j : ℕ) → i < j → j < length o → exprOf (getD o i 0) ≡ exprOf (getD o j 0) → ⊥
+
+-- a list of orderings: at most 32
+pub record Good (os : List (List ℕ)) : Type 0 where
+  pub few : length os ≤ 32
+  pub each : (i : ℕ) → i < length os → GoodOrdering (orderingAt os i)
+
+-- no nonempty suffix of one is a prefix of another
+abbrev pub Apart : (ℕ → ℕ → Bool) → List (List ℕ) → Type 0
+Apart m os = (i j : ℕ) → i < length os → j < length os → (i ≡ j → ⊥) → overlap m (orderingAt os i) (orderingAt os j) ≡ none

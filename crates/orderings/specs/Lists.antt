@@ -1,0 +1,56 @@
+-- What document 01 says of a list of orderings: building it, adding to it, the ordering of all, joining with the orderings of another, and the two questions.
+use Prim.Native.Nat.{ℕ}
+use mathlib.Core.Bool.{Bool, true, false, _&&_, _||_}
+use mathlib.Core.List.{List, [], _∷_, _++_, map}
+use mathlib.Core.Option.{Option, none, some}
+use lib.Dec.{eqb}
+use lib.ListN.{getD}
+use Rattle.laws.specs.Tests.{if_then_else_}
+use Rattle.orderings.specs.Ordering.{exprOf, optionsOf, extended, built}
+
+-- empty orderings vanish
+unfoldable pub nonempty : List (List ℕ) → List (List ℕ)
+nonempty [] = []
+nonempty ([] ∷ os) = nonempty os
+nonempty ((k ∷ ks) ∷ os) = (k ∷ ks) ∷ nonempty os
+
+-- orderings built from lists of keys
+unfoldable pub builtAll : List (List ℕ) → List (List ℕ)
+builtAll kss = nonempty (map built kss)
+
+-- an ordering extended by each of a list, one after the other
+unfoldable pub extendedAll : List ℕ → List (List ℕ) → List ℕ
+extendedAll o [] = o
+extendedAll o (p ∷ ps) = extendedAll (extended o p) ps
+
+-- the joined ordering of all; none of an empty list is the empty ordering
+unfoldable pub outputOrdering : List (List ℕ) → List ℕ
+outputOrdering os = extendedAll [] os
+
+-- each of the orderings, extended by one of the other side
+unfoldable pub suffixed : List (List ℕ) → List ℕ → List (List ℕ)
+suffixed os p = map (λ (o : List ℕ). extended o p) os
+
+-- all of the orderings extended by the first of the other side, then all by the next
+unfoldable pub suffixedAll : List (List ℕ) → List (List ℕ) → List (List ℕ)
+suffixedAll os [] = []
+suffixedAll os (p ∷ ps) = suffixed os p ++ suffixedAll os ps
+
+-- joining: an empty other side keeps all
+unfoldable pub joinSuffix : List (List ℕ) → List (List ℕ) → List (List ℕ)
+joinSuffix os [] = os
+joinSuffix os (p ∷ ps) = suffixedAll os (p ∷ ps)
+
+-- the options of the first ordering that an expression leads
+unfoldable pub getOptions : List (List ℕ) → ℕ → Option ℕ
+getOptions [] e = none
+getOptions (o ∷ os) e = if eqb (exprOf (getD o 0 0)) e then some (optionsOf (getD o 0 0)) else getOptions os e
+
+-- an expression leads an ordering with these options
+unfoldable pub leadsWith : List (List ℕ) → ℕ → ℕ → Bool
+leadsWith [] e options = false
+leadsWith (o ∷ os) e options = (eqb (exprOf (getD o 0 0)) e && eqb (optionsOf (getD o 0 0)) options) || leadsWith os e options
+
+-- an expression leads with options and with their opposite: ascending nulls last and descending nulls first, or ascending nulls first and descending nulls last
+unfoldable pub partialConst : List (List ℕ) → ℕ → Bool
+partialConst os e = (leadsWith os e 0 && leadsWith os e 3) || (leadsWith os e 1 && leadsWith os e 2)
