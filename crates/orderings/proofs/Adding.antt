@@ -5,25 +5,25 @@ use mathlib.Core.List.{List, [], _∷_, _++_, append-nil}
 use mathlib.Core.Path.{_≡_, refl, sym, ap, _∙_, subst}
 use native.Mathlib.Decide.{decLt, ℕ-discrete}
 use native.Mathlib.Omega.{arith}
-use borrow.Author.Tests.{eq-eqb, ne-eqb, ltb-true, leb-true, leb-false, le-leb, lt-leb}
+use borrow.Author.Tests.{eq-eqb, ne-eqb, ltb-true, leb-true, le-leb, lt-leb}
 use lib.Dec.{ltb, leb}
 use lib.ListN.{length, length-append}
 use lib.Seq.{getD-at, append-snoc}
-use Rattle.laws.specs.Tests.{if_then_else_, each}
-use Rattle.laws.proofs.Booleans.{true-not-false, and-left, and-right}
+use Rattle.laws.specs.Tests.{each}
+use Rattle.laws.proofs.Booleans.{and-left, and-right}
 use Rattle.orderings.specs.Ordering.{sameKey, built}
 use Rattle.orderings.specs.Reduction.{orderingAt, reduced}
 use Rattle.orderings.specs.Good.{GoodOrdering, Good}
 use Rattle.orderings.specs.Lists.{nonempty, builtAll}
-use Rattle.orderings.specs.Lent.{keyCount, nextList, eachFrom, eachList, optionsKnown, exprsInside, keysLent, listsLent, orderingsLent}
+use Rattle.orderings.specs.Lent.{keyCount, nextList, eachList, optionsKnown, exprsInside, keysLent, listsLent, orderingsLent}
 use Rattle.orderings.specs.Layout.{row, encode, decode}
 use Rattle.orderings.specs.Calls.{fits, listed, reducedList}
-use Rattle.orderings.specs.Inner.{Held, Short, extendedOf, allShort, appended, addedOne, reductionOf, KeysFit, LentFit}
+use Rattle.orderings.specs.Inner.{Held, Short, extendedOf, allShort, addedOne, reductionOf, KeysFit, LentFit}
 use Rattle.orderings.specs.declared.Orderings.{Orderings}
 use Rattle.orderings.specs.declared.Extended.{Extended}
 use Rattle.orderings.specs.declared.Listed.{Listed}
 use Rattle.orderings.specs.declared.Reduction.{Reduction}
-use Rattle.orderings.proofs.Codec.{decode-encode, length-decode, count-few, good-at, good-held}
+use Rattle.orderings.proofs.Codec.{decode-encode, length-decode, count-few, good-at}
 use Rattle.orderings.proofs.OneOrdering.{NoneTwice, built-none-twice, built-same}
 use Rattle.orderings.proofs.Extending.{fits-here, fits-not}
 use Rattle.orderings.proofs.Suffixes.{append-all, short-test, test-short, long-test, short-more}

@@ -8,23 +8,21 @@ use borrow.Author.Tests.{eq-eqb, lt-ltb, le-ltb, ltb-true, leb-true, not-true}
 use lib.Arith.{digits-div}
 use lib.Dec.{eqb, ltb, leb}
 use lib.ListN.{length, getD}
-use Rattle.laws.specs.Lists.{table}
 use Rattle.laws.specs.Tests.{if_then_else_, each}
 use Rattle.laws.proofs.Booleans.{true-not-false, and-left, and-right, and-both}
 use Rattle.laws.proofs.Each.{each-all, each-holds}
 use Rattle.laws.proofs.Table.{length-table, getD-table}
 use Rattle.arena.specs.Layout.{count, lawful}
 use Rattle.arena.proofs.Layouts.{lawful-holds}
-use Rattle.orderings.specs.Ordering.{exprOf, built}
+use Rattle.orderings.specs.Ordering.{exprOf}
 use Rattle.orderings.specs.Reduction.{orderingAt}
-use Rattle.orderings.specs.Lists.{builtAll}
 use Rattle.orderings.specs.Lent.{keyCount, exprLent, optionsLent, nextList, eachFrom, eachList, optionsKnown, whole, exprsInside, keysLent, listsFrom, listsLent, freshLent, orderingsLent}
 use Rattle.orderings.specs.Layout.{lawfulList, keysInside}
 use Rattle.orderings.specs.Calls.{listNumber, lentNumber, extendNumber}
 use Rattle.orderings.specs.Inner.{KeysFit, LentFit}
 use Rattle.orderings.specs.declared.Orderings.{Orderings}
 use Rattle.orderings.proofs.ListChecks.{three}
-use Rattle.orderings.proofs.OneOrdering.{NoneTwice, built-same}
+use Rattle.orderings.proofs.OneOrdering.{NoneTwice}
 
 -- the tests of key k of the list at a place, and of the list
 abbrev pub OptionsOk : List ℕ → ℕ → ℕ → Bool

@@ -25,3 +25,4 @@ pub mod OffsetCall
 pub mod OffsetLaws
 pub mod LentLaws
 pub mod Adding
+pub mod ListMade

@@ -165,13 +165,13 @@ unfolding outputOrdering
 output-known n os h = all-known n [] os (λ k l. absurd (omega arith)) h
 
 -- an ordering but for its length: it has a key, no expression twice, and none that is not known
-record Valid (n : ℕ) (o : List ℕ) : Type 0 where
-  filled : 0 < length o
-  distinct : NoneTwice o
-  known : KnownIn n o
+pub record Valid (n : ℕ) (o : List ℕ) : Type 0 where
+  pub filled : 0 < length o
+  pub distinct : NoneTwice o
+  pub known : KnownIn n o
 
 -- each of a list is such
-abbrev AllValid : ℕ → List (List ℕ) → Type 0
+abbrev pub AllValid : ℕ → List (List ℕ) → Type 0
 AllValid n os = (i : ℕ) → i < length os → Valid n (orderingAt os i)
 
 module _ (n : ℕ) where
@@ -185,7 +185,7 @@ module _ (n : ℕ) where
   join-valid os ps v m = joinSuffix-all (Valid n) os ps v (λ i j a b. extended-valid (orderingAt os i) (orderingAt ps j) (v i a) (λ k c. m j k b c))
 
   -- within the bounds it is a good list whose expressions are known
-  valid-good : (os : List (List ℕ)) → AllValid n os → fits os ≡ true → Good os
+  pub valid-good : (os : List (List ℕ)) → AllValid n os → fits os ≡ true → Good os
   unfolding fits
   valid-good os v f =
       let few = and-left (leb (length os) 32) (each (λ i. leb (length (orderingAt os i)) 16) (length os)) f in
@@ -199,7 +199,7 @@ module _ (n : ℕ) where
         };
       }
 
-  good-valid : (os : List (List ℕ)) → Good os → Known n os → AllValid n os
+  pub good-valid : (os : List (List ℕ)) → Good os → Known n os → AllValid n os
   good-valid os g m i l = record { filled = g .each i l .filled; distinct = g .each i l .distinct; known = λ k b. m i k l b }
 
 -- of two lists that pass the check the first does

@@ -1,5 +1,5 @@
 -- `orderings::lent::add_in` meets its contract.
-use mathlib.Core.List.{List, _++_}
+use mathlib.Core.List.{_++_}
 use mathlib.Core.Path.{sym, subst}
 use borrow.Author.Needs.{needs}
 use Rattle.orderings.specs.Lists.{builtAll}

@@ -1,12 +1,12 @@
 -- `orderings::lent::build` meets its contract.
-use Prim.Native.Nat.{_-_, _<_, _≤_, _+_, _*_}
+use Prim.Native.Nat.{_-_, _<_, _+_, _*_}
 use mathlib.Core.List.{[]}
-use mathlib.Core.Path.{_≡_, sym, ap, _∙_}
+use mathlib.Core.Path.{_≡_, ap, _∙_}
 use native.Mathlib.Omega.{arith}
 use borrow.Author.Needs.{needs}
 use borrow.Author.Tests.{not-true, not-false}
 use Rattle.orderings.specs.Ordering.{built}
-use Rattle.orderings.specs.Lent.{keyCount, exprLent, optionsLent, keysLent}
+use Rattle.orderings.specs.Lent.{keyCount, keysLent}
 use Rattle.orderings.specs.Layout.{keysOf}
 use Rattle.orderings.specs.Inner.{Extending}
 use Rattle.orderings.proofs.Codec.{keys-row}
