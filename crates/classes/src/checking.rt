@@ -17,7 +17,7 @@ ghost use Rattle.classes.specs.Layout.{knownFlavour, inSet, fresh, isLit
 ghost use Rattle.classes.specs.Calls.{groupNumber};
 
 // A flavour is one of the four, and a value other than 0 stands only where one is known.
-fn known_flavour(flavour: u32, value: u32) -> bool
+pub fn known_flavour(flavour: u32, value: u32) -> bool
     ensures { λ r. ⌜ r ≡ knownFlavour flavour value ⌝ }
 {
     if 3 < flavour {
@@ -169,7 +169,7 @@ fn literal_at(cells: &[u32; 11265], e: u32) -> bool
 }
 
 // A member may stand in a class of a flavour: a literal only in a uniform one.
-fn member_fits(cells: &[u32; 11265], e: u32, flavour: u32) -> bool
+pub fn member_fits(cells: &[u32; 11265], e: u32, flavour: u32) -> bool
     requires { ⌜ Holds (now cells) ⌝ }
     ensures { λ r. ⌜ r ≡ (not (ltb e (length (nodes (now (cells .entry)))) && isLiteral (nodeAt (nodes (now (cells .entry))) e)) || leb 2 flavour) ⌝ }
 {

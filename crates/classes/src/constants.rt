@@ -22,8 +22,21 @@ ghost use Rattle.classes.specs.Class.{Constant, noConstant, sameConstant
 ghost use Rattle.classes.specs.Group.{classAt, classLike, constantFor, constantIn, mergedAt, withConstant};
 ghost use Rattle.classes.specs.Steps.{judged};
 ghost use Rattle.classes.specs.Layout.{decode, constantFrom, knownFlavour};
-ghost use Rattle.classes.specs.Calls.{changed};
+ghost use Rattle.classes.specs.Calls.{changed, sayable};
 ghost use Rattle.classes.specs.Inner.{Coded, Held, markOf, placeOf};
+
+// A constant can be said: flavour 0 to 2, and a value other than 0 only with flavour 2.
+pub fn can_say(flavour: u32, value: u32) -> bool
+    ensures { λ r. ⌜ r ≡ sayable flavour value ⌝ }
+{
+    if 2 < flavour {
+        return false;
+    }
+    if flavour == 2 {
+        return true;
+    }
+    value == 0
+}
 
 // Two constants are the same; two unknown ones count as equal.
 fn same_mark(a: Mark, b: Mark) -> bool

@@ -24,6 +24,7 @@ use building::mark_of;
 use checking::check_group;
 use clearing::clear_in;
 use constants::add_constant_in;
+use constants::can_say;
 use equating::equal_condition_in;
 use equating::refusal;
 use finding::find_class;
@@ -31,7 +32,7 @@ use questions::constant_in;
 use questions::equal_in;
 ghost use mathlib.Core.Path.{_≡_};
 ghost use Rattle.classes.specs.Steps.{addEqual, clear};
-ghost use Rattle.classes.specs.Calls.{groupNumber, opened, onGroup, sayable, onConstant, askGroup, equalAnswer, constantAnswer, classAnswer};
+ghost use Rattle.classes.specs.Calls.{groupNumber, opened, onGroup, onConstant, askGroup, equalAnswer, constantAnswer, classAnswer};
 
 // A group: its member limit, the number of its classes and of all members, and the tables. The members of all
 // classes stand in class order in one table; unused places are 0.
@@ -126,19 +127,6 @@ pub fn add_equal_conditions(cells: &[u32; 11265], group: Group, left: u32, right
         return refusal(1, group);
     }
     equal_condition_in(cells, group, left, right)
-}
-
-// A constant can be said: flavour 0 to 2, and a value other than 0 only with flavour 2.
-fn can_say(flavour: u32, value: u32) -> bool
-    ensures { λ r. ⌜ r ≡ sayable flavour value ⌝ }
-{
-    if 2 < flavour {
-        return false;
-    }
-    if flavour == 2 {
-        return true;
-    }
-    value == 0
 }
 
 // An expression is constant: flavour 0 heterogeneous, 1 uniform unknown, 2 uniform with a value. Refusals: 12, 11,

@@ -1,8 +1,8 @@
--- `classes::can_say` meets its contract.
+-- `classes::constants::can_say` meets its contract.
 use borrow.Author.Tests.{le-leb, lt-leb, eq-eqb, ne-eqb}
 use Rattle.classes.specs.Calls.{sayable}
-use Rattle.classes.proofs.can_say.Statement.{statement}
-use Rattle.classes.proofs.can_say.Tie as tie
+use Rattle.classes.proofs.constants.can_say.Statement.{statement}
+use Rattle.classes.proofs.constants.can_say.Tie as tie
 
 returns : tie.Need-returns
 unfolding sayable

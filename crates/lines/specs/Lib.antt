@@ -1,0 +1,3 @@
+-- Lines of text, and what writing them into lent bytes comes to.
+pub mod Text
+pub mod Writing

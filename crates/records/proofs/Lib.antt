@@ -1,0 +1,18 @@
+-- Laws of the definitions in specs/.
+pub mod KindView
+pub mod Headers
+pub mod Reading
+pub mod Items
+pub mod Choices
+pub mod FieldBytes
+pub mod Records
+pub mod ChosenParts
+pub mod Examples
+pub mod GroupWalk
+pub mod Shape
+pub mod Apart
+pub mod GroupCopy
+pub mod GroupBuild
+pub mod GroupRecords
+pub mod GroupExamples
+pub mod GroupWritten
