@@ -15,7 +15,7 @@ use Rattle.orderings.specs.Ordering.{sameKey, built}
 use Rattle.orderings.specs.Reduction.{orderingAt, reduced}
 use Rattle.orderings.specs.Good.{GoodOrdering, Good}
 use Rattle.orderings.specs.Lists.{nonempty, builtAll}
-use Rattle.orderings.specs.Lent.{keyCount, nextList, eachList, optionsKnown, exprsInside, keysLent, listsLent, orderingsLent}
+use Rattle.orderings.specs.Lent.{keyCount, nextList, eachRest, each-next, eachList, optionsKnown, exprsInside, keysLent, listsRest, lists-end, lists-next, listsLent, orderingsLent}
 use Rattle.orderings.specs.Layout.{row, encode, decode}
 use Rattle.orderings.specs.Calls.{fits, listed, reducedList}
 use Rattle.orderings.specs.Inner.{Held, Short, extendedOf, allShort, addedOne, reductionOf, KeysFit, LentFit}
@@ -28,7 +28,7 @@ use Rattle.orderings.proofs.OneOrdering.{NoneTwice, built-none-twice, b
 use Rattle.orderings.proofs.Extending.{fits-here, fits-not}
 use Rattle.orderings.proofs.Suffixes.{append-all, short-test, test-short, long-test, short-more}
 use Rattle.orderings.proofs.Appending.{told, appended-is, short-encode, short-all, listed-made, listed-many, listed-long}
-use Rattle.orderings.proofs.LentLaws.{OptionsAt, ExprsAt, OrderingAt, from, from-step, lists, lists-step, lists-past, lent-each, length-keys, keys-distinct, keys-fit}
+use Rattle.orderings.proofs.LentLaws.{OptionsAt, ExprsAt, OrderingAt, lent-each, length-keys, keys-distinct, keys-fit}
 
 -- an ordering that has keys stays
 nonempty-some : (o : List ℕ) (os : List (List ℕ)) → 0 < length o → nonempty (o ∷ os) ≡ o ∷ nonempty os
@@ -123,10 +123,10 @@ module _ (list : Orderings) (ks : List ℕ) where
 
 -- the loop over all lists: those from a place on are still to be built and put at the end
 pub record Adding (g : Orderings) (numbers : List ℕ) (at : ℕ) (list : Orderings) : Type 0 where
-  pub exprs : from (ExprsAt 1024 numbers) numbers at ≡ true
-  pub options : from (OptionsAt numbers) numbers at ≡ true
+  pub exprs : eachRest (ExprsAt 1024 numbers) numbers at ≡ true
+  pub options : eachRest (OptionsAt numbers) numbers at ≡ true
   pub short : Short list
-  pub goes : decode g ++ builtAll (listsLent numbers) ≡ decode list ++ builtAll (lists numbers at)
+  pub goes : decode g ++ builtAll (listsLent numbers) ≡ decode list ++ builtAll (listsRest numbers at)
 
 module _ (g : Orderings) (numbers : List ℕ) where
   pub adding-begins : Held g → LentFit numbers → Adding g numbers 0 g
@@ -147,19 +147,19 @@ module _ (g : Orderings) (numbers : List ℕ) where
       new = built (keysLent numbers at)
 
       abbrev rest : List (List ℕ)
-      rest = builtAll (lists numbers (nextList numbers at))
+      rest = builtAll (listsRest numbers (nextList numbers at))
 
-      step : decode g ++ builtAll (listsLent numbers) ≡ decode list ++ builtAll (keysLent numbers at ∷ lists numbers (nextList numbers at))
-      step = x .goes ∙ ap (λ (t : List (List ℕ)). decode list ++ builtAll t) (lists-step numbers at l)
+      step : decode g ++ builtAll (listsLent numbers) ≡ decode list ++ builtAll (keysLent numbers at ∷ listsRest numbers (nextList numbers at))
+      step = x .goes ∙ ap (λ (t : List (List ℕ)). decode list ++ builtAll t) (lists-next numbers at l)
 
       with-new : 0 < length new → decode g ++ builtAll (listsLent numbers) ≡ decode list ++ (new ∷ rest)
-      with-new b = step ∙ ap (λ (t : List (List ℕ)). decode list ++ t) (built-some (keysLent numbers at) (lists numbers (nextList numbers at)) b)
+      with-new b = step ∙ ap (λ (t : List (List ℕ)). decode list ++ t) (built-some (keysLent numbers at) (listsRest numbers (nextList numbers at)) b)
 
       without : length new ≡ 0 → decode g ++ builtAll (listsLent numbers) ≡ decode list ++ rest
-      without e = step ∙ ap (λ (t : List (List ℕ)). decode list ++ t) (built-none (keysLent numbers at) (lists numbers (nextList numbers at)) e)
+      without e = step ∙ ap (λ (t : List (List ℕ)). decode list ++ t) (built-none (keysLent numbers at) (listsRest numbers (nextList numbers at)) e)
 
-      after : (p : ℕ → Bool) → from p numbers at ≡ true → from p numbers (nextList numbers at) ≡ true
-      after p h = and-right (p at) (from p numbers (nextList numbers at)) (sym (from-step p numbers at l) ∙ h)
+      after : (p : ℕ → Bool) → eachRest p numbers at ≡ true → eachRest p numbers (nextList numbers at) ≡ true
+      after p h = and-right (p at) (eachRest p numbers (nextList numbers at)) (sym (each-next p numbers at l) ∙ h)
 
       next : {r : Listed} → Added list new r → r .number ≡ 0 → Adding g numbers (nextList numbers at) (r .list)
       next (long b) z = absurd (omega arith)
@@ -199,7 +199,7 @@ module _ (g : Orderings) (numbers : List ℕ) where
     unfolding builtAll nonempty
     adding-ends l =
         let e : decode g ++ builtAll (listsLent numbers) ≡ decode list =
-        x .goes ∙ ap (λ (t : List (List ℕ)). decode list ++ builtAll t) (lists-past numbers at l) ∙ append-nil (decode list) in
+        x .goes ∙ ap (λ (t : List (List ℕ)). decode list ++ builtAll t) (lists-end numbers at l) ∙ append-nil (decode list) in
         sym (ap (listed g) e ∙ listed-made g (decode list) (omega (arith, length-decode list, x .short .few)) (short-test (decode list) (short-all list (x .short))) ∙ ap (told 0) (x .short .coded))
 
 -- what fits

@@ -14,7 +14,7 @@ use Rattle.orderings.specs.Layout.{row, keysOf, encode, decode}
 use Rattle.orderings.specs.Inner.{HeldOrdering, Held}
 use Rattle.orderings.specs.declared.Ordering.{Ordering}
 use Rattle.orderings.specs.declared.Orderings.{Orderings}
-use Rattle.orderings.proofs.Kept.{length-removed}
+use Rattle.orderings.specs.Fewer.{length-removed}
 
 module _ {A : Type 0} (d : A) where
   -- what fills a list up changes no place

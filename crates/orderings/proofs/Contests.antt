@@ -15,7 +15,8 @@ use Rattle.orderings.specs.Layout.{keysOf, encode, decode}
 use Rattle.orderings.specs.Inner.{Held, overlapNumber, wayNumber, contestOf}
 use Rattle.orderings.specs.declared.Orderings.{Orderings}
 use Rattle.orderings.specs.declared.Contest.{Contest}
-use Rattle.orderings.proofs.Kept.{comparedBy, compared-by, overlap-below, good-set, good-take}
+use Rattle.orderings.specs.Fewer.{comparedBy, compared-by, overlap-below}
+use Rattle.orderings.proofs.Kept.{good-set, good-take}
 use Rattle.orderings.proofs.Codec.{placeIn, place-keys, place-size, good-held, decode-encode, length-decode}
 
 -- what the number of an overlap says

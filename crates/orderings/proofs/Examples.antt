@@ -5,27 +5,27 @@ use mathlib.Core.Path.{_≡_, refl}
 use Rattle.laws.specs.Tests.{each, first, firstFrom}
 use Rattle.orderings.specs.Ordering.{sameKey, exprOf, hasExpr, pushed, extended, built}
 use Rattle.orderings.specs.Lists.{suffixed, suffixedAll, joinSuffix}
-use Rattle.orderings.specs.Reduction.{meets, overlap, removed, resolvedBy, resolve, second, compared, roundFrom, round, passFrom, pass, keysIn, passesFrom, reduced}
+use Rattle.orderings.specs.Reduction.{meets, overlap, removed, resolvedBy, resolve, second, compared, roundFrom, roundRest, round, passFrom, passRest, pass, keysIn, passesFrom, passesRest, reduced}
 
 -- a, b and c ascending are the keys 0, 4 and 8; a descending is 1
 -- P9: [a,b],[b,c] reduce to [a],[b,c]
 p9 : reduced sameKey ((0 ∷ 4 ∷ []) ∷ (4 ∷ 8 ∷ []) ∷ []) .orderings ≡ (0 ∷ []) ∷ (4 ∷ 8 ∷ []) ∷ []
-unfolding reduced passesFrom pass passFrom round roundFrom compared second resolve resolvedBy removed overlap meets keysIn sameKey each first firstFrom
+unfolding reduced passesRest passesFrom pass passRest passFrom round roundRest roundFrom compared second resolve resolvedBy removed overlap meets keysIn sameKey each first firstFrom
 p9 = refl
 
 -- P10: [a],[a,b] reduce to [a,b]
 p10 : reduced sameKey ((0 ∷ []) ∷ (0 ∷ 4 ∷ []) ∷ []) .orderings ≡ (0 ∷ 4 ∷ []) ∷ []
-unfolding reduced passesFrom pass passFrom round roundFrom compared second resolve resolvedBy removed overlap meets keysIn sameKey each first firstFrom
+unfolding reduced passesRest passesFrom pass passRest passFrom round roundRest roundFrom compared second resolve resolvedBy removed overlap meets keysIn sameKey each first firstFrom
 p10 = refl
 
 -- P11: a ascending and a descending both stay
 p11 : reduced sameKey ((0 ∷ []) ∷ (1 ∷ []) ∷ []) .orderings ≡ (0 ∷ []) ∷ (1 ∷ []) ∷ []
-unfolding reduced passesFrom pass passFrom round roundFrom compared second resolve resolvedBy removed overlap meets keysIn sameKey each first firstFrom
+unfolding reduced passesRest passesFrom pass passRest passFrom round roundRest roundFrom compared second resolve resolvedBy removed overlap meets keysIn sameKey each first firstFrom
 p11 = refl
 
 -- an ordering cut to nothing is replaced by the last: [a],[c],[a,b] reduce to [a,b],[c]
 gap : reduced sameKey ((0 ∷ []) ∷ (8 ∷ []) ∷ (0 ∷ 4 ∷ []) ∷ []) .orderings ≡ (0 ∷ 4 ∷ []) ∷ (8 ∷ []) ∷ []
-unfolding reduced passesFrom pass passFrom round roundFrom compared second resolve resolvedBy removed overlap meets keysIn sameKey each first firstFrom
+unfolding reduced passesRest passesFrom pass passRest passFrom round roundRest roundFrom compared second resolve resolvedBy removed overlap meets keysIn sameKey each first firstFrom
 gap = refl
 
 -- a key whose expression is there is dropped, with any options

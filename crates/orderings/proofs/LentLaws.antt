@@ -1,10 +1,11 @@
 -- Lists of keys lent as numbers, as the code reads them: a test of each list from a place on, the loops, and what the tests say of the keys.
 use Prim.Native.Nat.{ℕ, zero, suc, _+_, _*_, _<_, _≤_}
 use mathlib.Core.Bool.{Bool, true, false, not, _&&_}
-use mathlib.Core.List.{List, [], _∷_}
+use mathlib.Core.List.{List, _∷_}
 use mathlib.Core.Path.{_≡_, refl, sym, ap, _∙_}
+use native.Mathlib.Decide.{decLt}
 use native.Mathlib.Omega.{arith}
-use borrow.Author.Tests.{eq-eqb, lt-ltb, le-ltb, ltb-true, leb-true, not-true}
+use borrow.Author.Tests.{eq-eqb, lt-ltb, ltb-true, leb-true, not-true}
 use lib.Arith.{digits-div}
 use lib.Dec.{eqb, ltb, leb}
 use lib.ListN.{length, getD}
@@ -16,7 +17,7 @@ use Rattle.arena.specs.Layout.{count, lawful}
 use Rattle.arena.proofs.Layouts.{lawful-holds}
 use Rattle.orderings.specs.Ordering.{exprOf}
 use Rattle.orderings.specs.Reduction.{orderingAt}
-use Rattle.orderings.specs.Lent.{keyCount, exprLent, optionsLent, nextList, eachFrom, eachList, optionsKnown, whole, exprsInside, keysLent, listsFrom, listsLent, freshLent, orderingsLent}
+use Rattle.orderings.specs.Lent.{keyCount, exprLent, optionsLent, nextList, next-after, eachRest, each-end, each-next, eachList, optionsKnown, whole, exprsInside, keysLent, listsRest, lists-end, lists-next, listsLent, freshLent, orderingsLent}
 use Rattle.orderings.specs.Layout.{lawfulList, keysInside}
 use Rattle.orderings.specs.Calls.{listNumber, lentNumber, extendNumber}
 use Rattle.orderings.specs.Inner.{KeysFit, LentFit}
@@ -49,45 +50,10 @@ FreshAt numbers at k = freshLent numbers at k
 abbrev pub OrderingAt : List ℕ → ℕ → Bool
 OrderingAt numbers at = ltb 0 (keyCount numbers at) && each (FreshAt numbers at) (keyCount numbers at)
 
--- the list after a place begins after it
-pub next-after : (numbers : List ℕ) (at : ℕ) → at < nextList numbers at
-unfolding nextList
-next-after numbers at = omega arith
-
--- a test of each list from a place on
+-- the loop over all lists: what is left of the answer is the answer from here; it begins, goes on, stops, and ends
 module _ (p : ℕ → Bool) (numbers : List ℕ) where
-  -- as many steps as places are enough
-  each-enough : (n m at : ℕ) → length numbers ≤ n + at → length numbers ≤ m + at → eachFrom p n numbers at ≡ eachFrom p m numbers at
-  unfolding eachFrom
-  each-enough zero zero at a b = refl
-  each-enough zero (suc m) at a b = rw (le-ltb at (length numbers) (omega arith))
-  each-enough (suc n) zero at a b = rw (le-ltb at (length numbers) (omega arith))
-  each-enough (suc n) (suc m) at a b =
-      ap (λ (t : Bool). if ltb at (length numbers) then p at && t else true)
-      (each-enough n m (nextList numbers at) (omega (arith, next-after numbers at)) (omega (arith, next-after numbers at)))
-
-  -- the lists from a place on pass
-  abbrev pub from : ℕ → Bool
-  from at = eachFrom p (length numbers) numbers at
-
-  -- one list, and then those after it
-  pub from-step : (at : ℕ) → at < length numbers → from at ≡ (p at && from (nextList numbers at))
-  unfolding eachFrom
-  from-step at l = go (length numbers) refl
-    where
-      go : (n : ℕ) → n ≡ length numbers → eachFrom p n numbers at ≡ (p at && from (nextList numbers at))
-      go zero e = absurd (omega arith)
-      go (suc n) e =
-          rw (lt-ltb at (length numbers) l) (ap (λ (t : Bool). p at && t)
-          (each-enough n (length numbers) (nextList numbers at) (omega (arith, next-after numbers at)) (omega (arith, next-after numbers at))))
-
-  pub from-past : (at : ℕ) → length numbers ≤ at → from at ≡ true
-  unfolding eachFrom
-  from-past at l = each-enough (length numbers) 0 at (omega arith) (omega arith)
-
-  -- the loop over all lists: what is left of the answer is the answer from here; it begins, goes on, stops, and ends
   abbrev pub Going : ℕ → Type 0
-  Going at = eachList p numbers ≡ from at
+  Going at = eachList p numbers ≡ eachRest p numbers at
 
   pub going-begins : Going 0
   unfolding eachList
@@ -97,29 +63,32 @@ module _ (p : ℕ → Bool) (numbers : List ℕ) where
   unfolding nextList
   going-on at n l e g h =
       let s : at + 1 + 2 * keyCount numbers at ≡ at + (1 + 2 * n) = omega arith in
-      g ∙ from-step at l ∙ ap (λ (t : Bool). t && from (nextList numbers at)) h ∙ ap from s
+      g ∙ each-next p numbers at l ∙ ap (λ (t : Bool). t && eachRest p numbers (nextList numbers at)) h ∙ ap (eachRest p numbers) s
 
   pub going-stops : (at : ℕ) → at < length numbers → Going at → p at ≡ false → false ≡ eachList p numbers
-  going-stops at l g h = sym (g ∙ from-step at l ∙ ap (λ (t : Bool). t && from (nextList numbers at)) h)
+  going-stops at l g h = sym (g ∙ each-next p numbers at l ∙ ap (λ (t : Bool). t && eachRest p numbers (nextList numbers at)) h)
 
   pub going-ends : (at : ℕ) → length numbers ≤ at → Going at → true ≡ eachList p numbers
-  going-ends at l g = sym (g ∙ from-past at l)
+  going-ends at l g = sym (g ∙ each-end p numbers at l)
 
 -- a test that passes wherever another does
 module _ (p q : ℕ → Bool) (numbers : List ℕ) (h : (at : ℕ) → p at ≡ true → q at ≡ true) where
-  from-weaker : (n at : ℕ) → eachFrom p n numbers at ≡ true → eachFrom q n numbers at ≡ true
-  unfolding eachFrom
-  from-weaker zero at e = refl
-  from-weaker (suc n) at e = one (ltb at (length numbers)) e (from-weaker n (nextList numbers at))
+  rest-weaker : (n at : ℕ) → length numbers ≤ n + at → eachRest p numbers at ≡ true → eachRest q numbers at ≡ true
+  rest-weaker zero at l e = each-end q numbers at (omega arith)
+  rest-weaker (suc n) at l e = go (decLt at (length numbers)) (rest-weaker n (nextList numbers at) (omega (arith, next-after numbers at)))
     where
-      one : (b : Bool) → (if b then p at && eachFrom p n numbers (nextList numbers at) else true) ≡ true → (eachFrom p n numbers (nextList numbers at) ≡ true → eachFrom q n numbers (nextList numbers at) ≡ true)
-          → (if b then q at && eachFrom q n numbers (nextList numbers at) else true) ≡ true
-      one true e r = and-both (h at (and-left (p at) (eachFrom p n numbers (nextList numbers at)) e)) (r (and-right (p at) (eachFrom p n numbers (nextList numbers at)) e))
-      one false e r = refl
+      more : Bool
+      more = eachRest p numbers (nextList numbers at)
+
+      go : Dec (at < length numbers) → (eachRest p numbers (nextList numbers at) ≡ true → eachRest q numbers (nextList numbers at) ≡ true) → eachRest q numbers at ≡ true
+      go (yes b) r =
+          let s = sym (each-next p numbers at b) ∙ e in
+          each-next q numbers at b ∙ and-both (h at (and-left (p at) more s)) (r (and-right (p at) more s))
+      go (no b) r = each-end q numbers at (omega arith)
 
   pub list-weaker : eachList p numbers ≡ true → eachList q numbers ≡ true
   unfolding eachList
-  list-weaker e = from-weaker (length numbers) 0 e
+  list-weaker e = rest-weaker (length numbers) 0 (omega arith) e
 
 -- the keys of a list
 module _ (numbers : List ℕ) (at : ℕ) where
@@ -151,55 +120,34 @@ module _ (numbers : List ℕ) (at : ℕ) where
       true-not-false (eq-eqb (exprLent numbers at i) (exprLent numbers at j) e)
       (not-true (eqb (exprLent numbers at i) (exprLent numbers at j)) (each-holds (Unlike numbers at j) j i (each-holds (FreshAt numbers at) (keyCount numbers at) j f l) a))
 
--- the lists from a place on
-module _ (numbers : List ℕ) where
-  lists-enough : (n m at : ℕ) → length numbers ≤ n + at → length numbers ≤ m + at → listsFrom n numbers at ≡ listsFrom m numbers at
-  unfolding listsFrom
-  lists-enough zero zero at a b = refl
-  lists-enough zero (suc m) at a b = rw (le-ltb at (length numbers) (omega arith))
-  lists-enough (suc n) zero at a b = rw (le-ltb at (length numbers) (omega arith))
-  lists-enough (suc n) (suc m) at a b =
-      ap (λ (t : List (List ℕ)). if ltb at (length numbers) then keysLent numbers at ∷ t else [])
-      (lists-enough n m (nextList numbers at) (omega (arith, next-after numbers at)) (omega (arith, next-after numbers at)))
-
-  abbrev pub lists : ℕ → List (List ℕ)
-  lists at = listsFrom (length numbers) numbers at
-
-  pub lists-step : (at : ℕ) → at < length numbers → lists at ≡ keysLent numbers at ∷ lists (nextList numbers at)
-  unfolding listsFrom
-  lists-step at l = go (length numbers) refl
+-- what holds of each list whose place passes two tests holds of each that is lent
+module _ (numbers : List ℕ) (P : List ℕ → Type 0) (p q : ℕ → Bool) (h : (at : ℕ) → p at ≡ true → q at ≡ true → P (keysLent numbers at)) where
+  lists-each : (n at : ℕ) → length numbers ≤ n + at → eachRest p numbers at ≡ true → eachRest q numbers at ≡ true
+      → (i : ℕ) → i < length (listsRest numbers at) → P (orderingAt (listsRest numbers at) i)
+  lists-each zero at l a b = rw (lists-end numbers at (omega arith)) (λ i d. absurd (omega arith))
+  lists-each (suc n) at l a b = go (decLt at (length numbers)) (lists-each n (nextList numbers at) (omega (arith, next-after numbers at)))
     where
-      go : (n : ℕ) → n ≡ length numbers → listsFrom n numbers at ≡ keysLent numbers at ∷ lists (nextList numbers at)
-      go zero e = absurd (omega arith)
-      go (suc n) e =
-          rw (lt-ltb at (length numbers) l) (ap (λ (t : List (List ℕ)). keysLent numbers at ∷ t)
-          (lists-enough n (length numbers) (nextList numbers at) (omega (arith, next-after numbers at)) (omega (arith, next-after numbers at))))
+      next : ℕ
+      next = nextList numbers at
 
-  pub lists-past : (at : ℕ) → length numbers ≤ at → lists at ≡ []
-  unfolding listsFrom
-  lists-past at l = lists-enough (length numbers) 0 at (omega arith) (omega arith)
+      one : (ks : List ℕ) (os : List (List ℕ)) → P ks → ((i : ℕ) → i < length os → P (orderingAt os i)) → (i : ℕ) → i < length (ks ∷ os) → P (orderingAt (ks ∷ os) i)
+      one ks os u r zero d = u
+      one ks os u r (suc i) d = r i (omega arith)
 
-  -- what holds of each list whose place passes two tests holds of each that is lent
-  module _ (P : List ℕ → Type 0) (p q : ℕ → Bool) (h : (at : ℕ) → p at ≡ true → q at ≡ true → P (keysLent numbers at)) where
-    lists-each : (n at : ℕ) → eachFrom p n numbers at ≡ true → eachFrom q n numbers at ≡ true
-        → (i : ℕ) → i < length (listsFrom n numbers at) → P (orderingAt (listsFrom n numbers at) i)
-    unfolding eachFrom listsFrom
-    lists-each zero at a b i l = absurd (omega arith)
-    lists-each (suc n) at a b i l = one (ltb at (length numbers)) a b (lists-each n (nextList numbers at)) i l
-      where
-        m : ℕ
-        m = nextList numbers at
+      go : Dec (at < length numbers)
+          → (eachRest p numbers next ≡ true → eachRest q numbers next ≡ true → (i : ℕ) → i < length (listsRest numbers next) → P (orderingAt (listsRest numbers next) i))
+          → (i : ℕ) → i < length (listsRest numbers at) → P (orderingAt (listsRest numbers at) i)
+      go (yes c) r =
+          let s = sym (each-next p numbers at c) ∙ a in
+          let t = sym (each-next q numbers at c) ∙ b in
+          rw (lists-next numbers at c)
+          (one (keysLent numbers at) (listsRest numbers next) (h at (and-left (p at) (eachRest p numbers next) s) (and-left (q at) (eachRest q numbers next) t))
+          (r (and-right (p at) (eachRest p numbers next) s) (and-right (q at) (eachRest q numbers next) t)))
+      go (no c) r = rw (lists-end numbers at (omega arith)) (λ i d. absurd (omega arith))
 
-        one : (t : Bool) → (if t then p at && eachFrom p n numbers (nextList numbers at) else true) ≡ true → (if t then q at && eachFrom q n numbers (nextList numbers at) else true) ≡ true
-            → (eachFrom p n numbers (nextList numbers at) ≡ true → eachFrom q n numbers (nextList numbers at) ≡ true → (i : ℕ) → i < length (listsFrom n numbers (nextList numbers at)) → P (orderingAt (listsFrom n numbers (nextList numbers at)) i))
-            → (i : ℕ) → i < length (if t then keysLent numbers at ∷ listsFrom n numbers (nextList numbers at) else []) → P (orderingAt (if t then keysLent numbers at ∷ listsFrom n numbers (nextList numbers at) else []) i)
-        one true a b r zero l = h at (and-left (p at) (eachFrom p n numbers (nextList numbers at)) a) (and-left (q at) (eachFrom q n numbers (nextList numbers at)) b)
-        one true a b r (suc i) l = r (and-right (p at) (eachFrom p n numbers (nextList numbers at)) a) (and-right (q at) (eachFrom q n numbers (nextList numbers at)) b) i (omega arith)
-        one false a b r i l = absurd (omega arith)
-
-    pub lent-each : eachList p numbers ≡ true → eachList q numbers ≡ true → (i : ℕ) → i < length (listsLent numbers) → P (orderingAt (listsLent numbers) i)
-    unfolding eachList listsLent
-    lent-each a b = lists-each (length numbers) 0 a b
+  pub lent-each : eachList p numbers ≡ true → eachList q numbers ≡ true → (i : ℕ) → i < length (listsLent numbers) → P (orderingAt (listsLent numbers) i)
+  unfolding eachList listsLent
+  lent-each a b = lists-each (length numbers) 0 (omega arith) a b
 
 -- the number of a check, by its three tests
 abbrev numberBy : Bool → Bool → Bool → ℕ
@@ -300,9 +248,9 @@ module _ (cells : List ℕ) (g : Orderings) (numbers : List ℕ) where
   }
 
 -- the keys of a list from which on all are fit
-pub keys-fit : (numbers : List ℕ) (at : ℕ) → at < length numbers → from (ExprsAt 1024 numbers) numbers at ≡ true → from (OptionsAt numbers) numbers at ≡ true → KeysFit numbers at
+pub keys-fit : (numbers : List ℕ) (at : ℕ) → at < length numbers → eachRest (ExprsAt 1024 numbers) numbers at ≡ true → eachRest (OptionsAt numbers) numbers at ≡ true → KeysFit numbers at
 keys-fit numbers at l e o = record {
   there = l;
-  exprs = exprs-of numbers at 1024 (and-left (ExprsAt 1024 numbers at) (from (ExprsAt 1024 numbers) numbers (nextList numbers at)) (sym (from-step (ExprsAt 1024 numbers) numbers at l) ∙ e));
-  options = options-of numbers at (and-left (OptionsAt numbers at) (from (OptionsAt numbers) numbers (nextList numbers at)) (sym (from-step (OptionsAt numbers) numbers at l) ∙ o));
+  exprs = exprs-of numbers at 1024 (and-left (ExprsAt 1024 numbers at) (eachRest (ExprsAt 1024 numbers) numbers (nextList numbers at)) (sym (each-next (ExprsAt 1024 numbers) numbers at l) ∙ e));
+  options = options-of numbers at (and-left (OptionsAt numbers at) (eachRest (OptionsAt numbers) numbers (nextList numbers at)) (sym (each-next (OptionsAt numbers) numbers at l) ∙ o));
 }

@@ -1,23 +1,21 @@
--- A pass, round by round, and reduction, pass by pass, as the code does them; what counts down is enough.
-use Prim.Native.Nat.{ℕ, zero, suc, _+_, _-_, _*_, _<_, _≤_}
+-- A pass, round by round, and reduction, pass by pass, as the code does them.
+use Prim.Native.Nat.{ℕ, suc, _+_, _-_, _*_, _<_, _≤_}
 use mathlib.Core.Bool.{Bool, true, false, not}
 use mathlib.Core.List.{List, [], _∷_}
 use mathlib.Core.Path.{_≡_, refl, sym, ap, _∙_, subst}
-use native.Mathlib.Numerals.{add-one}
 use native.Mathlib.Omega.{arith}
-use borrow.Author.Tests.{lt-ltb, le-ltb, ltb-true, eqb-true, eqb-false}
-use lib.Dec.{eqb, ltb}
+use borrow.Author.Tests.{eqb-true, eqb-false}
+use lib.Dec.{eqb}
 use lib.ListN.{length}
-use Rattle.laws.specs.Tests.{if_then_else_}
 use Rattle.orderings.specs.Ordering.{sameKey}
-use Rattle.orderings.specs.Reduction.{orderingAt, Turn, round, passFrom, pass, keysIn, Reduced, passesFrom, reduced}
+use Rattle.orderings.specs.Reduction.{orderingAt, Turn, round, Rounded, round-leaves, passRest, pass-end, pass-round, pass, pass-keys, keysIn, Reduced, passesRest, passes-end, passes-on, reduced}
 use Rattle.orderings.specs.Good.{Good}
 use Rattle.orderings.specs.Layout.{encode, decode}
 use Rattle.orderings.specs.Inner.{Held, Paid, turnOf, reductionOf}
 use Rattle.orderings.specs.declared.Orderings.{Orderings}
 use Rattle.orderings.specs.declared.Turned.{Turned}
 use Rattle.orderings.specs.declared.Reduction.{Reduction}
-use Rattle.orderings.proofs.Kept.{Cuts, begun, cuts-good, cuts-keys, cuts-on, Ended, round-ended, pass-cuts}
+use Rattle.orderings.proofs.Kept.{Cuts, begun, cuts-good, cuts-keys, cuts-on, round-trace, pass-cuts}
 use Rattle.orderings.proofs.Codec.{decode-encode, length-decode}
 
 -- orderings of at most 16 keys
@@ -30,65 +28,6 @@ keys-most (o ∷ os) f = omega (arith, f 0 (omega arith), keys-most os (λ i l. 
 pub good-keys : (os : List (List ℕ)) → Good os → keysIn os ≤ 512
 good-keys os g = omega (arith, keys-most os (λ i l. g .each i l .few), g .few)
 
-module _ (m : ℕ → ℕ → Bool) (o : List (List ℕ)) where
-  -- a pass may be counted down from any number that is not below the orderings ahead
-  pub pass-enough : (n k : ℕ) (os : List (List ℕ)) (i c : ℕ) → Cuts m o os c → length os ≤ n + i → length os ≤ k + i → passFrom m n os i c ≡ passFrom m k os i c
-  unfolding passFrom
-  pass-enough zero zero os i c t a b = refl
-  pass-enough zero (suc k) os i c t a b = rw (le-ltb i (length os) (omega arith))
-  pass-enough (suc n) zero os i c t a b = rw (le-ltb i (length os) (omega arith))
-  pass-enough (suc n) (suc k) os i c t a b = go (ltb i (length os)) refl (pass-enough n k (round m os i c .orderings) (round m os i c .next) (round m os i c .cuts))
-    where
-      r : Turn
-      r = round m os i c
-
-      next : Bool → ℕ → Turn
-      next b x = if b then passFrom m x (r .orderings) (r .next) (r .cuts) else record { next = i; cuts = c; orderings = os }
-
-      go : (b : Bool) → ltb i (length os) ≡ b
-          → (Cuts m o (r .orderings) (r .cuts) → length (r .orderings) ≤ n + r .next → length (r .orderings) ≤ k + r .next → passFrom m n (r .orderings) (r .next) (r .cuts) ≡ passFrom m k (r .orderings) (r .next) (r .cuts))
-          → next b n ≡ next b k
-      go true e f =
-          let s = round-ended m o os i c t (ltb-true i (length os) e) in
-          f (s .trace) (omega (arith, s .ahead)) (omega (arith, s .ahead))
-      go false e f = refl
-
-  -- one round of a pass
-  pass-turn : (os : List (List ℕ)) (i c : ℕ) → Cuts m o os c → i < length os → passFrom m (length os - i) os i c ≡ passFrom m (length (round m os i c .orderings) - round m os i c .next) (round m os i c .orderings) (round m os i c .next) (round m os i c .cuts)
-  unfolding passFrom
-  pass-turn os i c t l =
-      let e : length os - i ≡ suc (length os - (i + 1)) = omega arith in
-      let s = round-ended m o os i c t l in
-      rw (e, lt-ltb i (length os) l)
-      (pass-enough (length os - (i + 1)) (length (round m os i c .orderings) - round m os i c .next) (round m os i c .orderings) (round m os i c .next) (round m os i c .cuts) (s .trace) (omega (arith, s .ahead)) (omega arith))
-
--- the end of a pass
-pass-none : (m : ℕ → ℕ → Bool) (os : List (List ℕ)) (i c : ℕ) → length os ≤ i → _≡_ {A = Turn} (passFrom m (length os - i) os i c) (record { next = i; cuts = c; orderings = os })
-unfolding passFrom
-pass-none m os i c l = let e : length os - i ≡ 0 = omega arith in rw e
-
--- reduction may be counted down from any number above the keys
-pub passes-enough : (m : ℕ → ℕ → Bool) (n k : ℕ) (os : List (List ℕ)) (c p : ℕ) → keysIn os < n → keysIn os < k → passesFrom m n os c p ≡ passesFrom m k os c p
-unfolding passesFrom
-passes-enough m zero k os c p a b = absurd (omega arith)
-passes-enough m (suc n) zero os c p a b = absurd (omega arith)
-passes-enough m (suc n) (suc k) os c p a b = go (eqb (pass m os .cuts) 0) refl (passes-enough m n k (pass m os .orderings) (c + pass m os .cuts) (p + 1))
-  where
-    r : Turn
-    r = pass m os
-
-    next : Bool → ℕ → Reduced
-    next b x = if b then record { orderings = r .orderings; cuts = c; passes = p + 1 } else passesFrom m x (r .orderings) (c + r .cuts) (p + 1)
-
-    go : (b : Bool) → eqb (r .cuts) 0 ≡ b
-        → (keysIn (r .orderings) < n → keysIn (r .orderings) < k → passesFrom m n (r .orderings) (c + r .cuts) (p + 1) ≡ passesFrom m k (r .orderings) (c + r .cuts) (p + 1))
-        → next b n ≡ next b k
-    go true e f = refl
-    go false e f =
-        let q = eqb-false (r .cuts) 0 e in
-        let s = cuts-keys (pass-cuts m os) in
-        f (omega arith) (omega arith)
-
 -- a list that cutting came to from list g
 pub record Reached (g list : Orderings) (cuts : ℕ) : Type 0 where
   pub coded : encode (decode list) ≡ list
@@ -97,7 +36,7 @@ pub record Reached (g list : Orderings) (cuts : ℕ) : Type 0 where
 -- what holds at each turn of a pass over list g: it goes on from place i with this list, after so many cuts
 pub record Pass (g list : Orderings) (cuts i : ℕ) : Type 0 where
   pub reached : Reached g list cuts
-  pub goes : pass sameKey (decode g) ≡ passFrom sameKey (length (decode list) - i) (decode list) i cuts
+  pub goes : pass sameKey (decode g) ≡ passRest sameKey (decode list) i cuts
 
 -- a list that was reached is paid for
 pub reached-paid : (g list : Orderings) (cuts : ℕ) → Held g → Reached g list cuts → Paid list cuts
@@ -115,9 +54,7 @@ reached-by g list cuts ps e t =
 -- a pass begins
 pub pass-begins : (g : Orderings) → Held g → Pass g g 0 0
 unfolding pass
-pass-begins g h =
-    let e : length (decode g) ≡ length (decode g) - 0 = omega arith in
-    record { reached = record { coded = h .coded; trace = begun }; goes = ap (λ (x : ℕ). passFrom sameKey x (decode g) 0 0) e }
+pass-begins g h = record { reached = record { coded = h .coded; trace = begun }; goes = refl }
 
 module _ (g list : Orderings) (cuts i : ℕ) (v : Pass g list cuts i) where
   -- the end
@@ -125,7 +62,7 @@ module _ (g list : Orderings) (cuts i : ℕ) (v : Pass g list cuts i) where
   unfolding turnOf
   pass-ends l =
       (λ t. record { next = i; cuts = cuts; list = sym (v .reached .coded) t })
-      ∙ ap turnOf (sym (v .goes ∙ pass-none sameKey (decode list) i cuts (omega (arith, length-decode list))))
+      ∙ ap turnOf (sym (v .goes ∙ pass-end sameKey (decode list) i cuts (omega (arith, length-decode list))))
 
   -- one round, as its struct
   module _ (l : i < list .count) (r : Turned) (e : r ≡ turnOf (round sameKey (decode list) i cuts)) where
@@ -135,8 +72,8 @@ module _ (g list : Orderings) (cuts i : ℕ) (v : Pass g list cuts i) where
     inside : i < length (decode list)
     inside = omega (arith, length-decode list)
 
-    ended : Ended sameKey (decode g) (decode list) i d
-    ended = round-ended sameKey (decode g) (decode list) i cuts (v .reached .trace) inside
+    leaves : Rounded (decode list) i cuts d
+    leaves = round-leaves sameKey i (decode list) cuts inside
 
     next-is : r .next ≡ d .next
     unfolding turnOf
@@ -156,18 +93,18 @@ module _ (g list : Orderings) (cuts i : ℕ) (v : Pass g list cuts i) where
     pub pass-next : Pass g (r .list) (r .cuts) (r .next)
     pass-next =
         record {
-          reached = rw cuts-is (reached-by g (r .list) (d .cuts) (d .orderings) list-is (ended .trace));
-          goes = rw (orderings-is, cuts-is, next-is) (v .goes ∙ pass-turn sameKey (decode g) (decode list) i cuts (v .reached .trace) inside);
+          reached = rw cuts-is (reached-by g (r .list) (d .cuts) (d .orderings) list-is (round-trace sameKey (decode g) (decode list) i cuts (v .reached .trace)));
+          goes = rw (orderings-is, cuts-is, next-is) (v .goes ∙ pass-round sameKey (decode list) i cuts inside);
         }
 
     pub pass-less : r .list .count - r .next < list .count - i
     pass-less =
         let k : r .list .count ≡ length (d .orderings) = sym (length-decode (r .list)) ∙ ap length orderings-is in
-        omega (arith, next-is, ended .ahead, length-decode list)
+        omega (arith, next-is, leaves .ahead, length-decode list)
 
 -- what is left of a reduction: all the passes that the keys allow, or none
 unfoldable pub ahead : (ℕ → ℕ → Bool) → Bool → List (List ℕ) → ℕ → ℕ → Reduced
-ahead m true os cuts passes = passesFrom m (keysIn os + 1) os cuts passes
+ahead m true os cuts passes = passesRest m os cuts passes
 ahead m false os cuts passes = record { orderings = os; cuts = cuts; passes = passes }
 
 -- more passes than are left
@@ -183,18 +120,15 @@ mostPasses false cuts = cuts + 1
 -- one pass of a reduction
 module _ (m : ℕ → ℕ → Bool) (os : List (List ℕ)) where
   pass-last : (c p : ℕ) → eqb (pass m os .cuts) 0 ≡ true → ahead m true os c p ≡ ahead m false (pass m os .orderings) (c + pass m os .cuts) (p + 1)
-  unfolding ahead passesFrom
+  unfolding ahead
   pass-last c p e =
       let z = eqb-true (pass m os .cuts) 0 e in
       let s : c ≡ c + pass m os .cuts = omega arith in
-      rw (add-one (keysIn os), e) (λ t. record { orderings = pass m os .orderings; cuts = s t; passes = p + 1 })
+      passes-end m os c p z ∙ (λ t. record { orderings = pass m os .orderings; cuts = s t; passes = p + 1 })
 
   pass-more : (c p : ℕ) → eqb (pass m os .cuts) 0 ≡ false → ahead m true os c p ≡ ahead m true (pass m os .orderings) (c + pass m os .cuts) (p + 1)
-  unfolding ahead passesFrom
-  pass-more c p e =
-      let z = eqb-false (pass m os .cuts) 0 e in
-      let s = cuts-keys (pass-cuts m os) in
-      rw (add-one (keysIn os), e) (passes-enough m (keysIn os) (keysIn (pass m os .orderings) + 1) (pass m os .orderings) (c + pass m os .cuts) (p + 1) (omega arith) (omega arith))
+  unfolding ahead
+  pass-more c p e = passes-on m os c p (eqb-false (pass m os .cuts) 0 e)
 
   pass-ahead : (c p : ℕ) (b : Bool) → eqb (pass m os .cuts) 0 ≡ b → ahead m true os c p ≡ ahead m (not b) (pass m os .orderings) (c + pass m os .cuts) (p + 1)
   pass-ahead c p true e = pass-last c p e
@@ -203,7 +137,7 @@ module _ (m : ℕ → ℕ → Bool) (os : List (List ℕ)) where
   pass-fewer : (b : Bool) → eqb (pass m os .cuts) 0 ≡ b → passesLeft (not b) (pass m os .orderings) < passesLeft true os
   unfolding passesLeft
   pass-fewer true e = omega arith
-  pass-fewer false e = omega (arith, eqb-false (pass m os .cuts) 0 e, cuts-keys (pass-cuts m os))
+  pass-fewer false e = omega (arith, eqb-false (pass m os .cuts) 0 e, pass-keys m os)
 
   most-next : (c p : ℕ) (b : Bool) → eqb (pass m os .cuts) 0 ≡ b → p ≤ mostPasses true c → p + 1 ≤ mostPasses (not b) (c + pass m os .cuts)
   unfolding mostPasses

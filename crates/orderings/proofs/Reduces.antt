@@ -7,15 +7,14 @@ use mathlib.Core.Path.{_≡_, refl, sym, ap, _∙_, subst}
 use native.Mathlib.Decide.{ℕ-discrete, decLt}
 use native.Mathlib.Nat.{add-zero}
 use native.Mathlib.Omega.{arith}
-use borrow.Author.Tests.{lt-ltb, le-ltb, ne-eqb}
 use lib.ListN.{length, take, drop, set, length-take}
 use lib.Seq.{getD-set-same, getD-set-other, getD-take, length-take-le, take-take, take-length}
-use Rattle.laws.specs.Tests.{if_then_else_}
 use Rattle.orderings.specs.Ordering.{sameKey}
-use Rattle.orderings.specs.Reduction.{orderingAt, overlap, removed, Resolved, apart, trimmed, emptied, resolvedBy, resolve, Way, onward, again, anew, Compared, second, compared, Turn, roundFrom, round, passFrom, pass, keysIn, Reduced, passesFrom, reduced}
+use Rattle.orderings.specs.Reduction.{orderingAt, overlap, removed, Resolved, apart, trimmed, emptied, resolvedBy, resolve, Way, onward, again, anew, Compared, second, compared, Turn, roundRest, round-end, round-onward, round-again, round-anew, round, round-leaves, passRest, pass-end, pass-round, pass, pass-keys, keysIn, Reduced, passesRest, passes-end, passes-on, reduced}
+use Rattle.orderings.specs.Fewer.{shortened, length-shortened, length-removed, Outcome, free, part, whole, outcome, comparedBy, compared-by, goes, Left, compared-left}
 use Rattle.orderings.specs.Good.{Apart}
 use Rattle.orderings.proofs.Overlaps.{apart-suffix}
-use Rattle.orderings.proofs.Kept.{shortened, length-shortened, length-removed, Cuts, begun, cut, gone, cuts-keys, Outcome, free, part, whole, outcome, comparedBy, compared-by, turnBy, turn-by, pass-cuts, reduced-cuts, reduced-keys}
+use Rattle.orderings.proofs.Kept.{Cuts, begun, cut, gone, reduced-cuts, reduced-keys}
 
 -- where ordering i went, each one left is one of the others
 pub removed-from : (os : List (List ℕ)) (i k : ℕ) → i < length os → k < length os - 1
@@ -125,157 +124,157 @@ module _ (m : ℕ → ℕ → Bool) where
       compared-by m os i j ∙ ap (λ (r : Resolved). comparedBy m os i j r) (resolve-free os i j (f .0)) ∙ ap (λ (r : Resolved). second os j 0 r) (resolve-free os j i (f .1))
 
   -- a round that begins with comparing which changes nothing
-  round-quiet : (n : ℕ) (os : List (List ℕ)) (i j c : ℕ) → compared m os i j ≡ quiet os → roundFrom m (suc n) os i j c ≡ roundFrom m n os i (j + 1) c
-  unfolding turnBy
-  round-quiet n os i j c e =
-      turn-by m n os i j c ∙ ap (λ (s : Compared). turnBy m n os i j c (s .way)) e
-      ∙ ap (λ (s : Compared). roundFrom m n (s .orderings) i (j + 1) (c + s .cuts)) e ∙ ap (λ (d : ℕ). roundFrom m n os i (j + 1) d) (add-zero c)
+  round-quiet : (os : List (List ℕ)) (i j c : ℕ) → i < j → j < length os → compared m os i j ≡ quiet os → roundRest m os i j c ≡ roundRest m os i (j + 1) c
+  round-quiet os i j c a l e =
+      round-onward m os i j c a l (ap (λ (s : Compared). s .way) e)
+      ∙ ap (λ (s : Compared). roundRest m (s .orderings) i (j + 1) (c + s .cuts)) e ∙ ap (λ (d : ℕ). roundRest m os i (j + 1) d) (add-zero c)
 
   -- cuts are only added
-  after-first : (n : ℕ) (os : List (List ℕ)) (i j c : ℕ) → ((ps : List (List ℕ)) (k d : ℕ) → d ≤ roundFrom m n ps i k d .cuts)
-      → c + compared m os i j .cuts ≤ roundFrom m (suc n) os i j c .cuts
-  unfolding turnBy
-  after-first n os i j c h = rw (turn-by m n os i j c) (go (compared m os i j .way))
+  after-first : (n : ℕ) (os : List (List ℕ)) (i j c : ℕ) → length os - j ≡ suc n → i < j → ((ps : List (List ℕ)) (k d : ℕ) → length ps - k ≡ n → i < k → d ≤ roundRest m ps i k d .cuts)
+      → c + compared m os i j .cuts ≤ roundRest m os i j c .cuts
+  unfolding goes
+  after-first n os i j c e a h = go (compared m os i j .way) refl (compared-left m os i j (omega arith) (omega arith))
     where
-      go : (w : Way) → c + compared m os i j .cuts ≤ turnBy m n os i j c w .cuts
-      go onward = h (compared m os i j .orderings) (j + 1) (c + compared m os i j .cuts)
-      go again = h (compared m os i j .orderings) j (c + compared m os i j .cuts)
-      go anew = omega arith
+      d : Compared
+      d = compared m os i j
 
-  round-more : (n : ℕ) (os : List (List ℕ)) (i j c : ℕ) → c ≤ roundFrom m n os i j c .cuts
-  unfolding roundFrom
-  round-more zero os i j c = omega arith
-  round-more (suc n) os i j c = let h = after-first n os i j c (λ ps k d. round-more n ps i k d) in omega arith
+      go : (w : Way) → compared m os i j .way ≡ w → Left os 0 (compared m os i j) → c + compared m os i j .cuts ≤ roundRest m os i j c .cuts
+      go onward q s =
+          let b : length (d .orderings) + goes onward ≡ length os = rw q at (s .fewer) in
+          rw (round-onward m os i j c a (omega arith) q) (h (d .orderings) (j + 1) (c + d .cuts) (omega arith) (omega arith))
+      go again q s =
+          let b : length (d .orderings) + goes again ≡ length os = rw q at (s .fewer) in
+          rw (round-again m os i j c a (omega arith) q) (h (d .orderings) j (c + d .cuts) (omega arith) a)
+      go anew q s = rw (round-anew m os i j c (omega arith) q) (omega arith)
+
+  rest-more : (n : ℕ) (os : List (List ℕ)) (i j c : ℕ) → length os - j ≡ n → i < j → c ≤ roundRest m os i j c .cuts
+  rest-more zero os i j c e a = rw (round-end m os i j c (omega arith)) (omega arith)
+  rest-more (suc n) os i j c e a = let h = after-first n os i j c e a (λ ps k d q b. rest-more n ps i k d q b) in omega arith
+
+  round-more : (os : List (List ℕ)) (i c : ℕ) → c ≤ round m os i c .cuts
+  unfolding round
+  round-more os i c = rest-more (length os - (i + 1)) os i (i + 1) c refl (omega arith)
 
   -- a round that cuts nothing: ordering i is apart from all that it was held against, and the list stays as it is
-  round-still : (n : ℕ) (os : List (List ℕ)) (i j c : ℕ) → roundFrom m n os i j c .cuts ≡ c
-      → (roundFrom m n os i j c ≡ turn i c os) × ((k : ℕ) → j ≤ k → k < j + n → Free os i k)
-  unfolding roundFrom
-  round-still zero os i j c z = (refl, λ k a b. absurd (omega arith))
-  round-still (suc n) os i j c z =
-      let h = after-first n os i j c (λ ps k d. round-more n ps i k d) in
+  rest-still : (n : ℕ) (os : List (List ℕ)) (i j c : ℕ) → length os - j ≡ n → i < j → roundRest m os i j c .cuts ≡ c
+      → (roundRest m os i j c ≡ turn i c os) × ((k : ℕ) → j ≤ k → k < length os → Free os i k)
+  rest-still zero os i j c e a z = (round-end m os i j c (omega arith), λ k a b. absurd (omega arith))
+  rest-still (suc n) os i j c e a z =
+      let h = after-first n os i j c e a (λ ps k d q b. rest-more n ps i k d q b) in
       let w = compared-still os i j (omega arith) in
-      let q = round-quiet n os i j c (w .0) in
-      let r = round-still n os i (j + 1) c (ap (λ (t : Turn). t .cuts) (sym q) ∙ z) in
+      let q = round-quiet os i j c a (omega arith) (w .0) in
+      let r = rest-still n os i (j + 1) c (omega arith) (omega arith) (ap (λ (t : Turn). t .cuts) (sym q) ∙ z) in
       (q ∙ r .0, λ k a b. at (w .1) (r .1) k a b (ℕ-discrete k j))
     where
-      at : Free os i j → ((k : ℕ) → j + 1 ≤ k → k < j + 1 + n → Free os i k) → (k : ℕ) → j ≤ k → k < j + suc n → Dec (k ≡ j) → Free os i k
+      at : Free os i j → ((k : ℕ) → j + 1 ≤ k → k < length os → Free os i k) → (k : ℕ) → j ≤ k → k < length os → Dec (k ≡ j) → Free os i k
       at f g k a b (yes q) = rw q f
-      at f g k a b (no q) = g k (omega arith) (omega arith)
+      at f g k a b (no q) = g k (omega arith) b
+
+  round-still : (os : List (List ℕ)) (i c : ℕ) → round m os i c .cuts ≡ c → (round m os i c ≡ turn i c os) × ((k : ℕ) → i < k → k < length os → Free os i k)
+  unfolding round
+  round-still os i c z = let w = rest-still (length os - (i + 1)) os i (i + 1) c refl (omega arith) z in (w .0, λ k a b. w .1 k (omega arith) b)
 
   -- the other way round
-  round-free : (n : ℕ) (os : List (List ℕ)) (i j c : ℕ) → ((k : ℕ) → j ≤ k → k < j + n → Free os i k) → roundFrom m n os i j c ≡ turn i c os
-  unfolding roundFrom
-  round-free zero os i j c f = refl
-  round-free (suc n) os i j c f =
-      round-quiet n os i j c (compared-free os i j (f j (omega arith) (omega arith))) ∙ round-free n os i (j + 1) c (λ k a b. f k (omega arith) (omega arith))
+  rest-free : (n : ℕ) (os : List (List ℕ)) (i j c : ℕ) → length os - j ≡ n → i < j → ((k : ℕ) → j ≤ k → k < length os → Free os i k) → roundRest m os i j c ≡ turn i c os
+  rest-free zero os i j c e a f = round-end m os i j c (omega arith)
+  rest-free (suc n) os i j c e a f =
+      round-quiet os i j c a (omega arith) (compared-free os i j (f j (omega arith) (omega arith)))
+      ∙ rest-free n os i (j + 1) c (omega arith) (omega arith) (λ k a b. f k (omega arith) b)
 
-  -- a pass: its turns
-  pass-turn : (n : ℕ) (os : List (List ℕ)) (i c : ℕ) → i < length os
-      → passFrom m (suc n) os i c ≡ passFrom m n (round m os i c .orderings) (round m os i c .next) (round m os i c .cuts)
-  unfolding passFrom
-  pass-turn n os i c l = rw (lt-ltb i (length os) l)
+  round-free : (os : List (List ℕ)) (i c : ℕ) → ((k : ℕ) → i < k → k < length os → Free os i k) → round m os i c ≡ turn i c os
+  unfolding round
+  round-free os i c f = rest-free (length os - (i + 1)) os i (i + 1) c refl (omega arith) (λ k a b. f k (omega arith) b)
 
-  pass-quiet : (n : ℕ) (os : List (List ℕ)) (i c : ℕ) → i < length os → round m os i c ≡ turn i c os → passFrom m (suc n) os i c ≡ passFrom m n os (i + 1) c
-  pass-quiet n os i c l e = pass-turn n os i c l ∙ ap (λ (t : Turn). passFrom m n (t .orderings) (t .next) (t .cuts)) e
+  -- a pass: a round that changes nothing, and cuts are only added
+  pass-quiet : (os : List (List ℕ)) (i c : ℕ) → i < length os → round m os i c ≡ turn i c os → passRest m os i c ≡ passRest m os (i + 1) c
+  pass-quiet os i c l e = pass-round m os i c l ∙ ap (λ (t : Turn). passRest m (t .orderings) (t .next) (t .cuts)) e
 
-  pass-end : (n : ℕ) (os : List (List ℕ)) (i c : ℕ) → length os ≤ i → passFrom m n os i c ≡ record { next = i; cuts = c; orderings = os }
-  unfolding passFrom
-  pass-end zero os i c l = refl
-  pass-end (suc n) os i c l = rw (le-ltb i (length os) l)
-
-  pass-more : (n : ℕ) (os : List (List ℕ)) (i c : ℕ) → c ≤ passFrom m n os i c .cuts
-  unfolding passFrom round
-  pass-more zero os i c = omega arith
-  pass-more (suc n) os i c = go (decLt i (length os)) (pass-more n (round m os i c .orderings) (round m os i c .next) (round m os i c .cuts))
+  pass-more : (n : ℕ) (os : List (List ℕ)) (i c : ℕ) → length os ≤ n + i → c ≤ passRest m os i c .cuts
+  pass-more zero os i c h = rw (pass-end m os i c (omega arith)) (omega arith)
+  pass-more (suc n) os i c h = go (decLt i (length os)) (pass-more n (round m os i c .orderings) (round m os i c .next) (round m os i c .cuts))
     where
-      go : Dec (i < length os) → round m os i c .cuts ≤ passFrom m n (round m os i c .orderings) (round m os i c .next) (round m os i c .cuts) .cuts
-          → c ≤ passFrom m (suc n) os i c .cuts
-      go (yes l) h = rw (pass-turn n os i c l) (omega (arith, round-more (length os - (i + 1)) os i (i + 1) c))
-      go (no l) h = rw (pass-end (suc n) os i c (omega arith)) (omega arith)
+      r : Turn
+      r = round m os i c
+
+      go : Dec (i < length os) → (length (r .orderings) ≤ n + r .next → r .cuts ≤ passRest m (r .orderings) (r .next) (r .cuts) .cuts)
+          → c ≤ passRest m os i c .cuts
+      go (yes l) f = rw (pass-round m os i c l) (omega (arith, f (omega (arith, round-leaves m i os c l .ahead)), round-more os i c))
+      go (no l) f = rw (pass-end m os i c (omega arith)) (omega arith)
 
   -- a pass from ordering i on that cuts nothing: all from i on are apart, and the list stays as it is
-  pass-from-still : (n : ℕ) (os : List (List ℕ)) (i c : ℕ) → passFrom m n os i c .cuts ≡ c
-      → (passFrom m n os i c .orderings ≡ os) × ((a b : ℕ) → i ≤ a → a < i + n → a < b → b < length os → Free os a b)
-  unfolding passFrom round
-  pass-from-still zero os i c z = (refl, λ a b h k l d. absurd (omega arith))
-  pass-from-still (suc n) os i c z = go (decLt i (length os)) (pass-from-still n os (i + 1) c)
+  pass-from-still : (n : ℕ) (os : List (List ℕ)) (i c : ℕ) → length os ≤ n + i → passRest m os i c .cuts ≡ c
+      → (passRest m os i c .orderings ≡ os) × ((a b : ℕ) → i ≤ a → a < b → b < length os → Free os a b)
+  pass-from-still zero os i c t z = (ap (λ (t : Turn). t .orderings) (pass-end m os i c (omega arith)), λ a b h l d. absurd (omega arith))
+  pass-from-still (suc n) os i c t z = go (decLt i (length os)) (pass-from-still n os (i + 1) c)
     where
-      at : ((k : ℕ) → i + 1 ≤ k → k < i + 1 + (length os - (i + 1)) → Free os i k) → ((a b : ℕ) → i + 1 ≤ a → a < i + 1 + n → a < b → b < length os → Free os a b)
-          → (a b : ℕ) → i ≤ a → a < i + suc n → a < b → b < length os → Dec (a ≡ i) → Free os a b
-      at f g a b h k l d (yes q) = rw q (f b (omega arith) (omega arith))
-      at f g a b h k l d (no q) = g a b (omega arith) (omega arith) l d
+      at : ((k : ℕ) → i < k → k < length os → Free os i k) → ((a b : ℕ) → i + 1 ≤ a → a < b → b < length os → Free os a b)
+          → (a b : ℕ) → i ≤ a → a < b → b < length os → Dec (a ≡ i) → Free os a b
+      at f g a b h l d (yes q) = rw q (f b (omega arith) d)
+      at f g a b h l d (no q) = g a b (omega arith) l d
 
-      go : Dec (i < length os) → (passFrom m n os (i + 1) c .cuts ≡ c → (passFrom m n os (i + 1) c .orderings ≡ os) × ((a b : ℕ) → i + 1 ≤ a → a < i + 1 + n → a < b → b < length os → Free os a b))
-          → (passFrom m (suc n) os i c .orderings ≡ os) × ((a b : ℕ) → i ≤ a → a < i + suc n → a < b → b < length os → Free os a b)
+      go : Dec (i < length os) → (length os ≤ n + (i + 1) → passRest m os (i + 1) c .cuts ≡ c → (passRest m os (i + 1) c .orderings ≡ os) × ((a b : ℕ) → i + 1 ≤ a → a < b → b < length os → Free os a b))
+          → (passRest m os i c .orderings ≡ os) × ((a b : ℕ) → i ≤ a → a < b → b < length os → Free os a b)
       go (yes l) f =
-          let u = ap (λ (t : Turn). t .cuts) (pass-turn n os i c l) in
-          let h = pass-more n (round m os i c .orderings) (round m os i c .next) (round m os i c .cuts) in
-          let k = round-more (length os - (i + 1)) os i (i + 1) c in
-          let w = round-still (length os - (i + 1)) os i (i + 1) c (omega arith) in
-          let q = pass-quiet n os i c l (w .0) in
-          let r = f (ap (λ (t : Turn). t .cuts) (sym q) ∙ z) in
-          (ap (λ (t : Turn). t .orderings) q ∙ r .0, λ a b h k l d. at (w .1) (r .1) a b h k l d (ℕ-discrete a i))
-      go (no e) f = (ap (λ (t : Turn). t .orderings) (pass-end (suc n) os i c (omega arith)), λ a b h k l d. absurd (omega arith))
+          let u = ap (λ (t : Turn). t .cuts) (pass-round m os i c l) in
+          let s = round-leaves m i os c l in
+          let h = pass-more n (round m os i c .orderings) (round m os i c .next) (round m os i c .cuts) (omega (arith, s .ahead)) in
+          let k = round-more os i c in
+          let w = round-still os i c (omega arith) in
+          let q = pass-quiet os i c l (w .0) in
+          let r = f (omega arith) (ap (λ (t : Turn). t .cuts) (sym q) ∙ z) in
+          (ap (λ (t : Turn). t .orderings) q ∙ r .0, λ a b h l d. at (w .1) (r .1) a b h l d (ℕ-discrete a i))
+      go (no e) f = (ap (λ (t : Turn). t .orderings) (pass-end m os i c (omega arith)), λ a b h l d. absurd (omega arith))
 
   -- the other way round
-  pass-from-free : (n : ℕ) (os : List (List ℕ)) (i c : ℕ) → Apart m os → (passFrom m n os i c .orderings ≡ os) × (passFrom m n os i c .cuts ≡ c)
-  unfolding passFrom round
-  pass-from-free zero os i c f = (refl, refl)
-  pass-from-free (suc n) os i c f = go (decLt i (length os)) (pass-from-free n os (i + 1) c f)
+  pass-from-free : (n : ℕ) (os : List (List ℕ)) (i c : ℕ) → length os ≤ n + i → Apart m os → (passRest m os i c .orderings ≡ os) × (passRest m os i c .cuts ≡ c)
+  pass-from-free zero os i c t f =
+      let q = pass-end m os i c (omega arith) in
+      (ap (λ (t : Turn). t .orderings) q, ap (λ (t : Turn). t .cuts) q)
+  pass-from-free (suc n) os i c t f = go (decLt i (length os)) (pass-from-free n os (i + 1) c (omega arith) f)
     where
-      go : Dec (i < length os) → (passFrom m n os (i + 1) c .orderings ≡ os) × (passFrom m n os (i + 1) c .cuts ≡ c)
-          → (passFrom m (suc n) os i c .orderings ≡ os) × (passFrom m (suc n) os i c .cuts ≡ c)
+      go : Dec (i < length os) → (passRest m os (i + 1) c .orderings ≡ os) × (passRest m os (i + 1) c .cuts ≡ c)
+          → (passRest m os i c .orderings ≡ os) × (passRest m os i c .cuts ≡ c)
       go (yes l) r =
-          let w = round-free (length os - (i + 1)) os i (i + 1) c (λ k a b. (f i k l (omega arith) (λ e. omega arith), f k i (omega arith) l (λ e. omega arith))) in
-          let q = pass-quiet n os i c l w in
+          let w = round-free os i c (λ k a b. (f i k l b (λ e. omega arith), f k i b l (λ e. omega arith))) in
+          let q = pass-quiet os i c l w in
           (ap (λ (t : Turn). t .orderings) q ∙ r .0, ap (λ (t : Turn). t .cuts) q ∙ r .1)
       go (no l) r =
-          let q = pass-end (suc n) os i c (omega arith) in
+          let q = pass-end m os i c (omega arith) in
           (ap (λ (t : Turn). t .orderings) q, ap (λ (t : Turn). t .cuts) q)
 
   -- a pass that cuts nothing leaves the list as it is, and all its orderings are apart
   pub pass-still : (os : List (List ℕ)) → pass m os .cuts ≡ 0 → (pass m os .orderings ≡ os) × Apart m os
   unfolding pass
-  pass-still os z = let w = pass-from-still (length os) os 0 0 z in (w .0, λ i j a b d. go (w .1) i j a b d (decLt i j))
+  pass-still os z = let w = pass-from-still (length os) os 0 0 (omega arith) z in (w .0, λ i j a b d. go (w .1) i j a b d (decLt i j))
     where
-      go : ((a b : ℕ) → 0 ≤ a → a < 0 + length os → a < b → b < length os → Free os a b) → (i j : ℕ) → i < length os → j < length os → (i ≡ j → ⊥) → Dec (i < j)
+      go : ((a b : ℕ) → 0 ≤ a → a < b → b < length os → Free os a b) → (i j : ℕ) → i < length os → j < length os → (i ≡ j → ⊥) → Dec (i < j)
           → overlap m (orderingAt os i) (orderingAt os j) ≡ none
-      go f i j a b d (yes l) = f i j (omega arith) (omega arith) l b .0
-      go f i j a b d (no l) = f j i (omega arith) (omega arith) (omega arith) a .1
+      go f i j a b d (yes l) = f i j (omega arith) l b .0
+      go f i j a b d (no l) = f j i (omega arith) (omega arith) a .1
 
   pub pass-free : (os : List (List ℕ)) → Apart m os → (pass m os .orderings ≡ os) × (pass m os .cuts ≡ 0)
   unfolding pass
-  pass-free os f = pass-from-free (length os) os 0 0 f
+  pass-free os f = pass-from-free (length os) os 0 0 (omega arith) f
 
-  -- the turns of reduction
-  passes-last : (n : ℕ) (os : List (List ℕ)) (c p : ℕ) → pass m os .cuts ≡ 0 → passesFrom m (suc n) os c p ≡ record { orderings = pass m os .orderings; cuts = c; passes = p + 1 }
-  unfolding passesFrom
-  passes-last n os c p e = rw e
-
-  passes-on : (n : ℕ) (os : List (List ℕ)) (c p : ℕ) → (pass m os .cuts ≡ 0 → ⊥) → passesFrom m (suc n) os c p ≡ passesFrom m n (pass m os .orderings) (c + pass m os .cuts) (p + 1)
-  unfolding passesFrom
-  passes-on n os c p e = rw (ne-eqb (pass m os .cuts) 0 e)
-
-  -- it ends with a pass that cuts nothing, since each other takes a key away
-  passes-apart : (n : ℕ) (os : List (List ℕ)) (c p : ℕ) → keysIn os < n → Apart m (passesFrom m n os c p .orderings)
+  -- reduction ends with a pass that cuts nothing, since each other takes a key away
+  passes-apart : (n : ℕ) (os : List (List ℕ)) (c p : ℕ) → keysIn os < n → Apart m (passesRest m os c p .orderings)
   passes-apart zero os c p h = absurd (omega arith)
   passes-apart (suc n) os c p h = go (ℕ-discrete (pass m os .cuts) 0) (passes-apart n (pass m os .orderings) (c + pass m os .cuts) (p + 1))
     where
-      go : Dec (pass m os .cuts ≡ 0) → (keysIn (pass m os .orderings) < n → Apart m (passesFrom m n (pass m os .orderings) (c + pass m os .cuts) (p + 1) .orderings))
-          → Apart m (passesFrom m (suc n) os c p .orderings)
-      go (yes z) f = let w = pass-still os z in subst (λ (ps : List (List ℕ)). Apart m ps) (sym (ap (λ (r : Reduced). r .orderings) (passes-last n os c p z) ∙ w .0)) (w .1)
+      go : Dec (pass m os .cuts ≡ 0) → (keysIn (pass m os .orderings) < n → Apart m (passesRest m (pass m os .orderings) (c + pass m os .cuts) (p + 1) .orderings))
+          → Apart m (passesRest m os c p .orderings)
+      go (yes z) f = let w = pass-still os z in subst (λ (ps : List (List ℕ)). Apart m ps) (sym (ap (λ (r : Reduced). r .orderings) (passes-end m os c p z) ∙ w .0)) (w .1)
       go (no z) f =
-          subst (λ (ps : List (List ℕ)). Apart m ps) (sym (ap (λ (r : Reduced). r .orderings) (passes-on n os c p z))) (f (omega (arith, cuts-keys (pass-cuts m os))))
+          subst (λ (ps : List (List ℕ)). Apart m ps) (sym (ap (λ (r : Reduced). r .orderings) (passes-on m os c p z))) (f (omega (arith, pass-keys m os)))
 
-  passes-few : (n : ℕ) (os : List (List ℕ)) (c p : ℕ) → passesFrom m n os c p .passes ≤ p + n
-  unfolding passesFrom
-  passes-few zero os c p = omega arith
-  passes-few (suc n) os c p = go (ℕ-discrete (pass m os .cuts) 0) (passes-few n (pass m os .orderings) (c + pass m os .cuts) (p + 1))
+  passes-few : (n : ℕ) (os : List (List ℕ)) (c p : ℕ) → keysIn os < n → passesRest m os c p .passes ≤ p + n
+  passes-few zero os c p l = absurd (omega arith)
+  passes-few (suc n) os c p l = go (ℕ-discrete (pass m os .cuts) 0) (passes-few n (pass m os .orderings) (c + pass m os .cuts) (p + 1))
     where
-      go : Dec (pass m os .cuts ≡ 0) → passesFrom m n (pass m os .orderings) (c + pass m os .cuts) (p + 1) .passes ≤ p + 1 + n → passesFrom m (suc n) os c p .passes ≤ p + suc n
-      go (yes z) h = rw (passes-last n os c p z) (omega arith)
-      go (no z) h = rw (passes-on n os c p z) (omega arith)
+      go : Dec (pass m os .cuts ≡ 0) → (keysIn (pass m os .orderings) < n → passesRest m (pass m os .orderings) (c + pass m os .cuts) (p + 1) .passes ≤ p + 1 + n)
+          → passesRest m os c p .passes ≤ p + suc n
+      go (yes z) f = rw (passes-end m os c p z) (omega arith)
+      go (no z) f = rw (passes-on m os c p z) (omega (arith, f (omega (arith, pass-keys m os))))
 
   -- afterwards no nonempty suffix of one ordering is a prefix of another
   pub reduced-apart : (os : List (List ℕ)) → Apart m (reduced m os .orderings)
@@ -293,15 +292,14 @@ module _ (m : ℕ → ℕ → Bool) where
 
   pub passes-bound : (os : List (List ℕ)) → reduced m os .passes ≤ keysIn os + 1
   unfolding reduced
-  passes-bound os = omega (arith, passes-few (keysIn os + 1) os 0 0)
+  passes-bound os = omega (arith, passes-few (keysIn os + 1) os 0 0 (omega arith))
 
   -- reducing a list whose orderings are apart changes nothing, in one pass without a cut
   pub apart-reduced : (os : List (List ℕ)) → Apart m os → reduced m os ≡ record { orderings = os; cuts = 0; passes = 1 }
   unfolding reduced
   apart-reduced os f =
       let w = pass-free os f in
-      let s : keysIn os + 1 ≡ suc (keysIn os) = omega arith in
-      ap (λ (n : ℕ). passesFrom m n os 0 0) s ∙ passes-last (keysIn os) os 0 0 (w .1) ∙ ap (λ (ps : List (List ℕ)). once ps) (w .0)
+      passes-end m os 0 0 (w .1) ∙ ap (λ (ps : List (List ℕ)). once ps) (w .0)
 
   -- so reducing a reduced list changes nothing
   pub reduced-again : (os : List (List ℕ)) → reduced m (reduced m os .orderings) ≡ record { orderings = reduced m os .orderings; cuts = 0; passes = 1 }

@@ -1,5 +1,5 @@
 -- A round, turn by turn, as the code does it.
-use Prim.Native.Nat.{ℕ, suc, _+_, _-_, _<_, _≤_}
+use Prim.Native.Nat.{ℕ, _+_, _-_, _<_, _≤_}
 use mathlib.Core.Bool.{Bool, true, false}
 use mathlib.Core.List.{List}
 use mathlib.Core.Path.{_≡_, refl, sym, ap, _∙_, subst}
@@ -8,48 +8,40 @@ use lib.Dec.{eqb}
 use lib.ListN.{length}
 use Rattle.laws.specs.Tests.{if_then_else_}
 use Rattle.orderings.specs.Ordering.{sameKey}
-use Rattle.orderings.specs.Reduction.{Way, onward, again, anew, Compared, compared, Turn, roundFrom, round}
+use Rattle.orderings.specs.Reduction.{Way, onward, again, anew, Compared, compared, roundRest, round-end, round-onward, round-again, round-anew, round}
+use Rattle.orderings.specs.Fewer.{goes, Left, compared-left}
 use Rattle.orderings.specs.Layout.{encode, decode}
 use Rattle.orderings.specs.Inner.{Held, Paid, wayNumber, contestOf, turnOf}
 use Rattle.orderings.specs.declared.Orderings.{Orderings}
 use Rattle.orderings.specs.declared.Contest.{Contest}
 use Rattle.orderings.specs.declared.Turned.{Turned}
-use Rattle.orderings.proofs.Kept.{begun, cuts-good, cuts-keys, Step, goes, compared-step, turnBy, turn-by}
+use Rattle.orderings.proofs.Kept.{Cuts, begun, cuts-good, cuts-keys, compared-step}
 use Rattle.orderings.proofs.Codec.{good-held, decode-encode, length-decode, count-few}
 
 -- what holds at each turn: a round of ordering i over list g, after some cuts, goes on from place j with this list, after so many cuts
 pub record Round (g : Orderings) (i cuts : ℕ) (list : Orderings) (done j : ℕ) : Type 0 where
   pub paid : Paid list done
   pub past : i < j
-  pub goes : round sameKey (decode g) i cuts ≡ roundFrom sameKey (length (decode list) - j) (decode list) i j done
+  pub goes : round sameKey (decode g) i cuts ≡ roundRest sameKey (decode list) i j done
 
 -- the place that is compared next
 abbrev pub nextOf : ℕ → ℕ → ℕ
 nextOf w j = if eqb w 0 then j + 1 else j
 
--- a turn of a round from place j on: the count falls by one
-module _ (m : ℕ → ℕ → Bool) (os : List (List ℕ)) (i j c : ℕ) (l : j < length os) where
-  turn : (w : Way) → compared m os i j .way ≡ w → roundFrom m (length os - j) os i j c ≡ turnBy m (length os - (j + 1)) os i j c w
-  turn w q =
-      let e : length os - j ≡ suc (length os - (j + 1)) = omega arith in
-      rw e (turn-by m (length os - (j + 1)) os i j c) ∙ ap (turnBy m (length os - (j + 1)) os i j c) q
+-- a turn of a round from place j on
+module _ (m : ℕ → ℕ → Bool) (os : List (List ℕ)) (i j c : ℕ) (a : i < j) (l : j < length os) where
+  turn-on : (w : Way) → compared m os i j .way ≡ w → (wayNumber w ≡ 2 → ⊥)
+      → roundRest m os i j c ≡ roundRest m (compared m os i j .orderings) i (nextOf (wayNumber w) j) (c + compared m os i j .cuts)
+  unfolding wayNumber
+  turn-on onward q n = round-onward m os i j c a l q
+  turn-on again q n = round-again m os i j c a l q
+  turn-on anew q n = absurd (n refl)
 
-  turn-on : (w : Way) → compared m os i j .way ≡ w → length (compared m os i j .orderings) + goes w ≡ length os → (wayNumber w ≡ 2 → ⊥)
-      → roundFrom m (length os - j) os i j c ≡ roundFrom m (length (compared m os i j .orderings) - nextOf (wayNumber w) j) (compared m os i j .orderings) i (nextOf (wayNumber w) j) (c + compared m os i j .cuts)
-  unfolding turnBy wayNumber goes
-  turn-on onward q f n =
-      let s : length os - (j + 1) ≡ length (compared m os i j .orderings) - (j + 1) = omega arith in
-      turn onward q ∙ ap (λ (x : ℕ). roundFrom m x (compared m os i j .orderings) i (j + 1) (c + compared m os i j .cuts)) s
-  turn-on again q f n =
-      let s : length os - (j + 1) ≡ length (compared m os i j .orderings) - j = omega arith in
-      turn again q ∙ ap (λ (x : ℕ). roundFrom m x (compared m os i j .orderings) i j (c + compared m os i j .cuts)) s
-  turn-on anew q f n = absurd (n refl)
-
-  turn-anew : (w : Way) → compared m os i j .way ≡ w → wayNumber w ≡ 2 → _≡_ {A = Turn} (roundFrom m (length os - j) os i j c) (record { next = i; cuts = c + compared m os i j .cuts; orderings = compared m os i j .orderings })
-  unfolding turnBy wayNumber
+  turn-anew : (w : Way) → compared m os i j .way ≡ w → wayNumber w ≡ 2 → roundRest m os i j c ≡ record { next = i; cuts = c + compared m os i j .cuts; orderings = compared m os i j .orderings }
+  unfolding wayNumber
   turn-anew onward q n = absurd (omega arith)
   turn-anew again q n = absurd (omega arith)
-  turn-anew anew q n = turn anew q
+  turn-anew anew q n = round-anew m os i j c l q
 
 -- the orderings ahead become fewer
 next-less : (w : Way) (a b j : ℕ) → a + goes w ≡ b → j < b → a - nextOf (wayNumber w) j < b - j
@@ -73,11 +65,10 @@ round-begins g i cuts p l = record { paid = p; past = omega arith; goes = refl }
 module _ (g : Orderings) (i cuts : ℕ) (list : Orderings) (done j : ℕ) (v : Round g i cuts list done j) where
   -- the end
   pub round-ends : list .count ≤ j → _≡_ {A = Turned} (record { next = i + 1; cuts = done; list = list }) (turnOf (round sameKey (decode g) i cuts))
-  unfolding turnOf roundFrom
+  unfolding turnOf
   round-ends l =
-      let e : length (decode list) - j ≡ 0 = omega (arith, length-decode list) in
-      let r : round sameKey (decode g) i cuts ≡ roundFrom sameKey 0 (decode list) i j done = rw e at (v .goes) in
-      rw r (λ t. record { next = i + 1; cuts = done; list = sym (v .paid .held .coded) t })
+      rw (v .goes ∙ round-end sameKey (decode list) i j done (omega (arith, length-decode list)))
+      (λ t. record { next = i + 1; cuts = done; list = sym (v .paid .held .coded) t })
 
   pub round-room : j < list .count → Held list × ((i < list .count) × (j < list .count))
   round-room l = (v .paid .held, (omega (arith, v .past), l))
@@ -90,8 +81,11 @@ module _ (g : Orderings) (i cuts : ℕ) (list : Orderings) (done j : ℕ) (v : R
     inside : j < length (decode list)
     inside = omega (arith, length-decode list)
 
-    step : Step sameKey (decode list) (decode list) 0 d
+    step : Cuts sameKey (decode list) (d .orderings) (0 + d .cuts)
     step = compared-step sameKey (decode list) (decode list) i j 0 begun (omega (arith, v .past, inside)) inside (λ q. absurd (omega (arith, v .past)))
+
+    left : Left (decode list) 0 d
+    left = compared-left sameKey (decode list) i j (omega (arith, v .past, inside)) inside
 
     way-is : r .way ≡ wayNumber (d .way)
     unfolding contestOf
@@ -109,10 +103,10 @@ module _ (g : Orderings) (i cuts : ℕ) (list : Orderings) (done j : ℕ) (v : R
     orderings-is = ap decode list-is ∙ decode-encode (d .orderings)
 
     held : Held (r .list)
-    held = subst Held (sym list-is) (good-held (d .orderings) (cuts-good (step .trace) (v .paid .held .good)))
+    held = subst Held (sym list-is) (good-held (d .orderings) (cuts-good (step) (v .paid .held .good)))
 
     paid : Paid (r .list) (done + r .cuts)
-    paid = record { held = held; paid = rw orderings-is (omega (arith, cuts-is, cuts-keys (step .trace), v .paid .paid)) }
+    paid = record { held = held; paid = rw orderings-is (omega (arith, cuts-is, cuts-keys (step), v .paid .paid)) }
 
     pub round-cuts : done + r .cuts ≤ 512
     round-cuts = omega (arith, paid .paid)
@@ -124,7 +118,7 @@ module _ (g : Orderings) (i cuts : ℕ) (list : Orderings) (done j : ℕ) (v : R
     unfolding turnOf
     round-stops w =
         (λ t. record { next = i; cuts = done + cuts-is t; list = list-is t })
-        ∙ ap turnOf (sym (v .goes ∙ turn-anew sameKey (decode list) i j done inside (d .way) refl (sym way-is ∙ w)))
+        ∙ ap turnOf (sym (v .goes ∙ turn-anew sameKey (decode list) i j done (v .past) inside (d .way) refl (sym way-is ∙ w)))
 
     module _ (w : r .way ≡ 2 → ⊥) (next : ℕ) (q : next ≡ nextOf (r .way) j) where
       next-is : next ≡ nextOf (wayNumber (d .way)) j
@@ -135,10 +129,10 @@ module _ (g : Orderings) (i cuts : ℕ) (list : Orderings) (done j : ℕ) (v : R
           record {
             paid = paid;
             past = rw q (next-past (r .way) i j (v .past));
-            goes = rw (orderings-is, cuts-is, next-is) (v .goes ∙ turn-on sameKey (decode list) i j done inside (d .way) refl (step .fewer) (λ x. w (way-is ∙ x)));
+            goes = rw (orderings-is, cuts-is, next-is) (v .goes ∙ turn-on sameKey (decode list) i j done (v .past) inside (d .way) refl (λ x. w (way-is ∙ x)));
           }
 
       pub round-less : r .list .count - next < list .count - j
       round-less =
           let k : r .list .count ≡ length (d .orderings) = sym (length-decode (r .list)) ∙ ap length orderings-is in
-          omega (arith, next-less (d .way) (length (d .orderings)) (length (decode list)) j (step .fewer) inside, next-is, length-decode list)
+          omega (arith, next-less (d .way) (length (d .orderings)) (length (decode list)) j (left .fewer) inside, next-is, length-decode list)
