@@ -33,6 +33,7 @@ unfoldable mutual
   Small (lit v) = Unit {0}
   Small (op label children) = (size children ≤ 8) × AllSmall children
 
+  -- each of them is such
   pub AllSmall : Expressions → Type 0
   AllSmall ∅ = Unit {0}
   AllSmall (e ▹ es) = Small e × AllSmall es
@@ -67,6 +68,7 @@ unfoldable mutual
   addExpression (lit v) ns = add (literal v) ns
   addExpression (op label children) ns = andThen (addExpressions children ns) (λ ks ms. add (operation label ks) ms)
 
+  -- of each, one after the other
   pub addExpressions : Expressions → List Node → Placed (List ℕ)
   addExpressions ∅ ns = placed [] ns
   addExpressions (e ▹ es) ns = andThen (addExpression e ns) (λ k ms. andThen (addExpressions es ms) (λ ks os. placed (k ∷ ks) os))

@@ -27,13 +27,15 @@ unfoldable pub answered : List Node → Placed ℕ → Outcome
 answered ns (placed i ms) = (Number i, ms)
 answered ns full = (Refused 3, ns)
 
--- add a column, a literal, an operation
+-- add a column
 unfoldable pub addColumn : ℕ → ℕ → List Node → Outcome
 addColumn name index ns = answered ns (add (column name index) ns)
 
+-- add a literal
 unfoldable pub addLiteral : ℕ → List Node → Outcome
 addLiteral value ns = answered ns (add (literal value) ns)
 
+-- add an operation: 1 where a child is unknown, 2 where there are more than 8 children
 unfoldable pub addOperation : ℕ → List ℕ → List Node → Outcome
 addOperation label children ns =
     if each (λ k. ltb (getD children k 0) (length ns)) (length children) then
@@ -49,12 +51,13 @@ shiftedOutcome e offset ns =
 unfoldable pub addOffset : ℕ → ℤ → List Node → Outcome
 addOffset e offset ns = if ltb e (length ns) then shiftedOutcome e offset ns else (Refused 1, ns)
 
--- read a node
+-- a node as the answer of a call that reads it
 unfoldable pub readOf : Node → Read
 readOf (column name index) = Column name index
 readOf (literal value) = Literal value
 readOf (operation label children) = Operation label (length children)
 
+-- read the node with a number: 1 where it is unknown
 unfoldable pub readNode : ℕ → List Node → Read
 readNode e ns = if ltb e (length ns) then readOf (nodeAt ns e) else Read-Refused 1
 
@@ -81,17 +84,19 @@ lent call cells = onLent (Refused 11, cells) (λ ns. inCells (call ns)) cells
 abbrev pub checked : List ℕ → ℕ
 checked cells = onLent 11 (λ ns. 0) cells
 
--- document 01's number of each answer: 0 is done
+-- document 01's number of each answer, 0 is done: of a call that adds
 abbrev pub addedNumber : Added → ℕ
 addedNumber (Number i) = 0
 addedNumber (Refused k) = k
 
+-- the same of a node that was read
 abbrev pub readNumber : Read → ℕ
 readNumber (Column name index) = 0
 readNumber (Literal value) = 0
 readNumber (Operation label children) = 0
 readNumber (Read-Refused k) = k
 
+-- and of a child that was read
 abbrev pub childNumber : Child → ℕ
 childNumber (Child-Number i) = 0
 childNumber Absent = 0

@@ -5,11 +5,13 @@ use lib.ListN.{getD}
 use Rattle.arena.specs.Node.{Node, column, literal, operation, made}
 
 mutual
+  -- an expression: a column, a literal, or an operation over expressions
   pub data Expression : Type 0 where
     col : (name index : ℕ) → Expression
     lit : (value : ℕ) → Expression
     op : (label : ℕ) (children : Expressions) → Expression
 
+  -- expressions, one after the other
   pub data Expressions : Type 0 where
     ∅ : Expressions
     _▹_ : Expression → Expressions → Expressions

@@ -7,6 +7,7 @@ use lib.Dec.{eqb}
 use lib.ListN.{length, getD}
 use Rattle.laws.specs.Lists.{sameNumbers}
 
+-- a node; document 01's three kinds
 pub data Node : Type 0 where
   column : (name index : ℕ) → Node
   literal : (value : ℕ) → Node

@@ -23,6 +23,7 @@ unfoldable mutual
   canMove to (lit v) = true
   canMove to (op label children) = allMove to children
 
+  -- every column of each of them can move
   pub allMove : (ℕ → Option ℕ) → Expressions → Bool
   allMove to ∅ = true
   allMove to (e ▹ es) = canMove to e && allMove to es
@@ -34,6 +35,7 @@ unfoldable mutual
   shifted to (lit v) = lit v
   shifted to (op label children) = op label (allShifted to children)
 
+  -- each of them shifted
   pub allShifted : (ℕ → Option ℕ) → Expressions → Expressions
   allShifted to ∅ = ∅
   allShifted to (e ▹ es) = shifted to e ▹ allShifted to es

@@ -19,6 +19,7 @@ unfoldable mutual
   value (lit v) m row = m .literal v
   value (op label children) m row = m .operation label (values children m row)
 
+  -- the value of each of them, in order
   pub values : {A : Type 0} → Expressions → Meaning A → Row A → List A
   values ∅ m row = []
   values (e ▹ es) m row = value e m row ∷ values es m row

@@ -84,10 +84,12 @@ answerNumber Yes = 0
 answerNumber No = 0
 answerNumber (Answer-Refused k) = k
 
+-- of the constant question
 abbrev pub constantIsNumber : ConstantIs → ℕ
 constantIsNumber (Is mark) = 0
 constantIsNumber (Constant-Refused k) = k
 
+-- of the question for a class
 abbrev pub classIsNumber : ClassIs → ℕ
 classIsNumber (Class-At place size first mark) = 0
 classIsNumber NoClass = 0
@@ -99,10 +101,12 @@ answerValues Yes = 1 ∷ []
 answerValues No = 0 ∷ []
 answerValues (Answer-Refused k) = []
 
+-- of the constant question
 abbrev pub constantIsValues : ConstantIs → List ℕ
 constantIsValues (Is mark) = mark .flavour ∷ mark .value ∷ []
 constantIsValues (Constant-Refused k) = []
 
+-- of the question for a class
 abbrev pub classIsValues : ClassIs → List ℕ
 classIsValues (Class-At place size first mark) = place ∷ size ∷ first ∷ mark .flavour ∷ mark .value ∷ []
 classIsValues NoClass = []

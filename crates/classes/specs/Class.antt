@@ -13,6 +13,7 @@ pub data Constant : Type 0 where
   unknown : Constant
   known : (value : ℕ) → Constant
 
+-- a class: its members in order, and its constant
 pub record Class : Type 0 where
   pub members : List ℕ
   pub constant : Constant

@@ -52,13 +52,14 @@ pair ns a b = if eqb a b then single ns a else merged (single ns a) (single ns b
 unfoldable pub joined : List Class → ℕ → ℕ → List Class
 joined cs i j = mergedAt (removed cs (max i j)) (min i j) (classAt cs (max i j))
 
--- an equal condition: whether a new class was made, and the classes afterwards
+-- an equal condition, where the classes of both are known: whether a new class was made, and the classes afterwards
 unfoldable pub equated : List Node → List Class → ℕ → ℕ → Option ℕ → Option ℕ → Bool × List Class
 equated ns cs a b none none = (true, cs ++ (pair ns a b ∷ []))
 equated ns cs a b none (some j) = (false, mergedAt cs j (single ns a))
 equated ns cs a b (some i) none = (false, mergedAt cs i (single ns b))
 equated ns cs a b (some i) (some j) = (false, if eqb i j then cs else joined cs i j)
 
+-- an equal condition of two expressions, by the classes that they are in
 unfoldable pub equalCondition : List Node → List Class → ℕ → ℕ → Bool × List Class
 equalCondition ns cs a b = equated ns cs a b (classOf cs a) (classOf cs b)
 
@@ -79,11 +80,12 @@ unfoldable pub constantFor : List Class → ℕ → Constant → Option ℕ → 
 constantFor cs e c (some i) = mergedAt cs i (record { members = e ∷ []; constant = noConstant })
 constantFor cs e c none = cs ++ (record { members = e ∷ []; constant = c } ∷ [])
 
--- a constant; `two` says whether two unknown uniforms count as equal
+-- a constant, where the expression's class is known; `two` says whether two unknown uniforms count as equal
 unfoldable pub constantIn : Bool → List Class → ℕ → Constant → Option ℕ → List Class
 constantIn two cs e c (some i) = constantAt cs i c
 constantIn two cs e c none = constantFor cs e c (classLike two cs c)
 
+-- a constant that is said of an expression, by the class that it is in
 unfoldable pub withConstant : Bool → List Node → List Class → ℕ → Constant → List Class
 withConstant two ns cs e said = constantIn two cs e (given ns e said) (classOf cs e)
 
@@ -93,6 +95,7 @@ pub data Cleared : Type 0 where
   dropped : Cleared
   gone : Cleared
 
+-- which of them a class comes to: only a heterogeneous constant is dropped
 unfoldable pub clearedBy : Class → Cleared
 clearedBy c = clearedOf (c .constant)
   where

@@ -82,12 +82,13 @@ pub record Answered (cells places seen : List ℕ) (a b : ℕ) (answer : Bool) :
 abbrev pub pairUp : List ℕ → List ℕ → Bool
 pairUp js ks = ltb 0 (length js) && eqb (length js) (length ks)
 
--- what the walk over the n children of a and of b asks and promises
+-- what the walk over the n children of a and of b asks
 pub record AskedAll (cells places seen : List ℕ) (a b n : ℕ) : Type 0 where
   pub asked : Asked cells places seen a b
   pub left : length (childNumbers (nodeAt (nodes cells) a)) ≡ n
   pub right : length (childNumbers (nodeAt (nodes cells) b)) ≡ n
 
+-- what it promises
 pub record AnsweredAll (cells places seen : List ℕ) (a b n : ℕ) (answer : Bool) : Type 0 where
   pub is : answer ≡ each (λ k. equalBy (nodes cells) (samePlace places) (getD (childNumbers (nodeAt (nodes cells) a)) k 0) (getD (childNumbers (nodeAt (nodes cells) b)) k 0)) n
   pub told : Told (nodes cells) places seen
@@ -114,11 +115,12 @@ pub record AnsweredConstant (cells marks seen : List ℕ) (e : ℕ) (answer : Bo
   pub is : answer ≡ isConstant (constantBy (nodes cells) (markedBy marks) e)
   pub told : ToldConstant (nodes cells) marks seen
 
--- what the walk over the n children of e asks and promises
+-- what the walk over the n children of e asks
 pub record AskedConstants (cells marks seen : List ℕ) (e n : ℕ) : Type 0 where
   pub asked : AskedConstant cells marks seen e
   pub children : length (childNumbers (nodeAt (nodes cells) e)) ≡ n
 
+-- what it promises
 pub record AnsweredConstants (cells marks seen : List ℕ) (e n : ℕ) (answer : Bool) : Type 0 where
   pub is : answer ≡ each (λ k. isConstant (constantBy (nodes cells) (markedBy marks) (getD (childNumbers (nodeAt (nodes cells) e)) k 0))) n
   pub told : ToldConstant (nodes cells) marks seen

@@ -15,13 +15,14 @@ use Rattle.classes.specs.Good.{flat}
 use Rattle.classes.specs.declared.Group.{Group}
 use Rattle.classes.specs.declared.Mark.{Mark}
 
--- a constant as a flavour and a value
+-- the flavour of a constant
 unfoldable pub flavourOf : Constant → ℕ
 flavourOf noConstant = 0
 flavourOf heterogeneous = 1
 flavourOf unknown = 2
 flavourOf (known v) = 3
 
+-- the value of a constant; 0 where none is known
 unfoldable pub valueOf : Constant → ℕ
 valueOf noConstant = 0
 valueOf heterogeneous = 0
@@ -85,6 +86,7 @@ inSet g = ltb 0 (g .limit) && leb (g .limit) 256 && each (λ j. not (ltb j (g .c
 unfoldable pub fresh : List ℕ → ℕ → Bool
 fresh ms k = each (λ i. not (eqb (getD ms i 0) (getD ms k 0))) k
 
+-- a node is a literal
 unfoldable pub isLiteral : Node → Bool
 isLiteral (column name index) = false
 isLiteral (literal value) = true

@@ -44,6 +44,7 @@ classConstant cs e = constantOf (classOf cs e)
     constantOf none = noConstant
     constantOf (some i) = classAt cs i .constant
 
+-- there is a constant
 unfoldable pub isConstant : Constant → Bool
 isConstant noConstant = false
 isConstant heterogeneous = true

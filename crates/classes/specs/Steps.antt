@@ -10,12 +10,13 @@ use Rattle.arena.specs.Node.{Node}
 use Rattle.classes.specs.Class.{Constant, Class}
 use Rattle.classes.specs.Group.{total, equalCondition, withConstant, cleared}
 
--- the refusal's number or 0, the answer, and the classes afterwards
+-- what a call came to: the refusal's number or 0, the answer, and the classes afterwards
 pub record Outcome : Type 0 where
   pub number : ℕ
   pub answer : Bool
   pub classes : List Class
 
+-- a refusal: the classes are as they were
 unfoldable pub refused : ℕ → List Class → Outcome
 refused k cs = record { number = k; answer = false; classes = cs }
 

@@ -30,6 +30,7 @@ unfoldable mutual
   sameExpression (op l es) (lit w) = false
   sameExpression (op l es) (op m fs) = eqb l m && sameExpressions es fs
 
+  -- equally many, and pairwise equal
   pub sameExpressions : Expressions → Expressions → Bool
   sameExpressions ∅ ∅ = true
   sameExpressions ∅ (f ▹ fs) = false

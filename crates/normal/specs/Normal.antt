@@ -27,6 +27,7 @@ unfoldable mutual
   numberOf ns (lit v) = find (literal v) ns
   numberOf ns (op label children) = operationOver ns label (numbersOf ns children)
 
+  -- the numbers of expressions that are all in the arena
   pub numbersOf : List Node → Expressions → Option (List ℕ)
   numbersOf ns ∅ = some []
   numbersOf ns (e ▹ es) = bothFound (numberOf ns e) (numbersOf ns es)
@@ -45,6 +46,7 @@ unfoldable pub replacedBy : List Node → (ℕ → ℕ) → Expression → Optio
 replacedBy ns to x none = x
 replacedBy ns to x (some e) = expressionAt ns (to e)
 
+-- an expression is looked up, and replaced if it is in the arena
 unfoldable pub replaced : List Node → (ℕ → ℕ) → Expression → Expression
 replaced ns to x = replacedBy ns to x (numberOf ns x)
 
@@ -55,6 +57,7 @@ unfoldable mutual
   normalBy ns to (lit v) = replaced ns to (lit v)
   normalBy ns to (op label children) = replaced ns to (op label (normalsBy ns to children))
 
+  -- the normal form of each of them
   pub normalsBy : List Node → (ℕ → ℕ) → Expressions → Expressions
   normalsBy ns to ∅ = ∅
   normalsBy ns to (e ▹ es) = normalBy ns to e ▹ normalsBy ns to es
@@ -63,5 +66,6 @@ unfoldable mutual
 abbrev pub normal : List Node → List Class → Expression → Expression
 normal ns cs x = normalBy ns (firstOf cs) x
 
+-- the normal forms of expressions, each by the same group and arena
 abbrev pub normals : List Node → List Class → Expressions → Expressions
 normals ns cs xs = normalsBy ns (firstOf cs) xs

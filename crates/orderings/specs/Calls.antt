@@ -47,10 +47,11 @@ askList refusedBy call cells g = if eqb (listNumber cells g) 0 then call (decode
 unfoldable pub noOutput : ℕ → Output
 noOutput k = record { number = k; ordering = row [] }
 
--- the joined ordering of all: 5 where it has more than 16 keys
+-- the joined ordering as an answer: 5 where it has more than 16 keys
 unfoldable pub outputOf : List ℕ → Output
 outputOf o = if leb (length o) 16 then record { number = 0; ordering = row o } else noOutput 5
 
+-- the call on lent cells and a lent list
 abbrev pub outputAnswer : List ℕ → Orderings → Output
 outputAnswer cells g = askList noOutput (λ os. outputOf (outputOrdering os)) cells g
 
@@ -113,11 +114,12 @@ extendAnswer cells g numbers =
     if eqb (extendNumber cells g numbers) 0 then reducedList g (decode g ++ listsLent numbers)
     else record { number = extendNumber cells g numbers; list = g }
 
--- a shifted list and the arena afterwards: 10 where a column leaves 0..65,535, 3 where the missing nodes don't fit, and then list and arena are as they were
+-- a shifted list and the arena afterwards: 3 where the missing nodes don't fit, and then list and arena are as they were
 unfoldable pub offsetBy : Orderings → List Node → Placed (List (List ℕ)) → Listed × List Node
 offsetBy g ns (placed os ms) = (record { number = 0; list = encode os }, ms)
 offsetBy g ns full = (record { number = 3; list = g }, ns)
 
+-- a list shifted by an offset: 10 where a column leaves 0..65,535
 unfoldable pub offsetList : ℤ → Orderings → List Node → Listed × List Node
 offsetList offset g ns =
     if listsMove (moved offset) ns (decode g) then offsetBy g ns (shiftedLists (moved offset) ns (decode g) ns)
@@ -129,11 +131,12 @@ offsetAnswer offset cells g =
     if eqb (listNumber cells g) 0 then inCells (offsetList offset g (nodes cells))
     else (record { number = listNumber cells g; list = g }, cells)
 
--- the options of an expression that leads an ordering: 1 where it is unknown
+-- the options that were found, or none
 unfoldable pub optionsAre : Option ℕ → OptionsAre
 optionsAre none = Absent
 optionsAre (some options) = Are options
 
+-- the options of an expression that leads an ordering: 1 where it is unknown
 unfoldable pub optionsAnswer : ℕ → ℕ → List (List ℕ) → OptionsAre
 optionsAnswer n e os = if ltb e n then optionsAre (getOptions os e) else Options-Refused 1
 
@@ -147,6 +150,7 @@ optionsNumber (Are options) = 0
 optionsNumber Absent = 0
 optionsNumber (Options-Refused k) = k
 
+-- of the question whether an expression is partly constant
 abbrev pub partialNumber : PartialIs → ℕ
 partialNumber Yes = 0
 partialNumber No = 0

@@ -14,6 +14,7 @@ unfoldable pub keysMove : (ℕ → Option ℕ) → List Node → List ℕ → Bo
 keysMove to ns [] = true
 keysMove to ns (k ∷ ks) = canMove to (expressionAt ns (exprOf k)) && keysMove to ns ks
 
+-- every key's expression of every ordering can move
 unfoldable pub listsMove : (ℕ → Option ℕ) → List Node → List (List ℕ) → Bool
 listsMove to ns [] = true
 listsMove to ns (o ∷ os) = keysMove to ns o && listsMove to ns os
