@@ -8,7 +8,7 @@ use borrow.Author.Tests.{eq-eqb, ne-eqb}
 use lib.ListN.{length, getD, set}
 use lib.Seq.{map-set-same}
 use Rattle.classes.specs.Class.{Constant, noConstant, heterogeneous, unknown, known, Class}
-use Rattle.classes.specs.Group.{classAt, removed, length-removed, kept, dropped, gone, clearedBy, clearFrom, clearRest, clear-end, clear-kept, clear-dropped, clear-gone, cleared}
+use Rattle.classes.specs.Group.{classAt, removed, length-removed, kept, dropped, gone, clearedBy, clearRest, clear-end, clear-kept, clear-dropped, clear-gone, cleared}
 use Rattle.classes.specs.Steps.{clear}
 use Rattle.classes.specs.Layout.{flavourOf, valueOf, padded, encode, decode}
 use Rattle.classes.specs.Calls.{changed}
@@ -50,12 +50,7 @@ turn-dropped c e l = rw (e, ne-eqb (length (c .members)) 1 l)
 abbrev pub Stepped : Group → ℕ → Bool → Group → ℕ → Bool → Type 0
 Stepped g i b h n d =
     ((Coded h × (h .limit ≡ g .limit)) × ((n ≤ h .count) × (h .count - n < g .count - i)))
-    × (clearFrom (g .count - i) i b (decode g) ≡ clearFrom (h .count - n) n d (decode h))
-
--- the classes from a place on are as many as the struct says
-count-rest : (g : Group) (i : ℕ) (b : Bool) → clearFrom (g .count - i) i b (decode g) ≡ clearRest i b (decode g)
-unfolding clearRest
-count-rest g i b = ap (λ (n : ℕ). clearFrom (n - i) i b (decode g)) (sym (length-decode g))
+    × (clearRest i b (decode g) ≡ clearRest n d (decode h))
 
 module _ (g : Group) (v : Coded g) (i : ℕ) (l : i < g .count) (b : Bool) where
   abbrev here : Class
@@ -68,7 +63,7 @@ module _ (g : Group) (v : Coded g) (i : ℕ) (l : i < g .count) (b : Bool) where
   pub step-kept : (getD (g .flavours) i 0 ≡ 1 → ⊥) → Stepped g i b g (i + 1) b
   step-kept n = (
     ((v, refl), (omega arith, omega arith)),
-    count-rest g i b ∙ clear-kept i b (decode g) inside (turn-kept here (λ z. n (flavour-is g v i ∙ z))) ∙ sym (count-rest g (i + 1) b),
+    clear-kept i b (decode g) inside (turn-kept here (λ z. n (flavour-is g v i ∙ z))),
   )
 
   module _ (one : getD (g .flavours) i 0 ≡ 1) where
@@ -91,8 +86,8 @@ module _ (g : Group) (v : Coded g) (i : ℕ) (l : i < g .count) (b : Bool) where
       pub step-gone : Stepped g i b h i true
       step-gone = (
         ((coded-gone, built-limit (g .limit) rest h p), (omega (arith, count-gone), omega (arith, count-gone))),
-        count-rest g i b ∙ clear-gone i b (decode g) inside (turn-gone here varied (sym (size-is g v i) ∙ size))
-            ∙ ap (λ (cs : List Class). clearRest i true cs) (sym (built-classes (g .limit) rest h p)) ∙ sym (count-rest h i true),
+        clear-gone i b (decode g) inside (turn-gone here varied (sym (size-is g v i) ∙ size))
+            ∙ ap (λ (cs : List Class). clearRest i true cs) (sym (built-classes (g .limit) rest h p)),
       )
 
     -- a larger one loses its constant
@@ -121,8 +116,8 @@ module _ (g : Group) (v : Coded g) (i : ℕ) (l : i < g .count) (b : Bool) where
       step-lost : Stepped g i b h (i + 1) true
       step-lost = (
         ((coded-dropped, built-limit (g .limit) lost h p), (omega (arith, count-dropped), omega (arith, count-dropped))),
-        count-rest g i b ∙ clear-dropped i b (decode g) inside (turn-dropped here varied (λ z. more (size-is g v i ∙ z)))
-            ∙ ap (λ (cs : List Class). clearRest (i + 1) true cs) (sym (built-classes (g .limit) lost h p)) ∙ sym (count-rest h (i + 1) true),
+        clear-dropped i b (decode g) inside (turn-dropped here varied (λ z. more (size-is g v i ∙ z)))
+            ∙ ap (λ (cs : List Class). clearRest (i + 1) true cs) (sym (built-classes (g .limit) lost h p)),
       )
 
     pub step-dropped : (getD (g .sizes) i 0 ≡ 1 → ⊥)
@@ -130,14 +125,14 @@ module _ (g : Group) (v : Coded g) (i : ℕ) (l : i < g .count) (b : Bool) where
     step-dropped more = step-lost more _ (constant-put g v i noConstant (set (g .flavours) i 0) (g .values) flavours-lost values-lost)
 
 -- clearing begins at the first class
-pub clear-begins : (g : Group) → cleared (decode g) ≡ clearFrom (g .count - 0) 0 false (decode g)
+pub clear-begins : (g : Group) → cleared (decode g) ≡ clearRest 0 false (decode g)
 unfolding cleared
-clear-begins g = sym (count-rest g 0 false)
+clear-begins g = refl
 
 -- and ends after the last
-pub clear-ends : (g h : Group) (i : ℕ) (b : Bool) → Coded h → h .limit ≡ g .limit → h .count ≤ i → cleared (decode g) ≡ clearFrom (h .count - i) i b (decode h)
+pub clear-ends : (g h : Group) (i : ℕ) (b : Bool) → Coded h → h .limit ≡ g .limit → h .count ≤ i → cleared (decode g) ≡ clearRest i b (decode h)
     → _≡_ {A = Changed} (record { number = 0; answer = b; group = h }) (changed (g .limit) (clear (decode g)))
 unfolding changed clear
 clear-ends g h i b v e l p =
-    let q : cleared (decode g) ≡ (b, decode h) = p ∙ count-rest h i b ∙ clear-end i b (decode h) (omega (arith, length-decode h)) in
+    let q : cleared (decode g) ≡ (b, decode h) = p ∙ clear-end i b (decode h) (omega (arith, length-decode h)) in
     rw (q, ← e) (λ t. record { number = 0; answer = b; group = sym (v .coded) t })

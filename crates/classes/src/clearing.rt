@@ -4,7 +4,7 @@ use crate::Group;
 use crate::building::remove_class_at_idx;
 ghost use mathlib.Core.Path.{_≡_};
 ghost use Prim.Native.Nat.{_≤_, _<_, _+_, _-_};
-ghost use Rattle.classes.specs.Group.{cleared, clearFrom};
+ghost use Rattle.classes.specs.Group.{clearRest};
 ghost use Rattle.classes.specs.Layout.{encode, decode};
 ghost use Rattle.classes.specs.Steps.{clear};
 ghost use Rattle.classes.specs.Calls.{changed};
@@ -21,7 +21,7 @@ pub struct Clearing {
 // loses its constant; any other is passed.
 fn clear_step(g: Group, i: usize, changed: bool) -> Clearing
     requires { ⌜ Coded g × (i < g .count) ⌝ }
-    ensures { λ r. ⌜ ((Coded (r .group) × (r .group .limit ≡ g .limit)) × ((r .next ≤ r .group .count) × (r .group .count - r .next < g .count - i))) × (clearFrom (g .count - i) i changed (decode g) ≡ clearFrom (r .group .count - r .next) (r .next) (r .changed) (decode (r .group))) ⌝ }
+    ensures { λ r. ⌜ ((Coded (r .group) × (r .group .limit ≡ g .limit)) × ((r .next ≤ r .group .count) × (r .group .count - r .next < g .count - i))) × (clearRest i changed (decode g) ≡ clearRest (r .next) (r .changed) (decode (r .group))) ⌝ }
 {
     if g.flavours[i] != 1 {
         return Clearing {

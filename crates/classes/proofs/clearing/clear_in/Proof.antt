@@ -2,7 +2,7 @@
 use Prim.Native.Nat.{_-_, _≤_}
 use mathlib.Core.Path.{_≡_, refl, _∙_}
 use native.Mathlib.Omega.{arith}
-use Rattle.classes.specs.Group.{cleared, clearFrom}
+use Rattle.classes.specs.Group.{cleared, clearRest}
 use Rattle.classes.specs.Layout.{decode}
 use Rattle.classes.specs.Inner.{Coded}
 use Rattle.classes.proofs.ClearLaws.{clear-begins, clear-ends}
@@ -10,7 +10,7 @@ use Rattle.classes.proofs.clearing.clear_in.Statement.{statement}
 use Rattle.classes.proofs.clearing.clear_in.Tie as tie
 
 abbrev Inv-loop : tie.InvT-loop
-Inv-loop g₀ i₀ any₀ g i any = ((Coded g × (g .limit ≡ g₀ .limit)) × (i ≤ g .count)) × (cleared (decode g₀) ≡ clearFrom (g .count - i) i any (decode g))
+Inv-loop g₀ i₀ any₀ g i any = ((Coded g × (g .limit ≡ g₀ .limit)) × (i ≤ g .count)) × (cleared (decode g₀) ≡ clearRest i any (decode g))
 
 abbrev μ-loop : tie.MeasureT-loop
 μ-loop g₀ i₀ any₀ g i any = g .count - i
