@@ -16,8 +16,9 @@ use Rattle.arena.proofs.Layouts.{length-decode, coded-cells}
 use Rattle.classes.specs.Layout.{decode, inSet, lawfulGroup, membersInside}
 use Rattle.classes.specs.Calls.{groupNumber}
 use Rattle.classes.specs.declared.Group.{Group}
-use Rattle.normal.specs.Keys.{exprsOf, keysOf, normalForms}
-use Rattle.normal.specs.Calls.{unsorted, sortedBy, normalizeSortExprs, optionsKnown, keysNumber, normalizedKeys}
+use Rattle.normal.specs.Keys.{exprsOf, normalForms}
+use Rattle.normal.specs.Layout.{keysOf, unsorted, optionsKnown}
+use Rattle.normal.specs.Calls.{sortedBy, normalizeSortExprs, keysNumber, normalizedKeys}
 use Rattle.normal.specs.Inner.{KeysKnown}
 use Rattle.normal.specs.declared.Sorted.{Sorted}
 use Rattle.normal.proofs.Calling.{checked-done, checked-refused}

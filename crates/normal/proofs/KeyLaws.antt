@@ -18,8 +18,8 @@ use Rattle.classes.specs.Questions.{exprConstant}
 use Rattle.classes.specs.Layout.{padded}
 use Rattle.classes.proofs.Checks.{literal-cell}
 use Rattle.classes.proofs.Codec.{snoc-padded}
-use Rattle.normal.specs.Keys.{Key, exprsOf, keysOf, withExprs, ordersNothing, sorting}
-use Rattle.normal.specs.Calls.{packed, sorted}
+use Rattle.normal.specs.Keys.{Key, exprsOf, withExprs, ordersNothing, sorting}
+use Rattle.normal.specs.Layout.{keysOf, packed, sorted}
 use Rattle.normal.specs.Inner.{uniformBy, pushed, keptKey, without}
 use Rattle.normal.specs.declared.Sorted.{Sorted}
 

@@ -27,8 +27,9 @@ use Rattle.classes.specs.Calls.{groupNumber}
 use Rattle.classes.specs.declared.Group.{Group}
 use Rattle.classes.proofs.HeldLaws.{number-lawful, number-fit}
 use Rattle.normal.specs.Normal.{normal, normals}
-use Rattle.normal.specs.Keys.{Key, exprsOf, keysOf, normalForms, withExprs, sorting}
-use Rattle.normal.specs.Calls.{onChecked, normalizeExpr, normalized, keyIs, normalizeSortExpr, keyNumber, normalizedKey, sorted, unsorted, sortedBy, normalizeSortExprs, optionsKnown, keysNumber, normalizedKeys, keyIsNumber}
+use Rattle.normal.specs.Keys.{Key, exprsOf, normalForms, withExprs, sorting}
+use Rattle.normal.specs.Layout.{keysOf, sorted, unsorted, optionsKnown}
+use Rattle.normal.specs.Calls.{onChecked, normalizeExpr, normalized, keyIs, normalizeSortExpr, keyNumber, normalizedKey, sortedBy, normalizeSortExprs, keysNumber, normalizedKeys, keyIsNumber}
 use Rattle.normal.specs.declared.KeyIs.the-variants.{Refused as Key-Refused}
 use Rattle.normal.specs.declared.Sorted.{Sorted}
 use Rattle.normal.proofs.Calling.{checked-done, checked-refused}

@@ -20,8 +20,9 @@ use Rattle.arena.proofs.Walking.{memo-none}
 use Rattle.classes.specs.Layout.{decode}
 use Rattle.classes.specs.Inner.{Held, Marked}
 use Rattle.classes.specs.declared.Group.{Group}
-use Rattle.normal.specs.Keys.{exprsOf, keysOf, withExprs, normalForms, sorting}
-use Rattle.normal.specs.Calls.{sorted, unsorted, sortedBy}
+use Rattle.normal.specs.Keys.{exprsOf, withExprs, normalForms, sorting}
+use Rattle.normal.specs.Layout.{keysOf, sorted, unsorted}
+use Rattle.normal.specs.Calls.{sortedBy}
 use Rattle.normal.specs.Inner.{Firsts, rewriting, KeysKnown, ReadyKeys, uniformBy, keptOf, toldSorted, SortedAll}
 use Rattle.normal.specs.declared.Sorted.{Sorted}
 use Rattle.normal.proofs.Calling.{table-inside, rewriting-normals, whole-ready}

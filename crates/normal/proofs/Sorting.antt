@@ -20,8 +20,8 @@ use Rattle.arena.proofs.Nodes.{extends-none, extends-both, extends-longer}
 use Rattle.arena.proofs.Trees.{expression-kept}
 use Rattle.arena.proofs.Layouts.{length-decode}
 use Rattle.arena.proofs.Walking.{prefixed, prefixed-none, prefixed-more, grew-number}
-use Rattle.normal.specs.Keys.{Key, exprsOf, keysOf, withExprs}
-use Rattle.normal.specs.Calls.{sorted, unsorted}
+use Rattle.normal.specs.Keys.{Key, exprsOf, withExprs}
+use Rattle.normal.specs.Layout.{keysOf, sorted, unsorted}
 use Rattle.normal.specs.Inner.{rewriting, Ready, ReadyKeys, uniformBy, pushed, keptKey, without, keptOf, toldSorted, SortedAll}
 use Rattle.normal.specs.declared.Sorted.{Sorted}
 use Rattle.normal.proofs.Steps.{same-rewriting, same-walked, ready-small}

@@ -1,8 +1,8 @@
 -- What each public call answers and what it leaves in the arena, over the lent cells and the struct, in document 01's order of refusals.
 -- A refusal is a case that hands back what came in.
-use Prim.Native.Nat.{ℕ, _+_, _*_, _/_, _%_}
-use mathlib.Core.Bool.{Bool, _&&_}
-use mathlib.Core.List.{List, [], map}
+use Prim.Native.Nat.{ℕ}
+use mathlib.Core.Bool.{_&&_}
+use mathlib.Core.List.{List}
 use lib.Dec.{eqb, ltb, leb}
 use lib.ListN.{length, getD}
 use Rattle.laws.specs.Tests.{if_then_else_, each}
@@ -14,11 +14,12 @@ use Rattle.arena.specs.Calls.{answered, inCells}
 use Rattle.arena.specs.declared.Added.{Added}
 use Rattle.arena.specs.declared.Added.the-variants.{Number, Refused}
 use Rattle.classes.specs.Class.{Class}
-use Rattle.classes.specs.Layout.{decode, inSet, padded}
+use Rattle.classes.specs.Layout.{decode, inSet}
 use Rattle.classes.specs.Calls.{groupNumber}
 use Rattle.classes.specs.declared.Group.{Group}
 use Rattle.normal.specs.Normal.{normal}
-use Rattle.normal.specs.Keys.{Key, exprsOf, keysOf, normalForms, withExprs, sorting}
+use Rattle.normal.specs.Keys.{Key, exprsOf, normalForms, withExprs, sorting}
+use Rattle.normal.specs.Layout.{keysOf, optionsKnown, noneCut, sorted, unsorted}
 use Rattle.normal.specs.declared.KeyIs.{KeyIs}
 use Rattle.normal.specs.declared.KeyIs.the-variants.{Is, Refused as Key-Refused}
 use Rattle.normal.specs.declared.Sorted.{Sorted}
@@ -54,18 +55,6 @@ keyNumber options cells g = if leb options 3 then groupNumber cells g else 12
 abbrev pub normalizedKey : ℕ → ℕ → List ℕ → Group → KeyIs × List ℕ
 normalizedKey e options cells g = onChecked (keyNumber options cells g) Key-Refused (normalizeSortExpr e options) cells g
 
--- a key as one number
-unfoldable pub packed : Key → ℕ
-packed k = k .expr * 4 + k .options
-
--- keys as the struct that is handed back; unused places are 0
-unfoldable pub sorted : ℕ → List Key → Sorted
-sorted number ks = record { number = number; size = length ks; keys = padded 16 (map packed ks) }
-
--- no keys, and a refusal
-abbrev pub unsorted : ℕ → Sorted
-unsorted k = sorted k []
-
 -- the keys with normal forms that were placed, without those that order nothing; 3 where there was no room, 5 where more than 16 keys were given
 unfoldable pub sortedBy : List Key → List Node → List Class → Placed (List ℕ) → Sorted × List Node
 sortedBy ks ns cs (placed es ms) = if leb (length ks) 16 then (sorted 0 (sorting ms cs (withExprs es ks)), ms) else (unsorted 5, ns)
@@ -77,15 +66,11 @@ normalizeSortExprs ks ns cs =
     if each (λ k. ltb (getD (exprsOf ks) k 0) (length ns)) (length ks) then sortedBy ks ns cs (normalForms ns cs (exprsOf ks))
     else (unsorted 1, ns)
 
--- every key's options are 0 to 3
-unfoldable pub optionsKnown : List ℕ → Bool
-optionsKnown numbers = each (λ k. leb (getD numbers (2 * k + 1) 0) 3) (length numbers / 2)
-
 -- the check of what is lent with keys: 12 for options over 3 or in the group, 11 for a key that is cut, then the group's
 unfoldable pub keysNumber : List ℕ → List ℕ → Group → ℕ
 keysNumber numbers cells g =
     if optionsKnown numbers && inSet g then
-    (if eqb (length numbers % 2) 0 then groupNumber cells g else 11)
+    (if noneCut numbers then groupNumber cells g else 11)
     else 12
 
 -- the call on lent cells, a lent group and lent keys

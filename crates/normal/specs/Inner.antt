@@ -16,8 +16,8 @@ use Rattle.arena.specs.declared.Added.the-variants.{Refused}
 use Rattle.classes.specs.Class.{Class}
 use Rattle.classes.specs.Layout.{isLiteral}
 use Rattle.normal.specs.Normal.{firstOf, normalBy}
-use Rattle.normal.specs.Keys.{Key, exprsOf, keysOf, withExprs}
-use Rattle.normal.specs.Calls.{sorted}
+use Rattle.normal.specs.Keys.{Key, exprsOf, withExprs}
+use Rattle.normal.specs.Layout.{keysOf, sorted}
 use Rattle.normal.specs.declared.Sorted.{Sorted}
 
 -- a table holds what replaces each of the first n numbers

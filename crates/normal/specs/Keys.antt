@@ -1,10 +1,8 @@
 -- Sort keys and their normal forms.
-use Prim.Native.Nat.{ℕ, _+_, _*_, _/_}
+use Prim.Native.Nat.{ℕ}
 use mathlib.Core.Bool.{Bool}
 use mathlib.Core.List.{List, [], _∷_, map}
-use lib.ListN.{getD, length}
 use Rattle.laws.specs.Tests.{if_then_else_}
-use Rattle.laws.specs.Lists.{table}
 use Rattle.arena.specs.Node.{Node}
 use Rattle.arena.specs.Expression.{expressions, those}
 use Rattle.arena.specs.Arena.{Placed, addExpressions}
@@ -20,10 +18,6 @@ pub record Key : Type 0 where
 -- the expressions of keys
 unfoldable pub exprsOf : List Key → List ℕ
 exprsOf ks = map (λ (k : Key). k .expr) ks
-
--- keys as they are lent: expression and options, one after the other
-unfoldable pub keysOf : List ℕ → List Key
-keysOf numbers = table (λ k. record { expr = getD numbers (2 * k) 0; options = getD numbers (2 * k + 1) 0 }) (length numbers / 2)
 
 -- the normal forms of expressions of the arena: the missing nodes of the first are added, then those of the next
 unfoldable pub normalForms : List Node → List Class → List ℕ → Placed (List ℕ)

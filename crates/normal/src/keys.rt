@@ -18,8 +18,9 @@ ghost use Rattle.arena.specs.Calls.{inCells};
 ghost use Rattle.arena.specs.Inner.{Holds, Known};
 ghost use Rattle.classes.specs.Layout.{decode};
 ghost use Rattle.classes.specs.Inner.{Held};
-ghost use Rattle.normal.specs.Keys.{keysOf, exprsOf, normalForms};
-ghost use Rattle.normal.specs.Calls.{unsorted, optionsKnown, sortedBy};
+ghost use Rattle.normal.specs.Keys.{exprsOf, normalForms};
+ghost use Rattle.normal.specs.Layout.{keysOf, unsorted, optionsKnown};
+ghost use Rattle.normal.specs.Calls.{sortedBy};
 ghost use Rattle.normal.specs.Inner.{KeysKnown, ReadyKeys, SortedAll, uniformBy, pushed, keptKey};
 
 // No keys, and the number of a refusal.

@@ -1,7 +1,7 @@
 -- `normal::keys::no_keys` meets its contract.
 use Rattle.classes.specs.Layout.{padded}
-use Rattle.normal.specs.Calls.{sorted}
 use borrow.Author.Needs.{needs}
+use Rattle.normal.specs.Layout.{sorted}
 use Rattle.normal.proofs.keys.no_keys.Statement.{statement}
 use Rattle.normal.proofs.keys.no_keys.Tie as tie
 

@@ -7,9 +7,9 @@ use lib.Dec.{leb}
 use lib.ListN.{length, getD}
 use Rattle.laws.specs.Tests.{each}
 use Rattle.laws.proofs.Each.{each-none, each-more, each-stops, each-ends}
+use Rattle.normal.specs.Layout.{optionsKnown}
 use Rattle.normal.proofs.KeyLaws.{key-place}
 use borrow.Author.Tests.{le-leb, lt-leb}
-use Rattle.normal.specs.Calls.{optionsKnown}
 use borrow.Author.Needs.{needs}
 use Rattle.normal.proofs.keys.options_known.Statement.{statement}
 use Rattle.normal.proofs.keys.options_known.Tie as tie
