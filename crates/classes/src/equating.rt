@@ -97,10 +97,11 @@ fn push(cells: &[u32; 11265], g: Group, i: usize, e: u32) -> Changed
         return refusal(4, g);
     }
     let one = single_group(cells, e);
+    let more = merge_class_at_idx(g, i, one, 0);
     Changed {
         number: 0,
         answer: false,
-        group: merge_class_at_idx(g, i, one, 0),
+        group: more,
     }
 }
 
