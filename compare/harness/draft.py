@@ -1,0 +1,77 @@
+"""A session while it is being made: its records, and the nodes that they surely add."""
+
+from harness import records
+
+MOST_NODES = 1024
+MOST_TREE = 2000
+
+
+class Draft:
+    """Node numbers count the nodes of kinds 1 to 3. Normal forms may add more, which a draft doesn't follow."""
+
+    def __init__(self, dice):
+        self.dice = dice
+        self.parts = []
+        self.numbers = {}
+        self.sizes = []
+        self.normals = 0
+
+    def bytes(self):
+        return b"".join(self.parts)
+
+    def count(self):
+        """The nodes known to be there."""
+        return len(self.sizes)
+
+    def add(self, part):
+        self.parts.append(part)
+        self.normals += records.kind_of(part) == records.NORMAL
+
+    def node(self, node, size, part):
+        """Adds the record of a node; answers its number, also where the node is old."""
+        self.add(part)
+        if node not in self.numbers and self.count() < MOST_NODES:
+            self.numbers[node] = self.count()
+            self.sizes.append(size)
+        return self.numbers.get(node, 0)
+
+    def column(self, name, index=0):
+        return self.node(("column", name, index), 1, records.column(name, index))
+
+    def literal(self, value):
+        return self.node(("literal", value), 1, records.literal(value))
+
+    def operation(self, label, children):
+        """An operation, kept small as a tree: children that are too large are left out."""
+        small = []
+        for child in children:
+            if 1 + sum(self.sizes[kept] for kept in small + [child]) <= MOST_TREE:
+                small.append(child)
+        size = 1 + sum(self.sizes[child] for child in small)
+        return self.node(("operation", label, *small), size, records.operation(label, small))
+
+    def known(self):
+        """The number of a node that is there, or 0 where none is."""
+        return self.dice.below(self.count()) if self.count() else 0
+
+    def recent(self):
+        """The number of one of the last nodes."""
+        return max(0, self.count() - 1 - self.dice.below(8))
+
+    def beyond(self):
+        """The number of a node that a normal form may have added."""
+        return self.count() + self.dice.below(min(self.normals, 3))
+
+    def some(self):
+        """A number to refer to: nearly always of a known node, else of one that may not be there."""
+        if self.dice.chance(0.03):
+            return self.odd_number()
+        if self.normals and self.dice.chance(0.05):
+            return self.beyond()
+        return self.recent() if self.dice.chance(0.25) else self.known()
+
+    def odd_number(self):
+        """A number near a bound, of a node that is there or not."""
+        count = self.count()
+        near = [max(count - 1, 0), count, count + 1, count + self.dice.below(20)]
+        return self.dice.pick(near + near + [255, 256, 1023, 1024, 65535])

@@ -1,0 +1,114 @@
+//! Numbered nodes with structural identity, each with its expression in the Rust's form.
+
+use std::collections::HashMap;
+use std::sync::Arc;
+
+use datafusion_common::ScalarValue;
+use datafusion_physical_expr::PhysicalExpr;
+use datafusion_physical_expr::expressions::{Column, Literal};
+
+use crate::operation::Operation;
+use crate::refusal::Refusal;
+
+const MOST_NODES: usize = 1024;
+const MOST_CHILDREN: usize = 8;
+
+/// A node; the children of an operation are numbers of nodes.
+#[derive(Clone, Debug, PartialEq, Eq, Hash)]
+pub enum Node {
+    Column { name: u16, index: u16 },
+    Literal { value: u32 },
+    Operation { label: u32, children: Vec<usize> },
+}
+
+#[derive(Default)]
+pub struct Arena {
+    nodes: Vec<Node>,
+    exprs: Vec<Arc<dyn PhysicalExpr>>,
+    numbers: HashMap<Node, usize>,
+}
+
+impl Arena {
+    /// The expression with this number.
+    pub fn expr(&self, number: usize) -> Result<Arc<dyn PhysicalExpr>, Refusal> {
+        self.exprs.get(number).cloned().ok_or(Refusal::UnknownExpression)
+    }
+
+    /// Adds a node that was asked for: its children have to be there and not too many.
+    pub fn add(&mut self, node: Node) -> Result<usize, Refusal> {
+        if let Node::Operation { children, .. } = &node {
+            if children.iter().any(|child| *child >= self.nodes.len()) {
+                return Err(Refusal::UnknownExpression);
+            }
+            if children.len() > MOST_CHILDREN {
+                return Err(Refusal::TooManyChildren);
+            }
+        }
+        self.place(node)
+    }
+
+    /// Adds the missing nodes of an answer, or none of them where they don't all fit.
+    pub fn add_answer(&mut self, answer: &Arc<dyn PhysicalExpr>) -> Result<usize, Refusal> {
+        let before = self.nodes.len();
+        let number = self.place_tree(answer);
+        if number.is_err() {
+            self.cut_to(before);
+        }
+        number
+    }
+
+    /// Places a tree: children before parents, left to right.
+    fn place_tree(&mut self, tree: &Arc<dyn PhysicalExpr>) -> Result<usize, Refusal> {
+        let children = tree.children();
+        let children = children.into_iter().map(|child| self.place_tree(child)).collect::<Result<_, _>>()?;
+        self.place(root_node(tree, children))
+    }
+
+    /// The number of an equal old node, or else the next number.
+    fn place(&mut self, node: Node) -> Result<usize, Refusal> {
+        if let Some(number) = self.numbers.get(&node) {
+            return Ok(*number);
+        }
+        let number = self.nodes.len();
+        if number == MOST_NODES {
+            return Err(Refusal::ArenaFull);
+        }
+        self.exprs.push(self.expr_of(&node));
+        self.numbers.insert(node.clone(), number);
+        self.nodes.push(node);
+        Ok(number)
+    }
+
+    /// Forgets the nodes from number `count` on.
+    fn cut_to(&mut self, count: usize) {
+        self.exprs.truncate(count);
+        for node in self.nodes.drain(count..) {
+            self.numbers.remove(&node);
+        }
+    }
+
+    /// The node in the Rust's form, over the expressions of its children.
+    fn expr_of(&self, node: &Node) -> Arc<dyn PhysicalExpr> {
+        match node {
+            Node::Column { name, index } => Arc::new(Column::new(*name, usize::from(*index))),
+            Node::Literal { value } => Arc::new(Literal::new(ScalarValue(*value))),
+            Node::Operation { label, children } => {
+                let children = children.iter().map(|child| Arc::clone(&self.exprs[*child])).collect();
+                Arc::new(Operation::new(*label, children))
+            }
+        }
+    }
+}
+
+/// The root of a tree as a node over the numbers of its children.
+fn root_node(tree: &Arc<dyn PhysicalExpr>, children: Vec<usize>) -> Node {
+    if let Some(column) = tree.downcast_ref::<Column>() {
+        let index = column.index().try_into().expect("no column is shifted in a session");
+        Node::Column { name: column.name(), index }
+    } else if let Some(literal) = tree.downcast_ref::<Literal>() {
+        Node::Literal { value: literal.value().0 }
+    } else {
+        let operation = tree.downcast_ref::<Operation>().expect("a tree has three types of nodes");
+        Node::Operation { label: operation.label(), children }
+    }
+}
