@@ -1,9 +1,8 @@
 -- Four texts that are put one after the other into room for all of them.
-use Prim.Native.Nat.{ℕ, _+_, _≤_}
+use Prim.Native.Nat.{ℕ, _+_}
 use mathlib.Core.List.{List, [], _∷_, _++_, append-assoc}
-use mathlib.Core.Path.{_≡_, refl, sym, ap, _∙_, subst}
-use native.Mathlib.Omega.{arith}
-use lib.ListN.{length, length-append}
+use mathlib.Core.Path.{_≡_}
+use lib.ListN.{length}
 use Rattle.lines.specs.Text.{decimal, spaced, line}
 use Rattle.lines.specs.Writing.{Put, RoomFor}
 use Rattle.lines.proofs.Puts.{put-fits, put-both, put-room, put-length}
