@@ -19,9 +19,9 @@ ghost use Rattle.laws.specs.Tests.{each, isSome};
 ghost use Rattle.arena.specs.Node.{nodeAt, childNumbers};
 ghost use Rattle.arena.specs.Expression.{expressionAt};
 ghost use Rattle.arena.specs.Shift.{moved, canMove};
-ghost use Rattle.arena.specs.Layout.{cellOf, decode};
+ghost use Rattle.arena.specs.Layout.{cellOf, count, decode};
 ghost use Rattle.arena.specs.Calls.{inCells, shiftedOutcome};
-ghost use Rattle.arena.specs.Inner.{Known, Grew, Ready, Walked, ReadyAll, WalkedAll, lifted, shiftedBy};
+ghost use Rattle.arena.specs.Inner.{Holds, Known, Grew, Ready, Walked, ReadyAll, WalkedAll, lifted, shiftedBy};
 
 // The lift of an offset.
 pub fn lift_of(offset: i64) -> u32
@@ -75,18 +75,27 @@ fn node_moves(cells: &[u32; 11265], table: &[bool; 1024], e: usize, lift: u32) -
     children_move(cells, table, e)
 }
 
+// Which of the first n nodes can move. Each is looked at once.
+pub fn movable(cells: &[u32; 11265], n: usize, lift: u32) -> [bool; 1024]
+    requires { ⌜ (Holds (now cells) × (n ≤ count (now cells))) × (lift ≤ 200000) ⌝ }
+    ensures { λ r. ⌜ ((j : ℕ) → j < n → getD r j false ≡ canMove (lifted lift) (expressionAt (decode (now (cells .entry))) j)) ⌝ }
+{
+    let mut table = [false; 1024];
+    let mut i = 0;
+    while i < n {
+        let moves = node_moves(cells, &table, i, lift);
+        table[i] = moves;
+        i += 1;
+    }
+    table
+}
+
 // Every column of expression e can move. Each node up to e is looked at once.
 pub fn can_move(cells: &[u32; 11265], e: usize, lift: u32) -> bool
     requires { ⌜ Known (now cells) e × (lift ≤ 200000) ⌝ }
     ensures { λ r. ⌜ r ≡ canMove (lifted lift) (expressionAt (decode (now (cells .entry))) e) ⌝ }
 {
-    let mut table = [false; 1024];
-    let mut i = 0;
-    while i < e {
-        let moves = node_moves(cells, &table, i, lift);
-        table[i] = moves;
-        i += 1;
-    }
+    let table = movable(cells, e, lift);
     node_moves(cells, &table, e, lift)
 }
 

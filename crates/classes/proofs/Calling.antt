@@ -18,8 +18,9 @@ use Rattle.classes.specs.Group.{equalCondition, withConstant, classAt, c
 use Rattle.classes.specs.Questions.{exprsEqual, exprConstant}
 use Rattle.classes.specs.Steps.{Outcome, refused, judged, addEqual, addConstant}
 use Rattle.classes.specs.Layout.{encode, decode, markOf, constantFrom, knownFlavour}
-use Rattle.classes.specs.Calls.{groupNumber, opened, changed, onGroup, askGroup, equalAnswer, constantAnswer, sayable, onConstant, classAnswer, classIs}
+use Rattle.classes.specs.Calls.{groupNumber, opened, noGroup, changed, onGroup, askGroup, equalAnswer, constantAnswer, sayable, onConstant, classAnswer, classIs}
 use Rattle.classes.specs.declared.Group.{Group}
+use Rattle.classes.specs.declared.Changed.{Changed}
 use Rattle.classes.specs.declared.Answer.the-variants.{Yes, No, Refused}
 use Rattle.classes.specs.declared.ConstantIs.the-variants.{Is, Refused as Constant-Refused}
 use Rattle.classes.specs.declared.ClassIs.the-variants.{At as Class-At, Nowhere as NoClass, Refused as Class-Refused}
@@ -161,3 +162,8 @@ module _ (ns : List Node) (cs : List Class) (e : ℕ) where
   pub class-at : e < length ns → (i : ℕ) → classOf cs e ≡ some i → classAnswer e ns cs ≡ Class-At i (length (classAt cs i .members)) (getD (classAt cs i .members) 0 0) (markOf (classAt cs i .constant))
   unfolding classAnswer classIs
   class-at l i o = rw (lt-ltb _ _ l, o)
+
+-- no group
+pub no-group-is : (k : ℕ) (r : Changed) (g : Group) → g ≡ encode 0 [] → (r .number ≡ k) × ((r .answer ≡ false) × (r .group ≡ g)) → r ≡ noGroup k
+unfolding noGroup
+no-group-is k r g e p = λ i. record { number = p .0 i; answer = p .1 .0 i; group = (p .1 .1 ∙ e) i }

@@ -37,6 +37,10 @@ opened limit =
     if ltb 0 limit && leb limit 256 then record { number = 0; answer = true; group = encode limit [] }
     else record { number = 12; answer = false; group = encode 0 [] }
 
+-- no group, beside a refusal of a call that makes one
+unfoldable pub noGroup : ℕ → Changed
+noGroup k = record { number = k; answer = false; group = encode 0 [] }
+
 -- an outcome as the struct that is handed back
 unfoldable pub changed : ℕ → Outcome → Changed
 changed limit o = record { number = o .number; answer = o .answer; group = encode limit (o .classes) }

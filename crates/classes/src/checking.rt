@@ -41,7 +41,7 @@ fn known_class(g: Group, j: usize) -> bool
 }
 
 // Every number of the group is in its set.
-fn in_set(g: Group) -> bool
+pub fn in_set(g: Group) -> bool
     ensures { λ r. ⌜ r ≡ inSet g ⌝ }
 {
     if g.limit == 0 {
@@ -141,7 +141,7 @@ fn members_fresh(members: [u32; 256], n: usize) -> bool
 }
 
 // Every member is below n.
-fn members_below(members: [u32; 256], used: usize, n: usize) -> bool
+pub fn members_below(members: [u32; 256], used: usize, n: usize) -> bool
     requires { ⌜ used ≤ 256 ⌝ }
     ensures { λ r. ⌜ r ≡ each (λ k. ltb (getD members k 0) n) used ⌝ }
 {
@@ -280,7 +280,7 @@ fn group_unused(g: Group) -> bool
 }
 
 // The group obeys rule 11.
-fn lawful_group(cells: &[u32; 11265], g: Group) -> bool
+pub fn lawful_group(cells: &[u32; 11265], g: Group) -> bool
     requires { ⌜ Holds (now cells) × (g .limit ≤ 256) ⌝ }
     ensures { λ r. ⌜ r ≡ lawfulGroup (nodes (now (cells .entry))) g ⌝ }
 {

@@ -26,7 +26,7 @@ ghost use Rattle.laws.specs.Tests.{if_then_else_};
 ghost use lib.Dec.{eqb};
 ghost use Rattle.classes.specs.Steps.{judged, refused};
 ghost use Rattle.classes.specs.Layout.{encode, decode, constantFrom};
-ghost use Rattle.classes.specs.Calls.{changed};
+ghost use Rattle.classes.specs.Calls.{changed, noGroup};
 ghost use Rattle.classes.specs.Inner.{Coded, Held, markOf, placeOf};
 
 // A refusal: its number, and the group as it was.
@@ -38,6 +38,13 @@ pub fn refusal(number: u32, group: Group) -> Changed
         answer: false,
         group: group,
     }
+}
+
+// No group, beside a refusal of a call that makes one.
+pub fn no_group(number: u32) -> Changed
+    ensures { λ r. ⌜ r ≡ noGroup number ⌝ }
+{
+    refusal(number, empty(0))
 }
 
 // The constant that an expression carries: a literal its own value.

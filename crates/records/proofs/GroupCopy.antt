@@ -129,11 +129,6 @@ gathered-all gs list used at j g l b =
     let e : membersGiven (take j gs) ≡ membersGiven gs = ap membersGiven (take-all j gs l) in
     ((g .long, b), (g .is ∙ e, subst (AllBelow 65536) e (g .low)))
 
--- no group
-pub no-group-is : (k : ℕ) (r : Changed) (g : Group) → g ≡ encode 0 [] → (r .number ≡ k) × ((r .answer ≡ false) × (r .group ≡ g)) → r ≡ noGroup k
-unfolding noGroup
-no-group-is k r g e p = λ i. record { number = p .0 i; answer = p .1 .0 i; group = (p .1 .1 ∙ e) i }
-
 -- the first k numbers of a list are in a table of members
 pub table-none : (numbers : List ℕ) → replicate 256 0 ≡ padded 256 (take 0 numbers)
 unfolding padded

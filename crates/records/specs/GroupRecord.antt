@@ -12,6 +12,7 @@ use Rattle.classes.specs.Class.{Class}
 use Rattle.classes.specs.Good.{flat}
 use Rattle.classes.specs.Layout.{encode, flavourOf, valueOf, constantFrom, knownFlavour, fresh, isLiteral}
 use Rattle.classes.specs.declared.Changed.{Changed}
+pub use Rattle.classes.specs.Calls.{noGroup}
 use Rattle.records.specs.Fields.{field, wideField, fields}
 use Rattle.records.specs.Record.{isWhole, bodyOf, fieldBytes, wideBytes, fieldsBytes}
 
@@ -91,10 +92,6 @@ givenNumber cells gs =
     else 1)
     else 11)
     else 12
-
--- no group, beside a refusal
-unfoldable pub noGroup : ℕ → Changed
-noGroup k = record { number = k; answer = false; group = encode 0 [] }
 
 -- the group of a record, of limit 256, or the refusal
 unfoldable pub groupOf : List ℕ → Option (List Given) → Changed

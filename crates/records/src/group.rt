@@ -12,7 +12,7 @@ use classes::Group;
 use classes::building::empty;
 use classes::checking::known_flavour;
 use classes::checking::member_fits;
-use classes::equating::refusal;
+use classes::equating::no_group;
 ghost use mathlib.Core.Bool.{true, not, _&&_, _||_};
 ghost use mathlib.Core.Path.{_≡_};
 ghost use Prim.Native.Nat.{_≤_, _<_, _+_, _*_};
@@ -26,7 +26,7 @@ ghost use Rattle.arena.specs.Inner.{Holds};
 ghost use Rattle.classes.specs.Layout.{padded, fresh, isLiteral};
 ghost use Rattle.records.specs.Fields.{field as fieldOf, fields};
 ghost use Rattle.records.specs.Record.{AllBelow};
-ghost use Rattle.records.specs.GroupRecord.{bodyGiven, flavoursKnown, classesFilled, membersGiven, literalsUniform, groupRead, groupOf, noGroup};
+ghost use Rattle.records.specs.GroupRecord.{bodyGiven, flavoursKnown, classesFilled, membersGiven, literalsUniform, groupRead, groupOf};
 ghost use Rattle.records.specs.Inner.{isGiven, givenOf, Shaped, Listed, columnsOf, builtOf};
 
 // How many members the class at a place of a body has.
@@ -239,13 +239,6 @@ fn member_table(numbers: &[u32]) -> [u32; 256]
         k += 1;
     }
     members
-}
-
-// No group, beside a refusal.
-fn no_group(number: u32) -> Changed
-    ensures { λ r. ⌜ r ≡ noGroup number ⌝ }
-{
-    refusal(number, empty(0))
 }
 
 // The group of a body with the members of its classes, if there are not too many.

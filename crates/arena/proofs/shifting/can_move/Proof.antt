@@ -1,82 +1,18 @@
 -- `arena::shifting::can_move` meets its contract.
-use Prim.Native.Nat.{ℕ, _-_, _≤_, _<_}
-use mathlib.Core.Bool.{Bool, false}
-use mathlib.Core.List.{List}
-use mathlib.Core.Path.{_≡_, _∙_}
 use native.Mathlib.Omega.{arith}
-use borrow.Author.Needs.{needs}
-use lib.ListN.{length, getD, length-set, length-replicate}
-use Rattle.arena.specs.Expression.{expressionAt}
-use Rattle.arena.specs.Shift.{canMove}
-use Rattle.arena.specs.Layout.{decode}
-use Rattle.arena.specs.Inner.{lifted}
-use Rattle.arena.proofs.Moves.{known-lower, table-more}
 use Rattle.arena.proofs.shifting.can_move.Statement.{statement}
 use Rattle.arena.proofs.shifting.can_move.Tie as tie
 
--- the expression of node j can move
-abbrev Moves : List ℕ → ℕ → ℕ → Bool
-Moves cells lift j = canMove (lifted lift) (expressionAt (decode cells) j)
+movable-requires : tie.Need-movable-requires
+movable-requires c κs = ((c .pre .0 .holds, omega (arith, c .pre .0 .below)), c .pre .1)
 
-abbrev Inv-loop : tie.InvT-loop
-Inv-loop cells e lift table₀ i₀ table i = (i ≤ e) × ((length table ≡ 1024) × ((j : ℕ) → j < i → getD table j false ≡ Moves cells lift j))
-
-abbrev μ-loop : tie.MeasureT-loop
-μ-loop cells e lift table₀ i₀ table i = e - i
-
-loop-holds : tie.Need-loop-holds Inv-loop μ-loop
-loop-holds c = (search needs, (length-replicate 1024 false, λ j l. absurd (omega arith)))
-
-node-moves-requires : tie.Need-node-moves-requires Inv-loop μ-loop
+node-moves-requires : tie.Need-node-moves-requires
 node-moves-requires c κs =
-    let s = c .before .before .before in
-    let l = c .before .before .loop in
-    ((known-lower (s .args .cells .now) (s .args .e) (l .i) (s .pre .0) (l .inv .0), s .pre .1), l .inv .1 .1)
+    let s = c .before .before in
+    (s .pre, c .before .movable .ensures)
 
-array-write-table : tie.Need-array-write-table Inv-loop μ-loop
-array-write-table c =
-    let k = c .before .before .before .before .pre .0 in
-    omega (arith, k .below, k .holds .few)
-
-add-i : tie.Need-add-i Inv-loop μ-loop
-add-i c = search needs
-
-loop-less : tie.Need-loop-less Inv-loop μ-loop
-loop-less c = search needs
-
-loop-again : tie.Need-loop-again Inv-loop μ-loop
-loop-again c =
-    let s = c .before .before .before .before in
-    let l = c .before .before .before .loop in
-    let k = s .pre .0 in
-    let r : l .i < length (l .table) = omega (arith, l .inv .1 .0, k .below, k .holds .few) in (
-      search needs,
-      (
-        length-set (l .table) (l .i) (c .node-moves .result) ∙ l .inv .1 .0,
-        table-more (Moves (s .args .cells .now) (s .args .lift)) (l .table) (l .i) (c .node-moves .result) r (l .inv .1 .1) (c .node-moves .ensures),
-      ),
-    )
-
-node-moves-requires-2 : tie.Need-node-moves-requires-2 Inv-loop μ-loop
-node-moves-requires-2 c κs =
-    let s = c .before .before .before in
-    let l = c .before .before .loop in
-    (s .pre, λ j m. l .inv .1 .1 j (omega arith))
-
-returns : tie.Need-returns Inv-loop μ-loop
-returns c = c .node-moves2 .ensures
+returns : tie.Need-returns
+returns c = c .node-moves .ensures
 
 pub can-move-spec : {M : Type 1} → statement M
-can-move-spec =
-    tie.close
-    (tie.spec
-    Inv-loop
-    μ-loop
-    loop-holds
-    node-moves-requires
-    array-write-table
-    add-i
-    loop-less
-    loop-again
-    node-moves-requires-2
-    returns)
+can-move-spec = tie.close (tie.spec movable-requires node-moves-requires returns)

@@ -1,8 +1,8 @@
--- `records::group::no_group` meets its contract.
-use Rattle.records.proofs.GroupCopy.{no-group-is}
+-- `classes::equating::no_group` meets its contract.
+use Rattle.classes.proofs.Calling.{no-group-is}
 use borrow.Author.Needs.{needs}
-use Rattle.records.proofs.group.no_group.Statement.{statement}
-use Rattle.records.proofs.group.no_group.Tie as tie
+use Rattle.classes.proofs.equating.no_group.Statement.{statement}
+use Rattle.classes.proofs.equating.no_group.Tie as tie
 
 empty-requires : tie.Need-empty-requires
 empty-requires c κs = search needs
