@@ -1,1 +1,1 @@
-"""The two sides of a comparison of sessions, and the sessions that are compared."""
+"""The two sides of a comparison, and the sessions and scripts that are compared."""

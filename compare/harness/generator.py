@@ -1,19 +1,33 @@
-"""The session of a seed."""
+"""The session of a seed, and the script of a seed."""
 
+from harness import call_themes, themes
 from harness.dice import Dice
-from harness.draft import Draft
-from harness.themes import THEMES
+from harness.script import Script
+from harness.session import Session
+
+
+def made(seed, draft_of, choices):
+    """The name of the seed's theme, and the draft that it fills."""
+    dice = Dice(seed)
+    theme = dice.weighed(choices)
+    draft = draft_of(dice)
+    theme(dice, draft)
+    return theme.__name__, draft
 
 
 def theme_and_session(seed):
     """The name of the seed's theme, and its session as bytes."""
-    dice = Dice(seed)
-    theme = dice.weighed(THEMES)
-    draft = Draft(dice)
-    theme(dice, draft)
-    return theme.__name__, draft.bytes()
+    theme, draft = made(seed, Session, themes.THEMES)
+    return theme, draft.bytes()
 
 
 def session(seed):
     """The seed's session as bytes."""
     return theme_and_session(seed)[1]
+
+
+def theme_and_script(seed):
+    """The name of the seed's theme, and its script as commands. At the end all is shown."""
+    theme, script = made(seed, Script, call_themes.THEMES)
+    script.show_all()
+    return theme, script.parts

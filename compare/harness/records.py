@@ -3,7 +3,18 @@
 import struct
 
 COLUMN, LITERAL, OPERATION, PAIR, CONSTANT, NORMAL, EQUALITY, ORDERING = range(1, 9)
+NODES = (COLUMN, LITERAL, OPERATION)
 MOST_BYTES = 65536
+
+# The places in a body of the given length where an expression's number stands.
+REFERENCES = {
+    OPERATION: lambda length: range(4, length, 2),
+    PAIR: lambda length: range(0, length, 2),
+    CONSTANT: lambda length: range(0, min(length, 2), 2),
+    NORMAL: lambda length: range(0, length, 2),
+    EQUALITY: lambda length: range(0, length, 2),
+    ORDERING: lambda length: range(0, length, 4),
+}
 
 
 def record(kind, body):
@@ -63,3 +74,21 @@ def split(session):
         parts.append(rest[:length])
         place += len(parts[-1])
     return parts
+
+
+def is_node(part):
+    """Whether the record adds a node."""
+    return kind_of(part) in NODES
+
+
+def moved_down(part, first, gone):
+    """The record with each reference from `first` + `gone` on made smaller by `gone`."""
+    places = REFERENCES.get(kind_of(part))
+    if places is None or len(part) % 2:
+        return part
+    moved = bytearray(part)
+    for place in places(len(part) - 4):
+        number = struct.unpack_from("<H", part, 4 + place)[0]
+        if number >= first + gone:
+            struct.pack_into("<H", moved, 4 + place, number - gone)
+    return bytes(moved)

@@ -1,4 +1,4 @@
-"""The two sides: the Rust's driver as one process for many sessions, and our program, one run a session."""
+"""The two sides: the Rust's driver as one process for many inputs, and our program, one run an input."""
 
 import os
 import platform
@@ -12,9 +12,10 @@ from pathlib import Path
 
 HERE = Path(__file__).resolve().parent.parent
 ROOT = HERE.parent
-RUST_SESSION = ROOT / "target/compare/release/rust-session"
-OUR_SESSION = ROOT / "target/bin/session"
+RUST_PROGRAMS = ROOT / "target/compare/release"
+OUR_PROGRAMS = ROOT / "target/bin"
 TOO_LARGE = "too large\n"
+OUTSIDE_DOMAIN = "# outside the domain\n"
 SECONDS = 60
 
 
@@ -31,19 +32,20 @@ def build_rust_side():
 
 
 class RustSide:
-    """The driver over the Rust text."""
+    """A driver over the Rust text: for sessions, where no other is named."""
 
-    def __init__(self):
+    def __init__(self, program="rust-session"):
         build_rust_side()
-        self.process = subprocess.Popen([RUST_SESSION], stdin=subprocess.PIPE, stdout=subprocess.PIPE)
+        command = [RUST_PROGRAMS / program, "--many"]
+        self.process = subprocess.Popen(command, stdin=subprocess.PIPE, stdout=subprocess.PIPE)
 
-    def answer(self, session):
-        """The lines that the Rust's side prints for a session."""
-        self.process.stdin.write(struct.pack("<I", len(session)) + session)
+    def answer(self, asked):
+        """The lines that the Rust's side prints for an input."""
+        self.process.stdin.write(struct.pack("<I", len(asked)) + asked)
         self.process.stdin.flush()
         length = self.process.stdout.read(4)
         if len(length) < 4:
-            stop(f"The Rust's side ended on this session:\n{session.hex()}")
+            stop(f"The Rust's side ended on this input:\n{asked.hex()}")
         return self.process.stdout.read(struct.unpack("<I", length)[0]).decode()
 
 
@@ -56,32 +58,33 @@ def toolchain():
     return Path(home) / "on" / platform.machine() / "toolchain"
 
 
-def our_command():
-    """The words that run our program; a session's file is added to them. GALTHUMIR_SESSION names another
-    program, which is run as it is."""
-    other = os.environ.get("GALTHUMIR_SESSION")
+def our_command(program):
+    """The words that run our program; an input's file is added to them. An environment variable, GALTHUMIR_ and
+    the program's name in capitals, names another program, which is run as it is."""
+    other = os.environ.get(f"GALTHUMIR_{program.upper()}")
     if other:
         return [other]
-    if not OUR_SESSION.is_file():
-        stop(f"There is no {OUR_SESSION.relative_to(ROOT)}: `rt check session` makes it.")
+    ours = OUR_PROGRAMS / program
+    if not ours.is_file():
+        stop(f"There is no {ours.relative_to(ROOT)}: `rt check {program}` makes it.")
     tools = toolchain()
     emulator = tools / "bin/qemu-x86_64"
     loader = [tools / "lib/ld-linux-x86-64.so.2", "--library-path", tools / "lib"]
-    return ([emulator] if emulator.exists() else []) + loader + [OUR_SESSION]
+    return ([emulator] if emulator.exists() else []) + loader + [ours]
 
 
 class OurSide:
-    """The compiled program of this repository, on as many processors as there are."""
+    """A compiled program of this repository, on as many processors as there are."""
 
-    def __init__(self):
-        self.command = our_command()
+    def __init__(self, program):
+        self.command = our_command(program)
         self.room = tempfile.TemporaryDirectory()
         self.runners = ThreadPoolExecutor(os.cpu_count())
 
-    def answer(self, session):
-        """The lines that our program prints for a session, and what else there is to say of its end."""
+    def answer(self, asked):
+        """The lines that our program prints for an input, and what else there is to say of its end."""
         with tempfile.NamedTemporaryFile(dir=self.room.name) as file:
-            file.write(session)
+            file.write(asked)
             file.flush()
             try:
                 ended = subprocess.run(self.command + [file.name], capture_output=True, timeout=SECONDS)
@@ -90,6 +93,6 @@ class OurSide:
         said = ended.stdout.decode(errors="replace")
         return said if ended.returncode == 0 else f"{said}(ended with status {ended.returncode})\n"
 
-    def answers(self, sessions):
-        """The answers to several sessions, in their order."""
-        return self.runners.map(self.answer, sessions)
+    def answers(self, asked):
+        """The answers to several inputs, in their order."""
+        return self.runners.map(self.answer, asked)

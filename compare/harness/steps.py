@@ -1,9 +1,16 @@
-"""Single records with chosen or chance contents, from which sessions are made."""
+"""Single records with chosen or chance contents, from which sessions are made. Leaves and operations are for
+scripts too."""
 
 from harness import records
 
 VALUES = [0, 1, 2, 5, 7, 0xFFFFFFFF]
 LABELS = [0, 1, 2, 0x10000, 0xFFFFFFFF]
+
+
+def several(dice, low, high, step, draft):
+    """The same sort of step a few times."""
+    for _ in range(dice.between(low, high)):
+        step(dice, draft)
 
 
 def leaf(dice, draft):
@@ -17,7 +24,7 @@ def operation(dice, draft):
     """An operation over nodes that are there, or now and then over some that may not be."""
     size = dice.weighed([(0, 1), (1, 6), (2, 8), (3, 3), (dice.between(4, 8), 1)])
     if dice.chance(0.02):
-        return draft.add(records.operation(dice.pick(LABELS), [draft.some() for _ in range(dice.between(0, 10))]))
+        return draft.add(draft.form.operation(dice.pick(LABELS), [draft.some() for _ in range(dice.between(0, 10))]))
     return draft.operation(dice.pick(LABELS), [draft.known() for _ in range(size if draft.count() else 0)])
 
 

@@ -1,28 +1,59 @@
-"""How many lines of each sort the sessions print."""
+"""How many lines of each sort the inputs print."""
 
 from collections import Counter
 
 from harness import records
 
+GROUP_CALLS = ("group", "new", "eq", "const", "clear", "join", "show")
+
 
 class Tally:
-    """Counts over the answers of one side."""
+    """Counts over the answers of one side. What a line is counted as is for each sort of input to say."""
 
     def __init__(self):
         self.themes = Counter()
+        self.not_compared = Counter()
         self.lines = Counter()
         self.refusals = Counter()
-        self.ends = Counter()
-        self.given_up = 0
+        self.sizes = Counter()
 
-    def count(self, theme, session, answer):
-        """Takes one session and its answer in."""
+    def count(self, theme, parts, answer):
+        """Takes one compared input and its answer in."""
         self.themes[theme] += 1
-        if answer == "too large\n":
-            self.given_up += 1
-            return
-        parts = records.split(session)
-        for line in answer.splitlines():
+        self.count_lines(parts, answer.splitlines())
+
+    def count_left_out(self, theme, reason):
+        """Takes in an input that is not compared."""
+        self.themes[theme] += 1
+        self.not_compared[reason] += 1
+
+    def count_sizes(self, sizes):
+        """Takes in how large something was, by the name of what was counted."""
+        for what, size in sizes.items():
+            self.sizes[what, int(size)] += 1
+
+    def largest(self, what):
+        """The largest size, and how often it came."""
+        most = max(size for sort, size in self.sizes if sort == what)
+        return f"{most} ({self.sizes[what, most]} times)"
+
+    def show(self, plural):
+        """Prints all counts."""
+        left_out = "".join(f", {count} {reason}" for reason, count in sorted(self.not_compared.items()))
+        print(f"{sum(self.themes.values())} {plural}{left_out}")
+        for title, counts in [("themes", self.themes), ("lines", self.lines), ("refusals", self.refusals)]:
+            print(f"{title}:")
+            for name in sorted(counts, key=in_order):
+                print(f"  {name}: {counts[name]}")
+        for what in sorted({what for what, _ in self.sizes}):
+            print(f"most {what}: {self.largest(what)}")
+
+
+class SessionTally(Tally):
+    """Counts over sessions."""
+
+    def count_lines(self, parts, lines):
+        for line in lines:
             self.count_line(line.split(), parts)
 
     def count_line(self, words, parts):
@@ -36,9 +67,7 @@ class Tally:
             self.refusals[self.refused(int(words[1]), words[2], parts)] += 1
         else:
             self.lines[words[0]] += 1
-            self.ends["classes", int(words[1])] += 1
-            self.ends["members", int(words[2])] += 1
-            self.ends["orderings", int(words[3])] += 1
+            self.count_sizes(dict(zip(["classes at an end", "members at an end", "orderings at an end"], words[1:])))
 
     def refused(self, place, number, parts):
         """The refusal with the kind of its record, in words."""
@@ -49,20 +78,45 @@ class Tally:
             return f"{number} of a cut header"
         return f"{number} of kind {kind}" if 1 <= kind <= 8 else f"{number} of another kind"
 
-    def largest(self, what):
-        """The largest count at an end, and how often it came."""
-        most = max((count for sort, count in self.ends if sort == what), default=0)
-        return f"{most} ({self.ends[what, most]} times)"
 
-    def show(self):
-        """Prints all counts."""
-        print(f"{sum(self.themes.values())} sessions, of which {self.given_up} are too large for the Rust")
-        for title, counts in [("themes", self.themes), ("lines", self.lines), ("refusals", self.refusals)]:
-            print(f"{title}:")
-            for name in sorted(counts, key=in_order):
-                print(f"  {name}: {counts[name]}")
-        for what in ["classes", "members", "orderings"]:
-            print(f"most {what} at an end: {self.largest(what)}")
+class ScriptTally(Tally):
+    """Counts over scripts."""
+
+    def count_lines(self, commands, lines):
+        """Takes the answers in, each with the command that it answers."""
+        for command in commands:
+            own = lines[: lines_of(command.name, lines)]
+            lines = lines[len(own) :]
+            for line in own:
+                self.count_line(command, line.split())
+
+    def count_line(self, command, words):
+        sort, *numbers = words
+        if sort == "r":
+            self.refusals[f"{numbers[0]} of {command.name}"] += 1
+        elif sort == "g":
+            self.lines[f"g, of {named(command)}"] += 1
+            self.count_sizes({"classes": numbers[0], "members": numbers[1], "nodes": numbers[3]})
+        elif sort == "n":
+            own = int(numbers[0]) == command.fields[1].number
+            self.lines["n, itself" if own else "n, another"] += 1
+        else:
+            self.lines[f"{sort}, {numbers[0]}" if sort in "bckq" else sort] += 1
+
+
+def named(command):
+    """The command's name, a join's with its kind."""
+    return f"join {command.fields[3].number}" if command.name == "join" else command.name
+
+
+def lines_of(name, lines):
+    """How many of the lines, from the first on, answer a command of this name."""
+    if name == "arena":
+        return next((place for place, line in enumerate(lines) if not line.startswith("node")), len(lines))
+    if lines[0].startswith("r ") or name not in GROUP_CALLS:
+        return 1
+    head = 1 if lines[0].startswith("b ") else 0
+    return head + 1 + int(lines[head].split()[1])
 
 
 def in_order(name):

@@ -1,7 +1,7 @@
 """Sessions of one sort each. A theme fills a draft; its weight says how often it comes."""
 
 from harness import records, steps
-
+from harness.steps import several
 
 # Lengths that no record of the kind has, near those that it can have.
 WRONG_LENGTHS = {
@@ -14,12 +14,6 @@ WRONG_LENGTHS = {
     records.EQUALITY: [0, 2, 3, 5, 6, 8],
     records.ORDERING: [0, 2, 5, 6, 66, 68],
 }
-
-
-def several(dice, low, high, step, draft):
-    """The same sort of step a few times."""
-    for _ in range(dice.between(low, high)):
-        step(dice, draft)
 
 
 def mixed(dice, draft):

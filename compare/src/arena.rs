@@ -34,10 +34,35 @@ impl Arena {
         self.exprs.get(number).cloned().ok_or(Refusal::UnknownExpression)
     }
 
+    /// The expressions with these numbers.
+    pub fn exprs(&self, numbers: &[usize]) -> Result<Vec<Arc<dyn PhysicalExpr>>, Refusal> {
+        numbers.iter().map(|number| self.expr(*number)).collect()
+    }
+
+    /// All nodes, in the order of their numbers.
+    pub fn nodes(&self) -> &[Node] {
+        &self.nodes
+    }
+
+    pub fn count(&self) -> usize {
+        self.nodes.len()
+    }
+
+    /// Whether this is the number of a literal. An unknown number is none.
+    pub fn is_literal(&self, number: usize) -> bool {
+        matches!(self.nodes.get(number), Some(Node::Literal { .. }))
+    }
+
+    /// The number of an expression that is in the arena.
+    pub fn number_of(&self, tree: &Arc<dyn PhysicalExpr>) -> usize {
+        let children = tree.children().into_iter().map(|child| self.number_of(child)).collect();
+        self.numbers[&root_node(tree, children)]
+    }
+
     /// Adds a node that was asked for: its children have to be there and not too many.
     pub fn add(&mut self, node: Node) -> Result<usize, Refusal> {
         if let Node::Operation { children, .. } = &node {
-            if children.iter().any(|child| *child >= self.nodes.len()) {
+            if children.iter().any(|child| *child >= self.count()) {
                 return Err(Refusal::UnknownExpression);
             }
             if children.len() > MOST_CHILDREN {
@@ -49,12 +74,17 @@ impl Arena {
 
     /// Adds the missing nodes of an answer, or none of them where they don't all fit.
     pub fn add_answer(&mut self, answer: &Arc<dyn PhysicalExpr>) -> Result<usize, Refusal> {
-        let before = self.nodes.len();
-        let number = self.place_tree(answer);
-        if number.is_err() {
+        self.or_as_before(|arena| arena.place_tree(answer))
+    }
+
+    /// Does a call, and forgets the nodes that it added where it is refused.
+    pub fn or_as_before<T>(&mut self, call: impl FnOnce(&mut Self) -> Result<T, Refusal>) -> Result<T, Refusal> {
+        let before = self.count();
+        let answer = call(self);
+        if answer.is_err() {
             self.cut_to(before);
         }
-        number
+        answer
     }
 
     /// Places a tree: children before parents, left to right.
@@ -100,10 +130,18 @@ impl Arena {
     }
 }
 
+/// Whether the index of every column of the tree has 16 bits.
+pub fn columns_in_bounds(tree: &Arc<dyn PhysicalExpr>) -> bool {
+    match tree.downcast_ref::<Column>() {
+        Some(column) => u16::try_from(column.index()).is_ok(),
+        None => tree.children().into_iter().all(columns_in_bounds),
+    }
+}
+
 /// The root of a tree as a node over the numbers of its children.
 fn root_node(tree: &Arc<dyn PhysicalExpr>, children: Vec<usize>) -> Node {
     if let Some(column) = tree.downcast_ref::<Column>() {
-        let index = column.index().try_into().expect("no column is shifted in a session");
+        let index = column.index().try_into().expect("the bounds of a shifted column were tested");
         Node::Column { name: column.name(), index }
     } else if let Some(literal) = tree.downcast_ref::<Literal>() {
         Node::Literal { value: literal.value().0 }

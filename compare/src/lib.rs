@@ -1,6 +1,15 @@
-//! The Rust's side of a comparison: sessions run with the classes and orderings of the Rust text.
+//! The Rust's side of a comparison: sessions and scripts of calls, run with the classes and orderings of the
+//! Rust text.
 
 pub mod arena;
+pub mod calls;
+pub mod commands;
+pub mod constants;
+pub mod driver;
+pub mod group;
+pub mod joining;
+pub mod lines;
+pub mod lists;
 pub mod operation;
 pub mod records;
 pub mod refusal;

@@ -1,30 +1,26 @@
 //! A session: records one after the other, and the lines that they print. The calls are those of the Rust
 //! text; the refusals, which the Rust doesn't have, are document 01's.
 
-use std::fmt::Write;
-
 use arrow::compute::SortOptions;
-use datafusion_common::ScalarValue;
 use datafusion_physical_expr::PhysicalSortExpr;
-use datafusion_physical_expr::equivalence::{
-    AcrossPartitions, ConstExpr, EquivalenceGroup, OrderingEquivalenceClass,
-};
+use datafusion_physical_expr::equivalence::OrderingEquivalenceClass;
 
 use crate::arena::Arena;
+use crate::constants::constant;
+use crate::group::Group;
+use crate::lines::Lines;
 use crate::records::{self, Record};
 use crate::refusal::Refusal;
 
 const MOST_BYTES: usize = 65_536;
-const MOST_CLASSES: usize = 64;
-const MOST_MEMBERS: usize = 256;
 const MOST_ORDERINGS: usize = 32;
 
 #[derive(Default)]
 struct Session {
     arena: Arena,
-    group: EquivalenceGroup,
+    group: Group,
     orderings: OrderingEquivalenceClass,
-    printed: String,
+    lines: Lines,
 }
 
 /// The lines that the session with this input prints.
@@ -35,7 +31,7 @@ pub fn run(input: &[u8]) -> String {
     let mut session = Session::default();
     session.take_records(input);
     session.print_end();
-    session.printed
+    session.lines.into_text()
 }
 
 impl Session {
@@ -69,39 +65,24 @@ impl Session {
     }
 
     fn add_equal(&mut self, left: usize, right: usize) -> Result<(), Refusal> {
-        let (left, right) = (self.arena.expr(left)?, self.arena.expr(right)?);
-        let mut group = self.group.clone();
-        group.add_equal_conditions(left, right);
-        self.keep_group(group)
+        self.group.add_equal(self.arena.expr(left)?, self.arena.expr(right)?).map(|_| ())
     }
 
     fn add_constant(&mut self, expression: usize, flavour: u16, value: u32) -> Result<(), Refusal> {
-        let across = across_partitions(flavour, value)?;
-        let expr = self.arena.expr(expression)?;
-        let mut group = self.group.clone();
-        group.add_constant(ConstExpr::new(expr, across));
-        self.keep_group(group)
-    }
-
-    /// Takes the group over, unless it has too many classes or members.
-    fn keep_group(&mut self, group: EquivalenceGroup) -> Result<(), Refusal> {
-        if group.len() > MOST_CLASSES || member_count(&group) > MOST_MEMBERS {
-            return Err(Refusal::GroupFull);
-        }
-        self.group = group;
-        Ok(())
+        let constant = constant(flavour.into(), value)?;
+        self.group.add_constant(self.arena.expr(expression)?, constant)
     }
 
     fn print_normal_form(&mut self, expression: usize) -> Result<(), Refusal> {
         let expr = self.arena.expr(expression)?;
         let answer = self.arena.add_answer(&self.group.normalize_expr(expr))?;
-        self.print_line(format_args!("n {expression} {answer}"));
+        self.lines.print(format_args!("n {expression} {answer}"));
         Ok(())
     }
 
     fn print_equality(&mut self, left: usize, right: usize) -> Result<(), Refusal> {
         let equal = self.group.exprs_equal(&self.arena.expr(left)?, &self.arena.expr(right)?);
-        self.print_line(format_args!("q {left} {right} {}", u8::from(equal)));
+        self.lines.print(format_args!("q {left} {right} {}", u8::from(equal)));
         Ok(())
     }
 
@@ -117,32 +98,13 @@ impl Session {
     }
 
     fn print_refusal(&mut self, record: usize, refusal: Refusal) {
-        self.print_line(format_args!("r {record} {}", refusal as u8));
+        self.lines.print(format_args!("r {record} {}", refusal as u8));
     }
 
     fn print_end(&mut self) {
-        let (classes, members) = (self.group.len(), member_count(&self.group));
+        let (classes, members) = (self.group.len(), self.group.members());
         let orderings = self.orderings.len();
-        self.print_line(format_args!("end {classes} {members} {orderings}"));
-    }
-
-    fn print_line(&mut self, line: std::fmt::Arguments) {
-        writeln!(self.printed, "{line}").expect("a text can always grow");
-    }
-}
-
-/// The members of all classes.
-fn member_count(group: &EquivalenceGroup) -> usize {
-    group.iter().map(|class| class.len()).sum()
-}
-
-/// A constant's flavour and value in the Rust's form. A value where none is known has to be 0.
-fn across_partitions(flavour: u16, value: u32) -> Result<AcrossPartitions, Refusal> {
-    match (flavour, value) {
-        (0, 0) => Ok(AcrossPartitions::Heterogeneous),
-        (1, 0) => Ok(AcrossPartitions::Uniform(None)),
-        (2, _) => Ok(AcrossPartitions::Uniform(Some(ScalarValue(value)))),
-        _ => Err(Refusal::OutsideSet),
+        self.lines.print(format_args!("end {classes} {members} {orderings}"));
     }
 }
 

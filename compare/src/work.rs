@@ -1,5 +1,5 @@
-//! A limit on the work of one session. The Rust walks trees, so a few shared nodes can cost it hours; such a
-//! session is given up and not compared.
+//! A limit on the work of one input, a session or a script. The Rust walks trees, so a few shared nodes can cost
+//! it hours; such an input is given up and not compared.
 
 use std::cell::Cell;
 
@@ -9,15 +9,15 @@ thread_local! {
     static STEPS: Cell<u64> = const { Cell::new(0) };
 }
 
-/// What a session that is given up panics with.
+/// What an input that is given up panics with.
 pub struct TooLarge;
 
-/// Starts the count for a new session.
+/// Starts the count for a new input.
 pub fn start() {
     STEPS.set(0);
 }
 
-/// Counts one visit to an operation, and gives the session up when there are too many.
+/// Counts one visit to an operation, and gives the input up when there are too many.
 pub fn step() {
     let steps = STEPS.get() + 1;
     STEPS.set(steps);

@@ -1,0 +1,212 @@
+"""Calls on groups as commands. One list of commands is written in two forms: as text, a line a command, and as
+words of 32 bits, little-endian, a command being its number, the count of the words after it, and these words."""
+
+import struct
+from dataclasses import dataclass
+
+GROUPS = "ABC"
+LARGEST_LIMIT = 256
+
+
+@dataclass(frozen=True)
+class Number:
+    """A number that stands for itself."""
+
+    number: int
+
+    def text(self):
+        return str(self.number)
+
+    def words(self):
+        return [self.number]
+
+    def renumbered(self, new_number):
+        return self
+
+    @staticmethod
+    def read(word):
+        return Number(int(word))
+
+
+@dataclass(frozen=True)
+class Expression(Number):
+    """The number of an expression."""
+
+    def renumbered(self, new_number):
+        return Expression(new_number(self.number))
+
+    @staticmethod
+    def read(word):
+        return Expression(int(word))
+
+
+@dataclass(frozen=True)
+class GroupName(Number):
+    """A group: 0, 1 or 2, in the text A, B or C."""
+
+    def text(self):
+        return GROUPS[self.number]
+
+    @staticmethod
+    def read(word):
+        return GroupName(GROUPS.index(word))
+
+
+@dataclass(frozen=True)
+class ListedClass:
+    """A class of a list: the flavour and value of its constant, and its members."""
+
+    flavour: int
+    value: int
+    members: tuple
+
+    def text(self):
+        return f"{self.flavour}:{self.value}:{','.join(map(str, self.members))}"
+
+    def words(self):
+        return [self.flavour, self.value, len(self.members), *self.members]
+
+    def renumbered(self, new_number):
+        return ListedClass(self.flavour, self.value, tuple(map(new_number, self.members)))
+
+    @staticmethod
+    def read(word):
+        flavour, value, members = word.split(":")
+        return ListedClass(int(flavour), int(value), tuple(map(int, filter(None, members.split(",")))))
+
+
+@dataclass(frozen=True)
+class Pair:
+    """A pair of expressions of a join."""
+
+    left: int
+    right: int
+
+    def text(self):
+        return f"{self.left}={self.right}"
+
+    def words(self):
+        return [self.left, self.right]
+
+    def renumbered(self, new_number):
+        return Pair(new_number(self.left), new_number(self.right))
+
+    @staticmethod
+    def read(word):
+        return Pair(*map(int, word.split("=")))
+
+
+# The commands in the order of their numbers, from 1 on: their fields, and the field that may follow any number of
+# times.
+FORMS = {
+    "col": ([Number, Number], None),
+    "lit": ([Number], None),
+    "op": ([Number], Expression),
+    "arena": ([], None),
+    "group": ([GroupName, Number], None),
+    "new": ([GroupName], ListedClass),
+    "eq": ([GroupName, Expression, Expression], None),
+    "const": ([GroupName, Expression, Number, Number], None),
+    "clear": ([GroupName], None),
+    "isconst": ([GroupName, Expression], None),
+    "equal": ([GroupName, Expression, Expression], None),
+    "nf": ([GroupName, Expression], None),
+    "join": ([GroupName, GroupName, GroupName, Number, Number], Pair),
+    "show": ([GroupName], None),
+}
+NUMBERS = {name: number for number, name in enumerate(FORMS, 1)}
+NODES = ("col", "lit", "op")
+
+
+@dataclass(frozen=True)
+class Command:
+    """A command by its name, with its fields, and those that follow them."""
+
+    name: str
+    fields: tuple
+    rest: tuple = ()
+
+    def text(self):
+        return " ".join([self.name, *(field.text() for field in self.fields + self.rest)])
+
+    def words(self):
+        words = [word for field in self.fields + self.rest for word in field.words()]
+        return [NUMBERS[self.name], len(words), *words]
+
+    def renumbered(self, new_number):
+        """The command with a new number for each expression that it refers to."""
+        fields, rest = ([field.renumbered(new_number) for field in part] for part in (self.fields, self.rest))
+        return Command(self.name, tuple(fields), tuple(rest))
+
+
+def command(name, *numbers):
+    """A command without fields that follow."""
+    return Command(name, tuple(form(number) for form, number in zip(FORMS[name][0], numbers, strict=True)))
+
+
+def column(name, index):
+    return command("col", name, index)
+
+
+def literal(value):
+    return command("lit", value)
+
+
+def operation(label, children):
+    return Command("op", (Number(label),), tuple(map(Expression, children)))
+
+
+def new(group, classes):
+    """Classes are triples of flavour, value and members."""
+    listed = (ListedClass(flavour, value, tuple(members)) for flavour, value, members in classes)
+    return Command("new", (GroupName(group),), tuple(listed))
+
+
+def join(made, left, right, kind, left_size, pairs):
+    return Command("join", command("join", made, left, right, kind, left_size).fields,
+                   tuple(Pair(*pair) for pair in pairs))
+
+
+def read(line):
+    """The command of a line of text, or none of an empty line."""
+    name, *words = line.split("#")[0].split() or [None]
+    if name is None:
+        return None
+    first, following = FORMS[name]
+    if name == "group" and len(words) == 1:
+        words.append(str(LARGEST_LIMIT))
+    if len(words) < len(first) or (following is None and len(words) > len(first)):
+        raise ValueError(f"not the words of {name}")
+    fields = tuple(form.read(word) for form, word in zip(first, words))
+    return Command(name, fields, tuple(following.read(word) for word in words[len(first) :]))
+
+
+def as_text(commands):
+    """The commands as text."""
+    return "".join(f"{one.text()}\n" for one in commands)
+
+
+def as_words(commands):
+    """The commands as words."""
+    words = [word for one in commands for word in one.words()]
+    return struct.pack(f"<{len(words)}I", *words)
+
+
+def is_node(one):
+    """Whether the command adds a node."""
+    return one.name in NODES
+
+
+def moved_down(one, first, gone):
+    """The command with each reference from `first` + `gone` on made smaller by `gone`."""
+    return one.renumbered(lambda number: number - gone if number >= first + gone else number)
+
+
+def smaller(one):
+    """The command with one of the fields that follow left out, or with one of their members left out."""
+    for place, field in enumerate(one.rest):
+        before, after = one.rest[:place], one.rest[place + 1 :]
+        yield Command(one.name, one.fields, before + after)
+        for member in range(len(getattr(field, "members", ()))):
+            fewer = field.members[:member] + field.members[member + 1 :]
+            yield Command(one.name, one.fields, (*before, ListedClass(field.flavour, field.value, fewer), *after))

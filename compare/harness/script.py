@@ -1,0 +1,92 @@
+"""A script of calls while it is being made: commands one after the other."""
+
+from harness import commands
+from harness.draft import Draft
+
+LAST_INDEX = 65535
+
+
+class Script(Draft):
+    """Beside the nodes, a script knows about which expressions stand in each of the three groups: those that it
+    put there, whether or not they stayed."""
+
+    most_beyond = 12
+
+    def __init__(self, dice):
+        super().__init__(dice, commands)
+        self.nodes = []
+        self.members = [[] for _ in commands.GROUPS]
+
+    def node(self, node, size, part):
+        number = super().node(node, size, part)
+        if len(self.nodes) < self.count():
+            self.nodes.append(node)
+        return number
+
+    def is_literal(self, number):
+        return number < self.count() and self.nodes[number][0] == "literal"
+
+    def call(self, name, *numbers):
+        self.add(commands.command(name, *numbers))
+
+    def open(self, group, limit):
+        self.call("group", group, limit)
+        self.members[group] = []
+
+    def new(self, group, classes):
+        """Classes are triples of flavour, value and members."""
+        self.add(commands.new(group, classes))
+        self.members[group] = [member for *_, members in classes for member in members]
+
+    def equal_condition(self, group, left, right):
+        self.call("eq", group, left, right)
+        self.members[group] += [left, right]
+
+    def constant(self, group, expression, flavour, value):
+        self.call("const", group, expression, flavour, value)
+        self.members[group].append(expression)
+
+    def normal_form(self, group, expression):
+        self.call("nf", group, expression)
+        self.grown += 1
+
+    def join(self, made, left, right, kind, left_size, pairs):
+        """A join. The shifted nodes that are known count as members; the others may be new ones."""
+        self.add(commands.join(made, left, right, kind, left_size, pairs))
+        shifted = [self.known_shifted(member, left_size) for member in self.members[right]]
+        self.members[made] = self.members[left] + [member for member in shifted if member is not None]
+        self.grown += shifted.count(None)
+
+    def show_all(self):
+        """The nodes, and all three groups."""
+        self.call("arena")
+        for group in range(len(commands.GROUPS)):
+            self.call("show", group)
+
+    def member(self, group):
+        """The number of an expression that likely stands in the group, or now and then some other number."""
+        members = self.members[group]
+        return self.dice.pick(members) if members and self.dice.chance(0.75) else self.some()
+
+    def add_shifted(self, number, by):
+        """Adds the nodes of an expression whose columns are moved, as far as their indices go."""
+        kind, *fields = self.nodes[number]
+        if kind == "column":
+            self.column(fields[0], min(fields[1] + by, LAST_INDEX))
+        elif kind == "operation":
+            for child in fields[1:]:
+                self.add_shifted(child, by)
+            children = [self.known_shifted(child, by) for child in fields[1:]]
+            if None not in children:
+                self.operation(fields[0], children)
+
+    def known_shifted(self, number, by):
+        """The number of an expression whose columns are moved, or none where it isn't known to be there."""
+        if number >= self.count():
+            return None
+        kind, *fields = self.nodes[number]
+        if kind == "literal":
+            return number
+        if kind == "column":
+            return self.numbers.get((kind, fields[0], fields[1] + by))
+        return self.numbers.get((kind, fields[0], *(self.known_shifted(child, by) for child in fields[1:])))

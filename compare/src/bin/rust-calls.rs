@@ -1,0 +1,5 @@
+//! Runs scripts of calls on groups with the Rust text; `driver` says how it is called.
+
+fn main() -> std::io::Result<()> {
+    compare::driver::run(compare::calls::run)
+}

@@ -1,0 +1,111 @@
+//! The commands of a script, one a line.
+
+use std::str::FromStr;
+
+use crate::arena::Node;
+use crate::group::MOST_MEMBERS;
+use crate::joining::JoinRule;
+use crate::lists::ListedClass;
+
+/// What a line asks for. Expressions are numbers of nodes; groups are named.
+#[derive(Debug)]
+pub enum Command<'a> {
+    Reset,
+    Add(Node),
+    Arena,
+    Open { group: &'a str, limit: usize },
+    New { group: &'a str, list: Vec<ListedClass> },
+    AddEqual { group: &'a str, left: usize, right: usize },
+    AddConstant { group: &'a str, expression: usize, flavour: u32, value: u32 },
+    Clear { group: &'a str },
+    IsConstant { group: &'a str, expression: usize },
+    AreEqual { group: &'a str, left: usize, right: usize },
+    NormalForm { group: &'a str, expression: usize },
+    Join { made: &'a str, left: &'a str, right: &'a str, rule: JoinRule },
+    Show { group: &'a str },
+}
+
+/// The command of a line without its comment, or none where the line is no command.
+pub fn parse(line: &str) -> Option<Command<'_>> {
+    let words: Vec<&str> = line.split_whitespace().collect();
+    let command = match words[..] {
+        ["reset"] => Command::Reset,
+        ["col", name, index] => Command::Add(Node::Column { name: number(name)?, index: number(index)? }),
+        ["lit", value] => Command::Add(Node::Literal { value: number(value)? }),
+        ["op", label, ref children @ ..] => {
+            Command::Add(Node::Operation { label: number(label)?, children: expressions(children)? })
+        }
+        ["arena"] => Command::Arena,
+        ["group", group] => Command::Open { group: name(group)?, limit: MOST_MEMBERS },
+        ["group", group, limit] => Command::Open { group: name(group)?, limit: number(limit)? },
+        ["new", group, ref list @ ..] => {
+            Command::New { group: name(group)?, list: all(list, |class| listed_class(class))? }
+        }
+        ["eq", group, left, right] => {
+            Command::AddEqual { group: name(group)?, left: expression(left)?, right: expression(right)? }
+        }
+        ["const", group, constant, flavour, value] => Command::AddConstant {
+            group: name(group)?,
+            expression: expression(constant)?,
+            flavour: number(flavour)?,
+            value: number(value)?,
+        },
+        ["clear", group] => Command::Clear { group: name(group)? },
+        ["isconst", group, asked] => Command::IsConstant { group: name(group)?, expression: expression(asked)? },
+        ["equal", group, left, right] => {
+            Command::AreEqual { group: name(group)?, left: expression(left)?, right: expression(right)? }
+        }
+        ["nf", group, asked] => Command::NormalForm { group: name(group)?, expression: expression(asked)? },
+        ["join", made, left, right, kind, left_size, ref pairs @ ..] => Command::Join {
+            made: name(made)?,
+            left: name(left)?,
+            right: name(right)?,
+            rule: JoinRule {
+                kind: number(kind)?,
+                left_size: number(left_size)?,
+                pairs: all(pairs, |pair| equal_pair(pair))?,
+            },
+        },
+        ["show", group] => Command::Show { group: name(group)? },
+        _ => return None,
+    };
+    Some(command)
+}
+
+/// A number that fits its type.
+fn number<T: FromStr>(word: &str) -> Option<T> {
+    word.parse().ok()
+}
+
+/// An expression is a number of 32 bits, known or not.
+fn expression(word: &str) -> Option<usize> {
+    number::<u32>(word).map(|number| number as usize)
+}
+
+fn expressions(words: &[&str]) -> Option<Vec<usize>> {
+    all(words, expression)
+}
+
+/// A state's name begins with a capital letter.
+fn name(word: &str) -> Option<&str> {
+    word.starts_with(|first: char| first.is_ascii_uppercase()).then_some(word)
+}
+
+/// A class of a list, `F:V:E,E,..`.
+fn listed_class(word: &str) -> Option<ListedClass> {
+    let (flavour, rest) = word.split_once(':')?;
+    let (value, members) = rest.split_once(':')?;
+    let members: Vec<&str> = if members.is_empty() { Vec::new() } else { members.split(',').collect() };
+    Some(ListedClass { flavour: number(flavour)?, value: number(value)?, members: expressions(&members)? })
+}
+
+/// A pair of a join, `A=B`.
+fn equal_pair(word: &str) -> Option<(usize, usize)> {
+    let (left, right) = word.split_once('=')?;
+    Some((expression(left)?, expression(right)?))
+}
+
+/// What each word says, if all say something.
+fn all<T>(words: &[&str], read: impl Fn(&str) -> Option<T>) -> Option<Vec<T>> {
+    words.iter().map(|word| read(word)).collect()
+}

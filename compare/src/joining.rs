@@ -1,0 +1,118 @@
+//! `join`: the Rust joins two groups; what document 01 adds are the numbers of the nodes that come of it, and
+//! the refusals.
+
+use std::sync::Arc;
+
+use datafusion_common::JoinType;
+use datafusion_physical_expr::PhysicalExpr;
+use datafusion_physical_expr::equivalence::{EquivalenceClass, EquivalenceGroup};
+use datafusion_physical_expr::physical_expr::add_offset_to_expr;
+
+use crate::arena::{Arena, columns_in_bounds};
+use crate::group::{Group, MOST_MEMBERS, refuse_too_large};
+use crate::lists::{Made, is_outside_domain};
+use crate::refusal::Refusal;
+
+/// The join types by their numbers.
+const JOIN_TYPES: [JoinType; 10] = [
+    JoinType::Inner,
+    JoinType::Left,
+    JoinType::Full,
+    JoinType::Right,
+    JoinType::LeftSemi,
+    JoinType::LeftAnti,
+    JoinType::LeftMark,
+    JoinType::RightSemi,
+    JoinType::RightAnti,
+    JoinType::RightMark,
+];
+
+/// How two groups are to be joined; the pairs are numbers of expressions.
+#[derive(Debug)]
+pub struct JoinRule {
+    pub kind: usize,
+    pub left_size: u32,
+    pub pairs: Vec<(usize, usize)>,
+}
+
+/// A join whose numbers were found right: what the Rust is asked.
+struct Join<'a> {
+    left: &'a EquivalenceGroup,
+    right: &'a EquivalenceGroup,
+    join_type: JoinType,
+    left_size: usize,
+    on: Vec<(Arc<dyn PhysicalExpr>, Arc<dyn PhysicalExpr>)>,
+}
+
+/// The group that the Rust makes of the two, with its new nodes in the arena, or the first refusal that applies.
+pub fn joined_group(arena: &mut Arena, left: &Group, right: &Group, rule: &JoinRule) -> Result<Made, Refusal> {
+    let join = Join {
+        left,
+        right,
+        join_type: *JOIN_TYPES.get(rule.kind).ok_or(Refusal::OutsideSet)?,
+        left_size: rule.left_size as usize,
+        on: exprs_of_pairs(arena, &rule.pairs)?,
+    };
+    let list = join.list_reaching_new();
+    let shifted = join.shifted();
+    if !shifted.iter().all(columns_in_bounds) {
+        return Err(Refusal::ColumnOutside);
+    }
+    arena.or_as_before(|arena| {
+        shifted.iter().try_for_each(|expr| arena.add_answer(expr).map(|_| ()))?;
+        refuse_too_large(&list, MOST_MEMBERS)?;
+        Ok(Made { group: join.group_after_each_pair()?, outside_domain: is_outside_domain(&list) })
+    })
+}
+
+fn exprs_of_pairs(
+    arena: &Arena,
+    pairs: &[(usize, usize)],
+) -> Result<Vec<(Arc<dyn PhysicalExpr>, Arc<dyn PhysicalExpr>)>, Refusal> {
+    pairs.iter().map(|(left, right)| Ok((arena.expr(*left)?, arena.expr(*right)?))).collect()
+}
+
+impl Join<'_> {
+    /// Whether the right side's columns are moved behind the left side's.
+    fn shifts(&self) -> bool {
+        use JoinType::{Full, Inner, Left, Right};
+        matches!(self.join_type, Inner | Left | Full | Right)
+    }
+
+    /// The right side's classes after the shift, in their order; none where the join doesn't shift.
+    fn shifted_classes(&self) -> Vec<EquivalenceClass> {
+        let right: &[EquivalenceClass] = if self.shifts() { self.right } else { &[] };
+        right.iter().map(|class| class.try_with_offset(self.left_size as isize).expect(NO_OVERFLOW)).collect()
+    }
+
+    /// The list of classes that the Rust hands to `new`, or an empty one where it doesn't call it.
+    fn list_reaching_new(&self) -> Vec<EquivalenceClass> {
+        let left: &[EquivalenceClass] = if self.shifts() { self.left } else { &[] };
+        left.iter().cloned().chain(self.shifted_classes()).collect()
+    }
+
+    /// All expressions that are shifted: the right side's classes, then for Inner the pairs' right sides.
+    fn shifted(&self) -> Vec<Arc<dyn PhysicalExpr>> {
+        let on = if self.join_type == JoinType::Inner { &self.on[..] } else { &[] };
+        let sides = on
+            .iter()
+            .map(|(_, right)| add_offset_to_expr(Arc::clone(right), self.left_size as isize).expect(NO_OVERFLOW));
+        self.shifted_classes().into_iter().flatten().chain(sides).collect()
+    }
+
+    /// The joined group. The Rust is asked for it with more and more of the pairs, since the group is refused if
+    /// it is too large after any of them.
+    fn group_after_each_pair(&self) -> Result<Group, Refusal> {
+        for count in 0..self.on.len() {
+            Group::of(self.joined(count))?;
+        }
+        Group::of(self.joined(self.on.len()))
+    }
+
+    /// What the Rust makes of the two groups and the first `count` pairs.
+    fn joined(&self, count: usize) -> EquivalenceGroup {
+        self.left.join(self.right, &self.join_type, self.left_size, &self.on[..count]).expect(NO_OVERFLOW)
+    }
+}
+
+const NO_OVERFLOW: &str = "an index of 16 bits and a shift of 32 bits fit the Rust's indices";
