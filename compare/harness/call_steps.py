@@ -1,7 +1,7 @@
 """Single calls on groups with chosen or chance contents, from which scripts are made."""
 
 from harness.commands import GROUPS, LARGEST_LIMIT
-from harness.steps import LABELS, VALUES, several
+from harness.steps import LABELS, VALUES
 
 KINDS = 10
 INNER = 0
@@ -229,8 +229,3 @@ def odd_call(dice, script):
         (odd_list, 5), (odd_join, 4), (odd_constant, 2), (odd_question, 3), (odd_limit, 1), (odd_operation, 1),
     ])
     step(dice, script, any_group(dice))
-
-
-def calls(dice, script, low, high):
-    """A few calls of any sort."""
-    several(dice, low, high, any_call, script)

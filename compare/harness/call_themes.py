@@ -80,6 +80,20 @@ def listed_constants(dice, script):
     call_steps.probe(dice, script, FIRST)
 
 
+def trees(dice, script):
+    """Operations whose parts stand in classes, and themselves in others, with and without constants."""
+    for name in range(dice.between(2, 4)):
+        script.column(name)
+    script.literal(dice.pick(steps.VALUES))
+    several(dice, 3, 12, steps.operation, script)
+    script.new(FIRST, call_steps.list_over(dice, script, range(script.count()), 1, 6))
+    for _ in range(dice.between(3, 12)):
+        step = dice.weighed([
+            (call_steps.normal_form, 3), (call_steps.are_equal, 3), (call_steps.is_constant, 4), (call_steps.look, 2),
+        ])
+        step(dice, script, FIRST)
+
+
 def joins(dice, script):
     """Two groups and their joins, also of groups that were joined before."""
     nodes(dice, script)
@@ -137,50 +151,63 @@ def shift_bounds(dice, script):
 
 
 def full_arena(dice, script):
-    """Joins and normal forms that need more nodes than there are places, or just as many."""
+    """Joins and normal forms that need more nodes than there are places, or just as many. The left group may have
+    nearly as many classes as it can."""
     for name in range(dice.between(2, 5)):
         script.column(name)
-    several(dice, 0, 3, steps.operation, script)
+    several(dice, 1, 3, steps.operation, script)
     used = script.count()
     room = dice.between(0, 8)
-    for name in range(MOST_NODES - room - used):
-        script.column(1000 + name)
-    groups = [(FIRST, SECOND), (SECOND, FIRST)]
-    for group in (FIRST, SECOND):
-        script.new(group, call_steps.list_over(dice, script, range(used), 1, 4))
+    filling = [script.column(1000 + name) for name in range(MOST_NODES - room - used)]
+    crowd = pairs_of(filling)[: dice.pick([0, 0, 60, 63, 64])]
+    script.new(FIRST, [(0, 0, members) for members in crowd] or call_steps.list_over(dice, script, range(used), 1, 4))
+    script.new(SECOND, call_steps.list_over(dice, script, range(used), 1, 6))
     for left_size in range(1, dice.between(3, 8)):
-        script.join(THIRD, *dice.pick(groups), dice.pick([0, 0, 1, 4]), left_size,
-                    [(dice.below(used), dice.below(used)) for _ in range(dice.below(3))])
+        sides = dice.pick([(FIRST, SECOND), (SECOND, FIRST), (SECOND, SECOND)])
+        pairs = [(dice.below(used), dice.below(used)) for _ in range(dice.below(4))]
+        script.join(THIRD, *sides, dice.pick([0, 0, 1, 4]), left_size, pairs)
+        script.normal_form(dice.pick([SECOND, THIRD]), dice.below(used))
         call_steps.probe(dice, script, THIRD, 3)
+    several(dice, 0, 2, steps.operation, script)
     several(dice, 0, 3, call_steps.odd_call, script)
 
 
+def pairs_of(numbers):
+    """The numbers two by two."""
+    return [list(pair) for pair in zip(numbers[::2], numbers[1::2])]
+
+
 def many_classes(dice, script):
-    """Lists and joins of close to 64 classes, and pairs that open more before they merge some."""
-    count = dice.between(60, 66)
-    first = [script.column(name, 0) for name in range(count)]
-    second = [script.column(name, 1) for name in range(count)]
-    cut = dice.pick([count, dice.between(0, count)])
-    pairs = [[left, right] for left, right in zip(first, second)]
-    for group, members in ((FIRST, pairs[:cut]), (SECOND, pairs[cut:])):
-        script.new(group, [call_steps.class_of(dice, script, own) for own in call_steps.shuffled(dice, members)])
+    """Lists and joins of close to 64 classes, some of which don't stay, and pairs that open more before they merge
+    some."""
+    count = dice.between(61, 67)
+    columns = [script.column(name, index) for name in range(count) for index in range(2)]
     fresh = [script.column(500 + place, place) for place in range(6)]
-    on = [(dice.pick(fresh + first), dice.pick(fresh + second)) for _ in range(dice.below(8))]
-    script.join(THIRD, FIRST, SECOND, dice.pick([0, 0, 0, 1, 2, 3, 4, 7]), 2, on)
+    classes = []
+    for members in pairs_of(columns):
+        single = dice.chance(dice.pick([0, 0.1]))
+        classes.append((dice.between(1, 2), 0, members[:1]) if single else call_steps.class_of(dice, script, members))
+    cut = dice.pick([count, dice.between(0, count), dice.between(40, count)])
+    script.new(FIRST, classes[:cut])
+    script.new(SECOND, classes[cut:])
+    for _ in range(dice.between(1, 3)):
+        pairs = [(dice.pick(fresh + columns), dice.pick(fresh + columns)) for _ in range(dice.below(8))]
+        script.join(THIRD, FIRST, SECOND, dice.pick([0, 0, 0, 1, 2, 3, 4, 7]), dice.between(2, 3), pairs)
     full_group_calls(dice, script)
 
 
 def many_members(dice, script):
     """Lists and joins of close to 256 members, with repeats in the lists."""
-    count = dice.between(250, 259)
+    count = dice.between(250, 262)
     columns = [script.column(name) for name in range(count)]
     repeats = dice.pick([0, 0, 1, 3, 8])
     members = columns[repeats:] + [dice.pick(columns) for _ in range(repeats)]
-    cut = dice.pick([count, count, dice.between(0, count)])
+    cut = dice.pick([count, dice.between(0, count)])
     for group, part in ((FIRST, members[:cut]), (SECOND, members[cut:])):
         script.new(group, call_steps.in_domain(dice, rows_of(dice, script, part)))
-    script.join(THIRD, FIRST, SECOND, dice.pick([0, 0, 0, 1, 3, 5, 8]), dice.between(0, 1),
-                [(script.member(FIRST), script.known()) for _ in range(dice.below(6))])
+    for _ in range(dice.between(1, 3)):
+        pairs = [(script.member(FIRST), script.known()) for _ in range(dice.below(6))]
+        script.join(THIRD, FIRST, SECOND, dice.pick([0, 0, 0, 1, 3, 5, 8]), dice.between(0, 1), pairs)
     full_group_calls(dice, script)
 
 
@@ -205,11 +232,15 @@ def small_limits(dice, script):
     nodes(dice, script)
     for group in (FIRST, SECOND):
         script.open(group, dice.between(1, 6))
+        if dice.chance(0.3):
+            call_steps.new(dice, script, group)
         for _ in range(dice.between(2, 10)):
             step = dice.weighed([(call_steps.equal_condition, 5), (call_steps.constant, 3), (call_steps.look, 2)])
             step(dice, script, group)
-    call_steps.join(dice, script, dice.pick([SECOND, THIRD]))
-    call_steps.calls(dice, script, 0, 8)
+    made = dice.pick([SECOND, THIRD])
+    call_steps.join(dice, script, made)
+    several(dice, 2, 8, lambda dice, script: call_steps.equal_condition(dice, script, made), script)
+    call_steps.probe(dice, script, made)
 
 
 def bad_numbers(dice, script):
@@ -234,13 +265,14 @@ THEMES = [
     (chains, 8),
     (idle_classes, 10),
     (listed_constants, 8),
+    (trees, 8),
     (joins, 14),
     (every_kind, 3),
     (shared_sides, 8),
     (shift_bounds, 6),
-    (full_arena, 1),
-    (many_classes, 1.5),
-    (many_members, 1),
+    (full_arena, 2),
+    (many_classes, 3),
+    (many_members, 3),
     (small_limits, 6),
     (bad_numbers, 8),
     (outside_domain, 0.5),

@@ -60,7 +60,8 @@ class Comparison:
     def show_difference(self, seed, parts):
         """Prints the smallest input found, part by part, and both answers."""
         smallest = shrink(self.inputs, parts, self.differ)
-        print(f"The sides differ on the {self.inputs.one} of seed {seed}. Of its {len(parts)} parts, these are enough:\n")
+        print(f"The sides differ on the {self.inputs.one} of seed {seed}. Of its {len(parts)} {self.inputs.parts}, "
+              "these are enough:\n")
         for line in self.inputs.shown(smallest):
             print(f"  {line}")
         expected, answer = self.rust_answer(smallest), self.our_answer(smallest)

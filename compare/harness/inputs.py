@@ -9,7 +9,7 @@ from harness.tally import ScriptTally, SessionTally
 class Sessions:
     """Sessions of records, the same bytes for both sides."""
 
-    one, plural = "session", "sessions"
+    one, plural, parts = "session", "sessions", "records"
     rust_program, our_program = "rust-session", "session"
     tally = SessionTally
     is_node, moved_down = staticmethod(records.is_node), staticmethod(records.moved_down)
@@ -43,7 +43,7 @@ class Sessions:
 class Scripts(Sessions):
     """Scripts of calls on groups: text for the Rust's side, words for ours."""
 
-    one, plural = "script", "scripts"
+    one, plural, parts = "script", "scripts", "commands"
     rust_program, our_program = "rust-calls", "group_calls"
     tally = ScriptTally
     is_node, moved_down = staticmethod(commands.is_node), staticmethod(commands.moved_down)
