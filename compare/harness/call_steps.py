@@ -4,7 +4,7 @@ from harness.commands import GROUPS, LARGEST_LIMIT
 from harness.steps import LABELS, VALUES
 
 KINDS = 10
-INNER = 0
+INNER, LEFT = 0, 1
 ODD_FLAVOURS = [4, 5, 16, 256, 65535]
 
 
@@ -98,6 +98,14 @@ def is_constant(dice, script, group):
 
 def are_equal(dice, script, group):
     script.call("equal", group, script.member(group), script.member(group))
+
+
+def twins_equal(dice, script, group):
+    """Whether two operations over the same children are equal; the second one's label may be another."""
+    number = script.known()
+    kind, *fields = script.nodes[number]
+    if kind == "operation":
+        script.call("equal", group, number, script.operation(dice.pick(LABELS), fields[1:]))
 
 
 def normal_form(dice, script, group):

@@ -84,14 +84,13 @@ def trees(dice, script):
     """Operations whose parts stand in classes, and themselves in others, with and without constants."""
     for name in range(dice.between(2, 4)):
         script.column(name)
-    script.literal(dice.pick(steps.VALUES))
+    literal = script.literal(dice.pick(steps.VALUES))
+    script.operation(dice.pick(steps.LABELS), [literal])
     several(dice, 3, 12, steps.operation, script)
     script.new(FIRST, call_steps.list_over(dice, script, range(script.count()), 1, 6))
+    questions = [call_steps.normal_form, call_steps.are_equal, call_steps.is_constant, call_steps.twins_equal]
     for _ in range(dice.between(3, 12)):
-        step = dice.weighed([
-            (call_steps.normal_form, 3), (call_steps.are_equal, 3), (call_steps.is_constant, 4), (call_steps.look, 2),
-        ])
-        step(dice, script, FIRST)
+        dice.pick(questions + [call_steps.look])(dice, script, FIRST)
 
 
 def joins(dice, script):
@@ -151,25 +150,56 @@ def shift_bounds(dice, script):
 
 
 def full_arena(dice, script):
-    """Joins and normal forms that need more nodes than there are places, or just as many. The left group may have
-    nearly as many classes as it can."""
+    """Joins and normal forms that need more nodes than there are places, or just as many."""
     for name in range(dice.between(2, 5)):
         script.column(name)
     several(dice, 1, 3, steps.operation, script)
     used = script.count()
     room = dice.between(0, 8)
-    filling = [script.column(1000 + name) for name in range(MOST_NODES - room - used)]
-    crowd = pairs_of(filling)[: dice.pick([0, 0, 60, 63, 64])]
-    script.new(FIRST, [(0, 0, members) for members in crowd] or call_steps.list_over(dice, script, range(used), 1, 4))
-    script.new(SECOND, call_steps.list_over(dice, script, range(used), 1, 6))
+    for name in range(MOST_NODES - room - used):
+        script.column(1000 + name)
+    for group in (FIRST, SECOND):
+        script.new(group, call_steps.list_over(dice, script, range(used), 1, 4))
     for left_size in range(1, dice.between(3, 8)):
-        sides = dice.pick([(FIRST, SECOND), (SECOND, FIRST), (SECOND, SECOND)])
+        sides = dice.pick([(FIRST, SECOND), (SECOND, FIRST)])
         pairs = [(dice.below(used), dice.below(used)) for _ in range(dice.below(4))]
-        script.join(THIRD, *sides, dice.pick([0, 0, 1, 4]), left_size, pairs)
+        shift = LAST_INDEX + 1 if dice.chance(0.1) else left_size
+        script.join(THIRD, *sides, dice.pick([0, 0, 1, 4]), shift, pairs)
         script.normal_form(dice.pick([SECOND, THIRD]), dice.below(used))
         call_steps.probe(dice, script, THIRD, 3)
     several(dice, 0, 2, steps.operation, script)
     several(dice, 0, 3, call_steps.odd_call, script)
+
+
+def doubled(dice, script):
+    """Joins have doubled a class up to 64, and may have filled the arena but for a few places. Then inner joins whose
+    pairs open one class more, merge it again or not, and need nodes that fit or don't."""
+    script.open(SECOND, call_steps.LARGEST_LIMIT)
+    fixed = [script.operation(label, []) for label in range(3)]
+    pair = [script.column(0, index) for index in range(2)]
+    script.new(FIRST, [(0, 0, pair)])
+    columns = 2
+    while columns < 128:
+        script.join(FIRST, FIRST, FIRST, call_steps.LEFT, columns, [])
+        columns *= 2
+    if dice.chance(0.5):
+        columns = fill_by_shifts(script, columns, MOST_NODES - len(fixed) - dice.between(0, 4))
+    for _ in range(dice.pick([0, 0, 1, 2])):
+        script.equal_condition(FIRST, pair[0], len(fixed) + dice.below(128))
+    script.new(SECOND, [(0, 0, pair)] * dice.below(2))
+    for _ in range(dice.between(1, 4)):
+        rights = fixed + [len(fixed) + dice.below(7)]
+        pairs = [(dice.pick(fixed + pair), dice.pick(rights)) for _ in range(dice.between(1, 4))]
+        script.join(THIRD, FIRST, SECOND, call_steps.INNER, columns - dice.below(2), pairs)
+        call_steps.probe(dice, script, FIRST, 2)
+
+
+def fill_by_shifts(script, columns, wanted):
+    """Adds columns up to the wanted number by shifting the 128 of the first group; the second one is empty."""
+    while columns < wanted:
+        columns = min(columns + 128, wanted)
+        script.join(THIRD, SECOND, FIRST, call_steps.LEFT, columns - 128, [])
+    return columns
 
 
 def pairs_of(numbers):
@@ -182,7 +212,7 @@ def many_classes(dice, script):
     some."""
     count = dice.between(61, 67)
     columns = [script.column(name, index) for name in range(count) for index in range(2)]
-    fresh = [script.column(500 + place, place) for place in range(6)]
+    fresh = [script.column(500 + place, place) for place in range(3)]
     classes = []
     for members in pairs_of(columns):
         single = dice.chance(dice.pick([0, 0.1]))
@@ -271,6 +301,7 @@ THEMES = [
     (shared_sides, 8),
     (shift_bounds, 6),
     (full_arena, 2),
+    (doubled, 2),
     (many_classes, 3),
     (many_members, 3),
     (small_limits, 6),

@@ -25,6 +25,9 @@ class Sessions:
     def for_ours(self, parts):
         return b"".join(parts)
 
+    # The files of an input, by their endings.
+    forms = {".bin": for_ours}
+
     def smaller(self, part):
         """Records are not made smaller."""
         return ()
@@ -57,6 +60,8 @@ class Scripts(Sessions):
 
     def for_ours(self, parts):
         return commands.as_words(parts)
+
+    forms = {".txt": for_rust, ".words": for_ours}
 
     def not_compared(self, answer):
         return "outside the domain" if OUTSIDE_DOMAIN in answer else super().not_compared(answer)

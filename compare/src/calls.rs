@@ -3,13 +3,14 @@
 
 use std::collections::HashMap;
 
+use datafusion_physical_expr::equivalence::AcrossPartitions;
 use datafusion_physical_expr::equivalence::class_parts::constant_of;
 
 use crate::arena::{Arena, Node};
 use crate::commands::{self, Command};
 use crate::constants::{constant, flavour_and_value};
 use crate::group::Group;
-use crate::joining::joined_group;
+use crate::joining::{JoinRule, joined_group};
 use crate::lines::Lines;
 use crate::lists::{Made, new_group};
 use crate::refusal::Refusal;
@@ -29,29 +30,47 @@ impl From<Refusal> for Fault {
     }
 }
 
-struct Calls {
+/// The nodes, and the groups by their names.
+struct State {
     arena: Arena,
     groups: HashMap<String, Group>,
 }
 
-impl Default for Calls {
+impl Default for State {
     fn default() -> Self {
         let groups = FIRST_GROUPS.map(|name| (name.to_string(), Group::default()));
-        Calls { arena: Arena::default(), groups: HashMap::from(groups) }
+        State { arena: Arena::default(), groups: HashMap::from(groups) }
     }
+}
+
+impl State {
+    /// The group of this name. A name that no group was given is no command.
+    fn group(&self, name: &str) -> Result<&Group, Fault> {
+        self.groups.get(name).ok_or(Fault::NoCommand)
+    }
+
+    fn group_mut(&mut self, name: &str) -> Result<&mut Group, Fault> {
+        self.groups.get_mut(name).ok_or(Fault::NoCommand)
+    }
+}
+
+#[derive(Default)]
+struct Calls {
+    state: State,
+    lines: Lines,
 }
 
 /// The lines that the script prints.
 pub fn run(script: &[u8]) -> String {
-    let (mut calls, mut lines) = (Calls::default(), Lines::default());
+    let mut calls = Calls::default();
     for line in String::from_utf8_lossy(script).lines() {
-        match calls.take(without_comment(line), &mut lines) {
+        match calls.take_line(line) {
             Ok(()) => {}
-            Err(Fault::NoCommand) => lines.print(format_args!("! {line}")),
-            Err(Fault::Refused(refusal)) => lines.print(format_args!("r {}", refusal as u8)),
+            Err(Fault::NoCommand) => calls.lines.print(format_args!("! {line}")),
+            Err(Fault::Refused(refusal)) => calls.lines.print(format_args!("r {}", refusal as u8)),
         }
     }
-    lines.into_text()
+    calls.lines.into_text()
 }
 
 /// The line up to its comment, without blanks around it.
@@ -61,95 +80,115 @@ fn without_comment(line: &str) -> &str {
 
 impl Calls {
     /// Does what one line asks for, or refuses it and changes nothing. An empty line asks for nothing.
-    fn take(&mut self, line: &str, lines: &mut Lines) -> Result<(), Fault> {
-        if line.is_empty() {
-            return Ok(());
+    fn take_line(&mut self, line: &str) -> Result<(), Fault> {
+        match without_comment(line) {
+            "" => Ok(()),
+            line => self.take(commands::parse(line).ok_or(Fault::NoCommand)?),
         }
-        match commands::parse(line).ok_or(Fault::NoCommand)? {
-            Command::Reset => {
-                *self = Calls::default();
-                lines.print(format_args!("ok"));
-            }
-            Command::Add(node) => lines.print(format_args!("e {}", self.arena.add(node)?)),
-            Command::Arena => print_nodes(&self.arena, lines),
-            Command::Open { group, limit } => self.keep(group, Group::open(limit)?, lines),
-            Command::New { group, list } => self.keep_made(group, new_group(&self.arena, &list)?, lines),
-            Command::AddEqual { group, left, right } => {
-                let (left, right) = (self.arena.expr(left)?, self.arena.expr(right)?);
-                let new_class = self.group_mut(group)?.add_equal(left, right)?;
-                self.print_answer_and_group(new_class, group, lines)?;
-            }
+    }
+
+    fn take(&mut self, command: Command) -> Result<(), Fault> {
+        match command {
+            Command::Reset => self.reset(),
+            Command::Add(node) => self.add(node)?,
+            Command::Arena => print_nodes(&self.state.arena, &mut self.lines),
+            Command::Open { group, limit } => self.keep(group, Group::open(limit)?),
+            Command::New { group, list } => self.keep_made(group, new_group(&self.state.arena, &list)?),
+            Command::AddEqual { group, left, right } => self.add_equal(group, left, right)?,
             Command::AddConstant { group, expression, flavour, value } => {
-                let constant = constant(flavour, value)?;
-                let expr = self.arena.expr(expression)?;
-                self.group_mut(group)?.add_constant(expr, constant)?;
-                self.print_group(group, lines)?;
+                self.add_constant(group, expression, constant(flavour, value)?)?
             }
-            Command::Clear { group } => {
-                let change = self.group_mut(group)?.clear();
-                self.print_answer_and_group(change, group, lines)?;
-            }
-            Command::IsConstant { group, expression } => {
-                let constant = self.group(group)?.is_expr_constant(&self.arena.expr(expression)?);
-                let (flavour, value) = flavour_and_value(constant.as_ref());
-                lines.print(format_args!("k {flavour} {value}"));
-            }
-            Command::AreEqual { group, left, right } => {
-                let (left, right) = (self.arena.expr(left)?, self.arena.expr(right)?);
-                let equal = self.group(group)?.exprs_equal(&left, &right);
-                lines.print(format_args!("q {}", u8::from(equal)));
-            }
-            Command::NormalForm { group, expression } => {
-                let normal = self.group(group)?.normalize_expr(self.arena.expr(expression)?);
-                let number = self.arena.add_answer(&normal)?;
-                lines.print(format_args!("n {number} nodes {}", self.arena.count()));
-            }
-            Command::Join { made, left, right, rule } => {
-                let (left, right) = (find(&self.groups, left)?, find(&self.groups, right)?);
-                let joined = joined_group(&mut self.arena, left, right, &rule)?;
-                self.keep_made(made, joined, lines);
-            }
-            Command::Show { group } => self.print_group(group, lines)?,
+            Command::Clear { group } => self.clear(group)?,
+            Command::IsConstant { group, expression } => self.print_constant(group, expression)?,
+            Command::AreEqual { group, left, right } => self.print_equality(group, left, right)?,
+            Command::NormalForm { group, expression } => self.print_normal_form(group, expression)?,
+            Command::Join { made, left, right, rule } => self.join(made, left, right, &rule)?,
+            Command::Show { group } => self.print_group(group)?,
         }
         Ok(())
     }
 
-    fn group(&self, name: &str) -> Result<&Group, Fault> {
-        find(&self.groups, name)
+    fn reset(&mut self) {
+        self.state = State::default();
+        self.lines.print(format_args!("ok"));
     }
 
-    fn group_mut(&mut self, name: &str) -> Result<&mut Group, Fault> {
-        self.groups.get_mut(name).ok_or(Fault::NoCommand)
+    fn add(&mut self, node: Node) -> Result<(), Fault> {
+        let number = self.state.arena.add(node)?;
+        self.lines.print(format_args!("e {number}"));
+        Ok(())
+    }
+
+    fn add_equal(&mut self, name: &str, left: usize, right: usize) -> Result<(), Fault> {
+        let (left, right) = (self.state.arena.expr(left)?, self.state.arena.expr(right)?);
+        let new_class = self.state.group_mut(name)?.add_equal(left, right)?;
+        self.print_change(name, new_class)
+    }
+
+    fn add_constant(&mut self, name: &str, expression: usize, constant: AcrossPartitions) -> Result<(), Fault> {
+        let expr = self.state.arena.expr(expression)?;
+        self.state.group_mut(name)?.add_constant(expr, constant)?;
+        self.print_group(name)
+    }
+
+    fn clear(&mut self, name: &str) -> Result<(), Fault> {
+        let change = self.state.group_mut(name)?.clear();
+        self.print_change(name, change)
+    }
+
+    fn print_constant(&mut self, name: &str, expression: usize) -> Result<(), Fault> {
+        let constant = self.state.group(name)?.is_expr_constant(&self.state.arena.expr(expression)?);
+        let (flavour, value) = flavour_and_value(constant.as_ref());
+        self.lines.print(format_args!("k {flavour} {value}"));
+        Ok(())
+    }
+
+    fn print_equality(&mut self, name: &str, left: usize, right: usize) -> Result<(), Fault> {
+        let (left, right) = (self.state.arena.expr(left)?, self.state.arena.expr(right)?);
+        let equal = self.state.group(name)?.exprs_equal(&left, &right);
+        self.lines.print(format_args!("q {}", u8::from(equal)));
+        Ok(())
+    }
+
+    fn print_normal_form(&mut self, name: &str, expression: usize) -> Result<(), Fault> {
+        let normal = self.state.group(name)?.normalize_expr(self.state.arena.expr(expression)?);
+        let number = self.state.arena.add_answer(&normal)?;
+        self.lines.print(format_args!("n {number} nodes {}", self.state.arena.count()));
+        Ok(())
+    }
+
+    fn join(&mut self, made: &str, left: &str, right: &str, rule: &JoinRule) -> Result<(), Fault> {
+        let State { arena, groups } = &mut self.state;
+        let (left, right) = (groups.get(left).ok_or(Fault::NoCommand)?, groups.get(right).ok_or(Fault::NoCommand)?);
+        let joined = joined_group(arena, left, right, rule)?;
+        self.keep_made(made, joined);
+        Ok(())
     }
 
     /// Keeps a group made of a list, and says so where the list is outside the domain.
-    fn keep_made(&mut self, name: &str, made: Made, lines: &mut Lines) {
+    fn keep_made(&mut self, name: &str, made: Made) {
         if made.outside_domain {
-            lines.print(format_args!("# outside the domain"));
+            self.lines.print(format_args!("# outside the domain"));
         }
-        self.keep(name, made.group, lines);
+        self.keep(name, made.group);
     }
 
     /// Keeps a new group under this name and prints it.
-    fn keep(&mut self, name: &str, group: Group, lines: &mut Lines) {
-        print_classes(&self.arena, &group, lines);
-        self.groups.insert(name.to_string(), group);
+    fn keep(&mut self, name: &str, group: Group) {
+        print_classes(&self.state.arena, &group, &mut self.lines);
+        self.state.groups.insert(name.to_string(), group);
     }
 
-    fn print_answer_and_group(&self, answer: bool, name: &str, lines: &mut Lines) -> Result<(), Fault> {
-        lines.print(format_args!("b {}", u8::from(answer)));
-        self.print_group(name, lines)
+    /// Prints what a call on the group answered, and the group.
+    fn print_change(&mut self, name: &str, answer: bool) -> Result<(), Fault> {
+        self.lines.print(format_args!("b {}", u8::from(answer)));
+        self.print_group(name)
     }
 
-    fn print_group(&self, name: &str, lines: &mut Lines) -> Result<(), Fault> {
-        print_classes(&self.arena, self.group(name)?, lines);
+    fn print_group(&mut self, name: &str) -> Result<(), Fault> {
+        print_classes(&self.state.arena, self.state.group(name)?, &mut self.lines);
         Ok(())
     }
-}
-
-/// A name that no group was given is no command.
-fn find<'a>(groups: &'a HashMap<String, Group>, name: &str) -> Result<&'a Group, Fault> {
-    groups.get(name).ok_or(Fault::NoCommand)
 }
 
 /// A line a node.

@@ -39,7 +39,7 @@ pub fn parse(line: &str) -> Option<Command<'_>> {
         ["group", group] => Command::Open { group: name(group)?, limit: MOST_MEMBERS },
         ["group", group, limit] => Command::Open { group: name(group)?, limit: number(limit)? },
         ["new", group, ref list @ ..] => {
-            Command::New { group: name(group)?, list: all(list, |class| listed_class(class))? }
+            Command::New { group: name(group)?, list: all(list, listed_class)? }
         }
         ["eq", group, left, right] => {
             Command::AddEqual { group: name(group)?, left: expression(left)?, right: expression(right)? }
@@ -63,7 +63,7 @@ pub fn parse(line: &str) -> Option<Command<'_>> {
             rule: JoinRule {
                 kind: number(kind)?,
                 left_size: number(left_size)?,
-                pairs: all(pairs, |pair| equal_pair(pair))?,
+                pairs: all(pairs, equal_pair)?,
             },
         },
         ["show", group] => Command::Show { group: name(group)? },

@@ -13,6 +13,9 @@ use crate::group::{Group, MOST_MEMBERS, refuse_too_large};
 use crate::lists::{Made, is_outside_domain};
 use crate::refusal::Refusal;
 
+/// A pair of expressions that a join holds equal.
+type OnPair = (Arc<dyn PhysicalExpr>, Arc<dyn PhysicalExpr>);
+
 /// The join types by their numbers.
 const JOIN_TYPES: [JoinType; 10] = [
     JoinType::Inner,
@@ -26,6 +29,9 @@ const JOIN_TYPES: [JoinType; 10] = [
     JoinType::RightAnti,
     JoinType::RightMark,
 ];
+
+/// Why a shift never fails in the Rust's form.
+const NO_OVERFLOW: &str = "an index of 16 bits and a shift of 32 bits fit the Rust's indices";
 
 /// How two groups are to be joined; the pairs are numbers of expressions.
 #[derive(Debug)]
@@ -41,7 +47,7 @@ struct Join<'a> {
     right: &'a EquivalenceGroup,
     join_type: JoinType,
     left_size: usize,
-    on: Vec<(Arc<dyn PhysicalExpr>, Arc<dyn PhysicalExpr>)>,
+    on: Vec<OnPair>,
 }
 
 /// The group that the Rust makes of the two, with its new nodes in the arena, or the first refusal that applies.
@@ -65,10 +71,7 @@ pub fn joined_group(arena: &mut Arena, left: &Group, right: &Group, rule: &JoinR
     })
 }
 
-fn exprs_of_pairs(
-    arena: &Arena,
-    pairs: &[(usize, usize)],
-) -> Result<Vec<(Arc<dyn PhysicalExpr>, Arc<dyn PhysicalExpr>)>, Refusal> {
+fn exprs_of_pairs(arena: &Arena, pairs: &[(usize, usize)]) -> Result<Vec<OnPair>, Refusal> {
     pairs.iter().map(|(left, right)| Ok((arena.expr(*left)?, arena.expr(*right)?))).collect()
 }
 
@@ -114,5 +117,3 @@ impl Join<'_> {
         self.left.join(self.right, &self.join_type, self.left_size, &self.on[..count]).expect(NO_OVERFLOW)
     }
 }
-
-const NO_OVERFLOW: &str = "an index of 16 bits and a shift of 32 bits fit the Rust's indices";
