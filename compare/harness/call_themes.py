@@ -1,11 +1,11 @@
 """Scripts of one sort each. A theme fills a script; its weight says how often it comes."""
 
 from harness import call_steps, steps
+from harness.draft import MOST_NODES
+from harness.script import LAST_INDEX
 from harness.steps import several
 
 FIRST, SECOND, THIRD = range(3)
-MOST_NODES = 1024
-LAST_INDEX = 65535
 
 
 def nodes(dice, script):

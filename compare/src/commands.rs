@@ -38,9 +38,7 @@ pub fn parse(line: &str) -> Option<Command<'_>> {
         ["arena"] => Command::Arena,
         ["group", group] => Command::Open { group: name(group)?, limit: MOST_MEMBERS },
         ["group", group, limit] => Command::Open { group: name(group)?, limit: number(limit)? },
-        ["new", group, ref list @ ..] => {
-            Command::New { group: name(group)?, list: all(list, listed_class)? }
-        }
+        ["new", group, ref list @ ..] => Command::New { group: name(group)?, list: all(list, listed_class)? },
         ["eq", group, left, right] => {
             Command::AddEqual { group: name(group)?, left: expression(left)?, right: expression(right)? }
         }
@@ -60,11 +58,7 @@ pub fn parse(line: &str) -> Option<Command<'_>> {
             made: name(made)?,
             left: name(left)?,
             right: name(right)?,
-            rule: JoinRule {
-                kind: number(kind)?,
-                left_size: number(left_size)?,
-                pairs: all(pairs, equal_pair)?,
-            },
+            rule: JoinRule { kind: number(kind)?, left_size: number(left_size)?, pairs: all(pairs, equal_pair)? },
         },
         ["show", group] => Command::Show { group: name(group)? },
         _ => return None,
