@@ -53,6 +53,6 @@ pub fn put_three(out: &mut [u8], at: usize, a: usize, b: usize, c: usize) -> usi
 {
     let one = put_number(out, at, a);
     let two = put_number(out, one, b);
-    let three = put_number(out, two, c);
-    put_byte(out, three, 10)
+    let past = put_number(out, two, c);
+    put_byte(out, past, 10)
 }
