@@ -1,17 +1,15 @@
--- The public calls on a list: the answer where the check refuses, and where it passes.
+-- The public calls that ask something of a list: the answer where the check refuses, and where it passes.
 use Prim.Native.Nat.{ℕ, _<_, _≤_}
 use mathlib.Core.Bool.{true, false}
-use mathlib.Core.List.{List, _++_}
+use mathlib.Core.List.{List}
 use mathlib.Core.Path.{_≡_}
 use borrow.Author.Tests.{eq-eqb, ne-eqb, lt-ltb, le-ltb}
-use Rattle.orderings.specs.Lists.{builtAll, joinSuffix, getOptions, partialConst}
-use Rattle.orderings.specs.Lent.{listsLent}
+use Rattle.orderings.specs.Lists.{getOptions, partialConst}
 use Rattle.orderings.specs.Layout.{decode}
-use Rattle.orderings.specs.Calls.{listNumber, twoNumber, askList, listed, joinAnswer, reducedList, lentNumber, addAnswer, extendNumber, extendAnswer, optionsAre, optionsAnswer, partialAnswer}
+use Rattle.orderings.specs.Calls.{listNumber, askList, optionsAre, optionsAnswer, partialAnswer}
 use Rattle.orderings.specs.declared.Orderings.{Orderings}
 use Rattle.orderings.specs.declared.OptionsAre.the-variants.{Refused as Options-Refused}
 use Rattle.orderings.specs.declared.PartialIs.the-variants.{Yes, No, Refused as Partial-Refused}
-use Rattle.orderings.proofs.Appending.{told}
 
 -- a call that only asks
 module _ {A : Type 0} (refusedBy : ℕ → A) (call : List (List ℕ) → A) (cells : List ℕ) (g : Orderings) where
@@ -22,34 +20,6 @@ module _ {A : Type 0} (refusedBy : ℕ → A) (call : List (List ℕ) → A) (ce
   pub ask-passed : listNumber cells g ≡ 0 → askList refusedBy call cells g ≡ call (decode g)
   unfolding askList
   ask-passed z = rw (eq-eqb (listNumber cells g) 0 z)
-
--- joining
-module _ (cells : List ℕ) (g h : Orderings) where
-  pub join-refused-by : (twoNumber cells g h ≡ 0 → ⊥) → joinAnswer cells g h ≡ told (twoNumber cells g h) g
-  unfolding joinAnswer
-  join-refused-by n = rw (ne-eqb (twoNumber cells g h) 0 n)
-
-  pub join-passed : twoNumber cells g h ≡ 0 → joinAnswer cells g h ≡ listed g (joinSuffix (decode g) (decode h))
-  unfolding joinAnswer
-  join-passed z = rw (eq-eqb (twoNumber cells g h) 0 z)
-
--- adding and extending
-module _ (cells : List ℕ) (g : Orderings) (numbers : List ℕ) where
-  pub add-refused-by : (lentNumber cells g numbers ≡ 0 → ⊥) → addAnswer cells g numbers ≡ told (lentNumber cells g numbers) g
-  unfolding addAnswer
-  add-refused-by n = rw (ne-eqb (lentNumber cells g numbers) 0 n)
-
-  pub add-passed : lentNumber cells g numbers ≡ 0 → addAnswer cells g numbers ≡ reducedList g (decode g ++ builtAll (listsLent numbers))
-  unfolding addAnswer
-  add-passed z = rw (eq-eqb (lentNumber cells g numbers) 0 z)
-
-  pub extend-refused-by : (extendNumber cells g numbers ≡ 0 → ⊥) → extendAnswer cells g numbers ≡ told (extendNumber cells g numbers) g
-  unfolding extendAnswer
-  extend-refused-by n = rw (ne-eqb (extendNumber cells g numbers) 0 n)
-
-  pub extend-passed : extendNumber cells g numbers ≡ 0 → extendAnswer cells g numbers ≡ reducedList g (decode g ++ listsLent numbers)
-  unfolding extendAnswer
-  extend-passed z = rw (eq-eqb (extendNumber cells g numbers) 0 z)
 
 -- the two questions, of an expression that is unknown and of one that is known
 module _ (n e : ℕ) (os : List (List ℕ)) where

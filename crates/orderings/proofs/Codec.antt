@@ -2,19 +2,17 @@
 use Prim.Native.Nat.{ℕ, zero, suc, _+_, _-_, _<_, _≤_}
 use mathlib.Core.List.{List, [], _∷_, _++_, map}
 use mathlib.Core.Path.{_≡_, refl, sym, ap, _∙_, subst}
-use native.Mathlib.Decide.{ℕ-discrete}
 use native.Mathlib.Numerals.{add-one}
 use native.Mathlib.Omega.{arith}
 use lib.ListN.{length, getD, take, set, replicate, length-append, length-replicate, length-set, length-map, List·getD-map}
-use lib.Seq.{length-take-le, take-suc, append-snoc, set-at, set-append-left, set-out, take-set-lt, take-set-le}
+use lib.Seq.{length-take-le, take-suc, append-snoc, set-at, set-append-left}
 use Rattle.laws.proofs.Table.{length-table, getD-table, table-is}
-use Rattle.orderings.specs.Reduction.{orderingAt, removed}
+use Rattle.orderings.specs.Lists.{orderingAt}
 use Rattle.orderings.specs.Good.{GoodOrdering, Good}
 use Rattle.orderings.specs.Layout.{row, keysOf, encode, decode}
 use Rattle.orderings.specs.Inner.{HeldOrdering, Held}
 use Rattle.orderings.specs.declared.Ordering.{Ordering}
 use Rattle.orderings.specs.declared.Orderings.{Orderings}
-use Rattle.orderings.specs.Fewer.{length-removed}
 
 module _ {A : Type 0} (d : A) where
   -- what fills a list up changes no place
@@ -25,24 +23,11 @@ module _ {A : Type 0} (d : A) where
   fill-after (x ∷ xs) n zero = refl
   fill-after (x ∷ xs) n (suc i) = fill-after xs n i
 
-  -- the last place is given back
-  fill-last : (xs : List A) (k n : ℕ) → length xs ≡ suc k → set (xs ++ replicate n d) k d ≡ take k xs ++ replicate (suc n) d
-  fill-last [] k n e = absurd (omega arith)
-  fill-last (x ∷ []) zero n e = refl
-  fill-last (x ∷ y ∷ xs) zero n e = absurd (omega arith)
-  fill-last (x ∷ xs) (suc k) n e = ap (λ (t : List A). x ∷ t) (fill-last xs k n (omega arith))
-
 module _ {A B : Type 0} (f : A → B) where
   map-set : (xs : List A) (i : ℕ) (x : A) → map f (set xs i x) ≡ set (map f xs) i (f x)
   map-set [] i x = refl
   map-set (y ∷ xs) zero x = refl
   map-set (y ∷ xs) (suc i) x = ap (λ (t : List B). f y ∷ t) (map-set xs i x)
-
-  map-take : (n : ℕ) (xs : List A) → map f (take n xs) ≡ take n (map f xs)
-  map-take zero [] = refl
-  map-take zero (x ∷ xs) = refl
-  map-take (suc n) [] = refl
-  map-take (suc n) (x ∷ xs) = ap (λ (t : List B). f x ∷ t) (map-take n xs)
 
 -- what is read below the length does not hang on what is read past it
 pub getD-any : {A : Type 0} (xs : List A) (i : ℕ) (d e : A) → i < length xs → getD xs i d ≡ getD xs i e
@@ -154,7 +139,7 @@ module _ (g : Orderings) (h : Held g) where
   place-size i l = ap (λ (r : Ordering). r .size) (place-is i l)
 
 -- an ordering is put at a place
-set-encode : (os : List (List ℕ)) (i : ℕ) (o : List ℕ) → i < length os → set (encode os .list) i (row o) ≡ encode (set os i o) .list
+pub set-encode : (os : List (List ℕ)) (i : ℕ) (o : List ℕ) → i < length os → set (encode os .list) i (row o) ≡ encode (set os i o) .list
 unfolding encode
 set-encode os i o l =
     set-append-left (map row os) (replicate (32 - length os) (row [])) i (row o) (omega (arith, length-map os row))
@@ -167,40 +152,3 @@ place-set g h i o l = λ t. record { count = same t; list = (ap (λ (x : Orderin
   where
     same : g .count ≡ length (set (decode g) i o)
     same = omega (arith, length-decode g, length-set (decode g) i o)
-
--- the last ordering moves to a place, and its own place is emptied
-remove-encode : (os : List (List ℕ)) (i k : ℕ) → length os ≡ suc k → length os ≤ 32 → i < length os → set (set (encode os .list) i (row (orderingAt os k))) k (row []) ≡ encode (removed os i) .list
-unfolding encode removed
-remove-encode os i k e few l =
-    ap (λ (t : List Ordering). set t k (row [])) (set-encode os i (orderingAt os k) l)
-    ∙ fill-last (row []) (map row qs) k (32 - length qs) (omega (arith, length-map qs row, length-set os i (orderingAt os k)))
-    ∙ ap (λ (t : List Ordering). t ++ replicate (suc (32 - length qs)) (row [])) (sym (map-take row k qs) ∙ ap (map row) taken)
-    ∙ ap (λ (n : ℕ). map row (removed os i) ++ replicate n (row [])) left
-  where
-    qs : List (List ℕ)
-    qs = set os i (orderingAt os k)
-
-    n : k ≡ length os - 1
-    n = omega arith
-
-    left : suc (32 - length qs) ≡ 32 - length (removed os i)
-    left = omega (arith, length-removed os i, length-set os i (orderingAt os k))
-
-    at : Dec (i ≡ k) → take k (set os i (orderingAt os k)) ≡ set (take k os) i (orderingAt os k)
-    at (yes p) = take-set-le k os i (orderingAt os k) (omega arith) ∙ sym (set-out (take k os) i (orderingAt os k) (omega (arith, length-take-le k os (omega arith))))
-    at (no p) = take-set-lt k os i (orderingAt os k) (omega arith)
-
-    taken : take k qs ≡ removed os i
-    taken = at (ℕ-discrete i k) ∙ ap (λ (x : ℕ). set (take x os) i (orderingAt os x)) n
-
-pub place-removed : (g : Orderings) → Held g → (i k : ℕ) → g .count ≡ suc k → i < g .count → {f : ℕ} → f ≡ k → _≡_ {A = Orderings} (record { count = k; list = set (set (g .list) i (placeIn g f)) k (row []) }) (encode (removed (decode g) i))
-unfolding encode
-place-removed g h i k e l {f} q = λ t. record { count = same t; list = moved t }
-  where
-    same : k ≡ length (removed (decode g) i)
-    same = omega (arith, length-decode g, length-removed (decode g) i)
-
-    moved : set (set (g .list) i (placeIn g f)) k (row []) ≡ encode (removed (decode g) i) .list
-    moved =
-        rw (q, place-is g h k (omega arith)) (ap (λ (x : Orderings). set (set (x .list) i (row (orderingAt (decode g) k))) k (row [])) (sym (h .coded))
-        ∙ remove-encode (decode g) i k (length-decode g ∙ e) (h .good .few) (omega (arith, length-decode g)))

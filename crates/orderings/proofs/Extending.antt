@@ -1,4 +1,4 @@
--- Pushing and extending as the code does them: the search for an expression, what only grows, the struct with one key more, and the two loops.
+-- Pushing and extending as the code does them: the search for an expression, what only grows, the struct with one key more, and the loop.
 use Prim.Native.Nat.{ℕ, suc, _+_, _-_, _/_, _<_, _≤_}
 use mathlib.Core.Bool.{Bool, true, false}
 use mathlib.Core.List.{List, [], _∷_, _++_}
@@ -12,16 +12,11 @@ use lib.ListN.{length, getD, set, drop, replicate, length-append, drop-of-length
 use lib.Seq.{set-at, append-snoc, drop-cons}
 use Rattle.laws.proofs.Booleans.{true-not-false}
 use Rattle.orderings.specs.Ordering.{exprOf, hasExpr, pushed, extended}
-use Rattle.orderings.specs.Reduction.{orderingAt}
-use Rattle.orderings.specs.Lists.{extendedAll, outputOrdering}
-use Rattle.orderings.specs.Layout.{row, keysOf, decode}
-use Rattle.orderings.specs.Calls.{noOutput, outputOf}
-use Rattle.orderings.specs.Inner.{HeldOrdering, Held, ShortOrdering, extendedOf, Extending, Collecting}
+use Rattle.orderings.specs.Layout.{row, keysOf}
+use Rattle.orderings.specs.Inner.{HeldOrdering, ShortOrdering, extendedOf, Extending}
 use Rattle.orderings.specs.declared.Ordering.{Ordering}
-use Rattle.orderings.specs.declared.Orderings.{Orderings}
 use Rattle.orderings.specs.declared.Extended.{Extended}
-use Rattle.orderings.specs.declared.Output.{Output}
-use Rattle.orderings.proofs.Codec.{keys-row, size-is, key-is, size-few, length-decode, placeIn, place-keys}
+use Rattle.orderings.proofs.Codec.{keys-row, size-is, key-is, size-few}
 use Rattle.orderings.proofs.OneOrdering.{has-place, place-has, pushed-there, pushed-new, extended-begins}
 
 -- an expression stands at none of the first k places
@@ -56,14 +51,9 @@ module _ (r : Ordering) (e : ℕ) where
   pub has-missed : (k : ℕ) → r .size ≤ k → Nowhere e r k → false ≡ hasExpr e (keysOf r)
   has-missed k b n = sym (has-nowhere e (keysOf r) (λ i l q. n i (omega (arith, size-is r)) q))
 
--- extending only grows, and so does extending by all of a list
+-- extending only grows
 pub extended-grows : (o ks : List ℕ) → length o ≤ length (extended o ks)
 extended-grows o ks = let w = extended-begins o ks in omega (arith, ap (λ (p : List ℕ). length p) (w .1), length-append o (w .0))
-
-pub extendedAll-grows : (o : List ℕ) (ps : List (List ℕ)) → length o ≤ length (extendedAll o ps)
-unfolding extendedAll
-extendedAll-grows o [] = omega arith
-extendedAll-grows o (p ∷ ps) = omega (arith, extended-grows o p, extendedAll-grows (extended o p) ps)
 
 -- an ordering of at most 16 keys and its struct
 pub short-size : (r : Ordering) → ShortOrdering r → length (keysOf r) ≤ 16
@@ -180,55 +170,3 @@ module _ (o ks : List ℕ) where
     extending-ends l =
         sym (ap extendedOf (x .goes ∙ extended-done (keysOf out) ks k l)
         ∙ fits-here (keysOf out) (short-size out (x .short)) ∙ ap (answer true) (x .short .coded))
-
--- extending by each of a list, from a place on
-all-step : (o : List ℕ) (ps : List (List ℕ)) (i : ℕ) → i < length ps → extendedAll o (drop i ps) ≡ extendedAll (extended o (orderingAt ps i)) (drop (i + 1) ps)
-unfolding extendedAll
-all-step o ps i l = rw (drop-cons ps i [] l, add-one i)
-
-all-done : (o : List ℕ) (ps : List (List ℕ)) (i : ℕ) → length ps ≤ i → extendedAll o (drop i ps) ≡ o
-unfolding extendedAll
-all-done o ps i l = rw (drop-of-length-le ps l)
-
--- the answer where the joined ordering fits, and where it does not
-output-here : (ks : List ℕ) → length ks ≤ 16 → _≡_ {A = Output} (outputOf ks) (record { number = 0; ordering = row ks })
-unfolding outputOf
-output-here ks l = rw (le-leb (length ks) 16 l)
-
-output-not : (ks : List ℕ) → 16 < length ks → outputOf ks ≡ noOutput 5
-unfolding outputOf
-output-not ks l = rw (lt-leb (length ks) 16 l)
-
--- the joined ordering of all: the loop begins, goes on, stops, and ends
-module _ (g : Orderings) (h : Held g) where
-  pub collecting-begins : Collecting g 0 (row [])
-  unfolding outputOrdering
-  collecting-begins = record { below = omega arith; short = row-short [] (omega arith); goes = ap (λ (z : List ℕ). extendedAll z (decode g)) (sym (keys-row [])) }
-
-  module _ (i : ℕ) (out : Ordering) (x : Collecting g i out) where
-    module _ (e : Extended) (l : i < g .count) (q : e ≡ extendedOf (extended (keysOf out) (keysOf (placeIn g i)))) where
-      joined : outputOrdering (decode g) ≡ extendedAll (extended (keysOf out) (keysOf (placeIn g i))) (drop (i + 1) (decode g))
-      joined =
-          x .goes ∙ all-step (keysOf out) (decode g) i (omega (arith, length-decode g))
-          ∙ ap (λ (z : List ℕ). extendedAll (extended (keysOf out) z) (drop (i + 1) (decode g))) (sym (place-keys g h i l))
-
-      pub collecting-on : e .fits ≡ true → Collecting g (i + 1) (e .ordering)
-      collecting-on t =
-          let f = fitting e (extended (keysOf out) (keysOf (placeIn g i))) q t in
-          record {
-            below = omega arith;
-            short = subst ShortOrdering (sym (f .is)) (row-short (extended (keysOf out) (keysOf (placeIn g i))) (f .few));
-            goes = joined ∙ ap (λ (z : List ℕ). extendedAll z (drop (i + 1) (decode g))) (sym (ap keysOf (f .is) ∙ keys-row (extended (keysOf out) (keysOf (placeIn g i)))));
-          }
-
-      pub collecting-stops : e .fits ≡ false → noOutput 5 ≡ outputOf (outputOrdering (decode g))
-      collecting-stops t =
-          let ks : List ℕ = extended (keysOf out) (keysOf (placeIn g i)) in
-          let a = unfitting e ks q t in
-          let b = ap (λ (z : List ℕ). length z) joined in
-          sym (output-not (outputOrdering (decode g)) (omega (arith, extendedAll-grows ks (drop (i + 1) (decode g)))))
-
-    pub collecting-ends : g .count ≤ i → _≡_ {A = Output} (record { number = 0; ordering = out }) (outputOf (outputOrdering (decode g)))
-    collecting-ends l =
-        sym (ap outputOf (x .goes ∙ all-done (keysOf out) (decode g) i (omega (arith, length-decode g)))
-        ∙ output-here (keysOf out) (short-size out (x .short)) ∙ ap (λ (z : Ordering). record { number = 0; ordering = z }) (x .short .coded))

@@ -11,8 +11,7 @@ use lib.Dec.{eqb}
 use lib.ListN.{getD, drop, drop-of-length-le}
 use lib.Seq.{drop-cons}
 use Rattle.orderings.specs.Ordering.{exprOf, optionsOf}
-use Rattle.orderings.specs.Reduction.{orderingAt}
-use Rattle.orderings.specs.Lists.{getOptions, leadsWith}
+use Rattle.orderings.specs.Lists.{orderingAt, getOptions, leadsWith}
 use Rattle.orderings.specs.Layout.{decode}
 use Rattle.orderings.specs.Inner.{Held}
 use Rattle.orderings.specs.declared.Orderings.{Orderings}

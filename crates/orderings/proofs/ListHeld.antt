@@ -16,7 +16,7 @@ use Rattle.laws.proofs.Each.{each-all, each-holds}
 use Rattle.laws.proofs.Table.{getD-table}
 use Rattle.arena.specs.Layout.{count, lawful}
 use Rattle.orderings.specs.Ordering.{exprOf}
-use Rattle.orderings.specs.Reduction.{orderingAt}
+use Rattle.orderings.specs.Lists.{orderingAt}
 use Rattle.orderings.specs.Good.{GoodOrdering, Good}
 use Rattle.orderings.specs.Layout.{row, keysOf, encode, decode, placeIn, freshKey, restUnused, lawfulOrdering, unusedOrdering, lawfulList, keysInside}
 use Rattle.orderings.specs.Calls.{listNumber, twoNumber}

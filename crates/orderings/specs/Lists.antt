@@ -8,6 +8,10 @@ use lib.ListN.{getD}
 use Rattle.laws.specs.Tests.{if_then_else_}
 use Rattle.orderings.specs.Ordering.{exprOf, optionsOf, extended, built}
 
+-- the ordering at a place; past the end, which no call asks for, an empty one
+abbrev pub orderingAt : List (List ℕ) → ℕ → List ℕ
+orderingAt os i = getD os i []
+
 -- empty orderings vanish
 unfoldable pub nonempty : List (List ℕ) → List (List ℕ)
 nonempty [] = []

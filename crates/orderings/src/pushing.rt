@@ -1,7 +1,7 @@
 // One ordering (`LexOrdering`): pushing and extending drop a key whose expression is already there, with any options.
 use crate::Extended;
 use crate::Ordering;
-use crate::reducing::nothing;
+use crate::making::nothing;
 ghost use mathlib.Core.Path.{_≡_};
 ghost use Rattle.orderings.specs.Ordering.{hasExpr, pushed, extended};
 ghost use Rattle.orderings.specs.Layout.{keysOf};

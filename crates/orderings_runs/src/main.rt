@@ -1,13 +1,10 @@
-// Runs the public calls of the orderings on worked examples and prints one line for each: the call, what it answered, and
-// whether the list, or a cell, changed.
+// Runs the public calls of the crates orderings and reduction on worked examples and prints one line for each: the call,
+// what it answered, and whether the list changed.
 mod adding;
 mod asking;
 mod bounds;
 mod building;
-mod full;
-mod joining;
 mod reducing;
-mod shifting;
 
 use showing::nodes;
 use showing::print;
@@ -22,8 +19,5 @@ fn main() {
     building::run(&cells);
     adding::run(&cells);
     bounds::run(&cells);
-    joining::run(&cells);
     asking::run(&cells);
-    shifting::run(&cells);
-    full::run();
 }

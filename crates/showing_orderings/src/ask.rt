@@ -3,10 +3,10 @@
 use crate::examples;
 use crate::same;
 use crate::show;
+use ordering_joins::Output;
 use orderings::Listed;
 use orderings::OptionsAre;
 use orderings::Orderings;
-use orderings::Output;
 use orderings::PartialIs;
 use showing::nodes;
 use showing::print;
@@ -41,7 +41,7 @@ pub fn new(cells: &[u32; 11265], numbers: &[u16]) -> Orderings {
     print::words(b"new");
     show::lent(numbers);
     print::words(b":");
-    let answer = orderings::new(cells, numbers);
+    let answer = reduction::new(cells, numbers);
     made(answer);
     empty(answer);
     answer.list
@@ -60,7 +60,7 @@ pub fn add(cells: &[u32; 11265], g: Orderings, numbers: &[u16]) -> Orderings {
     print::words(b"add");
     show::lent(numbers);
     print::words(b":");
-    ended(g, orderings::add_orderings(cells, g, numbers))
+    ended(g, reduction::add_orderings(cells, g, numbers))
 }
 
 // Extends a list by orderings.
@@ -68,7 +68,7 @@ pub fn extend(cells: &[u32; 11265], g: Orderings, numbers: &[u16]) -> Orderings 
     print::words(b"extend");
     show::lent(numbers);
     print::words(b":");
-    ended(g, orderings::extend(cells, g, numbers))
+    ended(g, reduction::extend(cells, g, numbers))
 }
 
 // The check of a list.
@@ -89,7 +89,7 @@ pub fn join(cells: &[u32; 11265], g: Orderings, other: Orderings) -> Orderings {
     print::words(b"join with");
     show::list(other);
     print::words(b":");
-    ended(g, orderings::join_suffix(cells, g, other))
+    ended(g, ordering_joins::join_suffix(cells, g, other))
 }
 
 // What the joined ordering answered.
@@ -107,7 +107,7 @@ fn joined(answer: Output) {
 // The joined ordering of all.
 pub fn output(cells: &[u32; 11265], g: Orderings) {
     print::words(b"output:");
-    joined(orderings::output_ordering(cells, g));
+    joined(ordering_joins::output_ordering(cells, g));
     print::line(b"");
 }
 
@@ -163,7 +163,7 @@ fn list_kept(same: bool) {
 fn shift(cells: &mut [u32; 11265], g: Orderings, offset: i64) -> Orderings {
     print::words(b":");
     let before = *cells;
-    let answer = orderings::add_offset(cells, g, offset);
+    let answer = ordering_joins::add_offset(cells, g, offset);
     made(answer);
     list_kept(same::lists(g, answer.list));
     print::kept(b"cells", showing::same::cells(&before, cells));
@@ -219,7 +219,7 @@ fn partial_number(answer: PartialIs) -> u32 {
 fn asked(cells: &[u32; 11265], g: Orderings) {
     print::words(b": check ");
     print::number(orderings::check(cells, g));
-    let output = orderings::output_ordering(cells, g);
+    let output = ordering_joins::output_ordering(cells, g);
     print::words(b", output ");
     print::number(output.number);
     print::words(b", options ");
@@ -246,22 +246,32 @@ fn listing(cells: &mut [u32; 11265], g: Orderings) -> bool {
         b", add ",
         kept,
         g,
-        orderings::add_orderings(cells, g, &[1, 0, 0]),
+        reduction::add_orderings(cells, g, &[1, 0, 0]),
     );
     kept = told(
         b", extend ",
         kept,
         g,
-        orderings::extend(cells, g, &[1, 0, 0]),
+        reduction::extend(cells, g, &[1, 0, 0]),
     );
-    kept = told(b", join ", kept, g, orderings::join_suffix(cells, g, none));
+    kept = told(
+        b", join ",
+        kept,
+        g,
+        ordering_joins::join_suffix(cells, g, none),
+    );
     kept = told(
         b", joined ",
         kept,
         none,
-        orderings::join_suffix(cells, none, g),
+        ordering_joins::join_suffix(cells, none, g),
     );
-    told(b", shift ", kept, g, orderings::add_offset(cells, g, 0))
+    told(
+        b", shift ",
+        kept,
+        g,
+        ordering_joins::add_offset(cells, g, 0),
+    )
 }
 
 // The number that each call answers to a list, on one line: 0 where it is done. Where it is joined to another list, that

@@ -35,7 +35,7 @@ pub fn none() -> Orderings {
 
 // A new list, without a line.
 pub fn list(cells: &[u32; 11265], numbers: &[u16]) -> Orderings {
-    let answer = orderings::new(cells, numbers);
+    let answer = reduction::new(cells, numbers);
     answer.list
 }
 

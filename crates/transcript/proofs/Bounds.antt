@@ -27,11 +27,11 @@ use Rattle.classes.specs.declared.Answer.the-variants.{Yes, No, Refused as Answ
 use Rattle.normal.specs.Normal.{normal}
 use Rattle.normal.specs.Calls.{normalizeExpr}
 use Rattle.orderings.specs.Ordering.{sameKey}
-use Rattle.orderings.specs.Lists.{builtAll}
-use Rattle.orderings.specs.Reduction.{reduced, orderingAt}
+use Rattle.orderings.specs.Lists.{builtAll, orderingAt}
+use Rattle.reduction.specs.Reduction.{reduced}
 use Rattle.orderings.specs.Calls.{fits as fitsList}
-use Rattle.orderings.specs.Fewer.{length-removed}
-use Rattle.orderings.proofs.Kept.{Cuts, begun, cut, gone, reduced-cuts}
+use Rattle.reduction.specs.Fewer.{length-removed}
+use Rattle.reduction.proofs.Kept.{Cuts, begun, cut, gone, reduced-cuts}
 use Rattle.records.specs.Record.{Record, column as columnRecord, literal as literalRecord, operation as operationRecord, equalPair, constant, normalFormOf, equalityOf, oneOrdering}
 use Rattle.transcript.specs.State.{State, start, Reply, quiet, normalForm, equality, refusal, unless, addedReply, normalReply, equalityReply, withNodes, withClasses, withOrderings, onNodes, onClasses, sayConstant, keyExpr, keyOptions, keyNumber, addOrdering, step}
 

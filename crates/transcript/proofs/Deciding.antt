@@ -26,10 +26,11 @@ use Rattle.normal.specs.Normal.{normal}
 use Rattle.normal.specs.Calls.{normalizeExpr}
 use Rattle.orderings.specs.Ordering.{sameKey}
 use Rattle.orderings.specs.Lists.{builtAll}
-use Rattle.orderings.specs.Reduction.{reduced}
-use Rattle.orderings.specs.Lent.{listsLent}
+use Rattle.reduction.specs.Reduction.{reduced}
+use Rattle.reduction.specs.Lent.{listsLent}
 use Rattle.orderings.specs.Layout.{encode as encodeList, decode as orderingsIn}
-use Rattle.orderings.specs.Calls.{fits, reducedList}
+use Rattle.orderings.specs.Calls.{fits}
+use Rattle.reduction.specs.Calls.{reducedList}
 use Rattle.orderings.specs.Inner.{Held as HeldList}
 use Rattle.orderings.specs.declared.Listed.{Listed}
 use Rattle.orderings.specs.declared.Orderings.{Orderings}

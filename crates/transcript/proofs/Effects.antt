@@ -27,12 +27,13 @@ use Rattle.classes.specs.declared.Answer.the-variants.{Refused as Answer-Refuse
 use Rattle.classes.proofs.Codec.{decode-encode as classes-again}
 use Rattle.normal.specs.Calls.{onChecked, normalizeExpr, normalized}
 use Rattle.orderings.specs.Ordering.{sameKey}
-use Rattle.orderings.specs.Reduction.{reduced}
+use Rattle.reduction.specs.Reduction.{reduced}
 use Rattle.orderings.specs.Lists.{builtAll}
-use Rattle.orderings.specs.Lent.{listsLent}
+use Rattle.reduction.specs.Lent.{listsLent}
 use Rattle.orderings.specs.Layout.{encode as listFor, decode as orderingsIn, lawfulList, keysInside}
 use Rattle.orderings.proofs.Codec.{decode-encode as orderings-again}
-use Rattle.orderings.specs.Calls.{listNumber, lentNumber, addAnswer, reducedList, fits}
+use Rattle.orderings.specs.Calls.{listNumber, fits}
+use Rattle.reduction.specs.Calls.{lentNumber, addAnswer, reducedList}
 use Rattle.orderings.specs.declared.Listed.{Listed}
 use Rattle.records.specs.Record.{column, literal, operation, equalPair, constant, normalFormOf, equalityOf, oneOrdering}
 use Rattle.transcript.specs.State.{State, Reply, unless, addedReply, normalReply, equalityReply, sayConstant, keyExpr, keyOptions, keyNumber, addOrdering, onNodes, onClasses, withNodes, withClasses, withOrderings, step}

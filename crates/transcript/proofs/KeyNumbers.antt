@@ -10,9 +10,9 @@ use lib.ListN.{length, getD, take, length-map, List·getD-map}
 use Rattle.laws.specs.Tests.{each}
 use Rattle.laws.proofs.Each.{each-all, each-holds, each-cong}
 use Rattle.laws.proofs.Table.{table-is}
-use Rattle.orderings.specs.Lent.{keyCount, exprLent, optionsLent, nextList, eachList, each-next, each-end, optionsKnown, whole, exprsInside, keysLent, lists-next, lists-end, listsLent}
-use Rattle.orderings.specs.Inner.{LentFit}
-use Rattle.orderings.proofs.LentLaws.{OptionsOk, OptionsAt, WholeAt, ExprOk, ExprsAt}
+use Rattle.reduction.specs.Lent.{keyCount, exprLent, optionsLent, nextList, eachList, each-next, each-end, optionsKnown, whole, exprsInside, keysLent, lists-next, lists-end, listsLent}
+use Rattle.reduction.specs.Inner.{LentFit}
+use Rattle.reduction.proofs.LentLaws.{OptionsOk, OptionsAt, WholeAt, ExprOk, ExprsAt}
 use Rattle.transcript.specs.State.{keyExpr, keyOptions, keyNumber}
 use Rattle.transcript.specs.Inner.{pairsOf, lentKeys}
 

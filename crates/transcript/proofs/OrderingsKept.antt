@@ -9,14 +9,14 @@ use Rattle.laws.specs.Tests.{if_then_else_, each}
 use Rattle.arena.specs.Node.{Node}
 use Rattle.orderings.specs.Ordering.{sameKey}
 use Rattle.orderings.specs.Lists.{builtAll}
-use Rattle.orderings.specs.Reduction.{reduced}
+use Rattle.reduction.specs.Reduction.{reduced}
 use Rattle.orderings.specs.Good.{Good}
 use Rattle.orderings.specs.Layout.{encode}
 use Rattle.orderings.specs.Calls.{fits}
 use Rattle.orderings.specs.Inner.{Held}
 use Rattle.orderings.proofs.Codec.{decode-encode}
-use Rattle.orderings.proofs.Kept.{reduced-good}
-use Rattle.orderings.proofs.Adding.{added-good}
+use Rattle.reduction.proofs.Kept.{reduced-good}
+use Rattle.reduction.proofs.Adding.{added-good}
 use Rattle.transcript.specs.State.{keyExpr, keyOptions, keyNumber, addOrdering}
 
 -- the struct of a good list is held

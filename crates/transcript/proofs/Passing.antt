@@ -21,14 +21,15 @@ use Rattle.normal.specs.Calls.{normalizeExpr}
 use Rattle.normal.proofs.NormalKept.{Kept, form-kept}
 use Rattle.orderings.specs.Good.{Good as GoodList}
 use Rattle.orderings.specs.Layout.{row, encode as listFor, decode as orderingsIn, placeIn}
-use Rattle.orderings.specs.Calls.{listNumber, addAnswer}
+use Rattle.orderings.specs.Calls.{listNumber}
+use Rattle.reduction.specs.Calls.{addAnswer}
 use Rattle.orderings.specs.declared.Listed.{Listed}
 use Rattle.orderings.proofs.Codec.{decode-encode as orderings-again, place-encode}
-use Rattle.orderings.specs.Reduction.{orderingAt}
+use Rattle.orderings.specs.Lists.{orderingAt}
 use Rattle.orderings.specs.declared.Ordering.{Ordering}
 use Rattle.orderings.proofs.ListChecks.{Sized}
 use Rattle.orderings.proofs.ListHeld.{Known, Lent, number-held, held-number as list-number}
-use Rattle.orderings.proofs.ListMade.{add-passes}
+use Rattle.ordering_laws.proofs.ListMade.{add-passes}
 use Rattle.records.specs.Record.{Record, column, literal, operation, equalPair, constant, normalFormOf, equalityOf, oneOrdering, WellFormed}
 use Rattle.transcript.specs.State.{State, start, Reply, addedReply, normalReply, withNodes, onNodes, onClasses, withClasses, withOrderings, addOrdering, step}
 use Rattle.transcript.specs.Session.{after}

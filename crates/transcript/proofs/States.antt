@@ -27,7 +27,7 @@ use Rattle.normal.proofs.NormalKept.{Kept, form-kept}
 use Rattle.normal.proofs.NormalValue.{good-extended}
 use Rattle.orderings.specs.Ordering.{sameKey}
 use Rattle.orderings.specs.Lists.{builtAll}
-use Rattle.orderings.specs.Reduction.{reduced}
+use Rattle.reduction.specs.Reduction.{reduced}
 use Rattle.orderings.specs.Good.{Good as GoodList}
 use Rattle.orderings.specs.Calls.{fits as listFits}
 use Rattle.records.specs.Record.{Record, column, literal, operation as operationRecord, equalPair, constant, normalFormOf, equalityOf, oneOrdering, WellFormed}

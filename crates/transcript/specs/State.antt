@@ -18,7 +18,7 @@ use Rattle.classes.specs.declared.Answer.the-variants.{Yes, No, Refused as Answ
 use Rattle.normal.specs.Calls.{normalizeExpr}
 use Rattle.orderings.specs.Ordering.{sameKey}
 use Rattle.orderings.specs.Lists.{builtAll}
-use Rattle.orderings.specs.Reduction.{reduced}
+use Rattle.reduction.specs.Reduction.{reduced}
 use Rattle.orderings.specs.Calls.{fits}
 use Rattle.records.specs.Record.{Record, column, literal, operation, equalPair, constant, normalFormOf, equalityOf, oneOrdering}
 

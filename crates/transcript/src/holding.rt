@@ -2,7 +2,7 @@
 use classes::Group;
 use classes::building::empty;
 use orderings::Orderings;
-use orderings::joining::no_orderings;
+use orderings::making::no_orderings;
 ghost use mathlib.Core.List.{[]};
 ghost use mathlib.Core.Path.{_≡_};
 ghost use Rattle.classes.specs.Layout.{encode};

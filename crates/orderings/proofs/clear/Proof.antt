@@ -12,8 +12,8 @@ use Rattle.orderings.proofs.clear.Tie as tie
 use Rattle.orderings.proofs.clear.Reads as reads
 use Rattle.orderings.proofs.clear.Lts as lts
 use Rattle.orderings.proofs.checking.check_list.Reads as check-list-reads
-use Rattle.orderings.proofs.joining.no_orderings.Reads as no-orderings-reads
-use Rattle.orderings.proofs.refusal.Reads as refusal-reads
+use Rattle.orderings.proofs.making.no_orderings.Reads as no-orderings-reads
+use Rattle.orderings.proofs.making.refusal.Reads as refusal-reads
 
 check-list-requires : tie.Need-check-list-requires
 check-list-requires c κs = search needs

@@ -7,7 +7,7 @@ use Rattle.orderings.proofs.pushing.push.Tie as tie
 use Rattle.orderings.proofs.pushing.push.Reads as reads
 use Rattle.orderings.proofs.pushing.push.Lts as lts
 use Rattle.orderings.proofs.pushing.has_expr.Reads as has-expr-reads
-use Rattle.orderings.proofs.reducing.nothing.Reads as nothing-reads
+use Rattle.orderings.proofs.making.nothing.Reads as nothing-reads
 
 has-expr-requires : tie.Need-has-expr-requires
 has-expr-requires c κs = search needs

@@ -10,7 +10,7 @@ use lib.Seq.{length-take-le}
 use Rattle.laws.specs.Tests.{each}
 use Rattle.arena.specs.Layout.{decode as nodesIn}
 use Rattle.arena.proofs.Layouts.{length-decode}
-use Rattle.orderings.specs.Inner.{LentFit}
+use Rattle.reduction.specs.Inner.{LentFit}
 use Rattle.records.specs.Record.{keysIn}
 use Rattle.transcript.specs.State.{keyExpr, keyOptions}
 use Rattle.transcript.proofs.Bodies.{count-keys}
