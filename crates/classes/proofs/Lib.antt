@@ -1,14 +1,5 @@
 -- Laws of the definitions in specs/.
-pub mod Examples
-pub mod Step
-pub mod Answers
-pub mod Chains
-pub mod Asking
 pub mod Places
-pub mod Conditions
-pub mod Limits
-pub mod GoodKept
-pub mod Demands
 pub mod Numbers
 pub mod Marks
 pub mod Codec
@@ -19,13 +10,6 @@ pub mod Checks
 pub mod GroupLayout
 pub mod HeldLaws
 pub mod ClassPlaces
-pub mod Pairs
-pub mod Equality
-pub mod Constancy
+pub mod OneClass
 pub mod Judging
-pub mod ClearLaws
-pub mod ConstantLaws
-pub mod EquatingLaws
 pub mod Calling
-pub mod Asked
-pub mod Valid

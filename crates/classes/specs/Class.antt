@@ -18,6 +18,13 @@ pub record Class : Type 0 where
   pub members : List ℕ
   pub constant : Constant
 
+-- there is a constant
+unfoldable pub isConstant : Constant → Bool
+isConstant noConstant = false
+isConstant heterogeneous = true
+isConstant unknown = true
+isConstant (known v) = true
+
 -- one value throughout
 unfoldable pub isUniform : Constant → Bool
 isUniform noConstant = false

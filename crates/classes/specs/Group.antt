@@ -25,6 +25,16 @@ classAt cs i = getD cs i (record { members = []; constant = noConstant })
 unfoldable pub classOf : List Class → ℕ → Option ℕ
 classOf cs e = first (λ i. among e (classAt cs i .members)) (length cs)
 
+-- two expressions are in one class
+unfoldable pub sameClass : List Class → ℕ → ℕ → Bool
+sameClass cs a b = samePlace (classOf cs a) (classOf cs b)
+  where
+    samePlace : Option ℕ → Option ℕ → Bool
+    samePlace none none = false
+    samePlace none (some j) = false
+    samePlace (some i) none = false
+    samePlace (some i) (some j) = eqb i j
+
 -- how many members all classes have
 unfoldable pub total : List Class → ℕ
 total [] = 0

@@ -4,16 +4,15 @@
 // unknown, or uniform with a value. A group goes in by value and comes back by value, at most 64 classes and as
 // many members as its limit says, 256 at the most.
 //
-// The functions of this file are the public calls and ask nothing of their caller: each checks the lent arena and
-// the group for itself, in the order 12, 11, 1, 4, and a refusal gives its number and hands the group back as it
-// was. Those of the modules serve the crates above, which hold a group that is checked already.
+// The functions of this file are public calls and ask nothing of their caller: each checks the lent arena and the
+// group for itself, in the order 12, 11, 1. Those of the modules serve the crates above, which hold a group that is
+// checked already. The calls that change a group stand in the crate conditions, the two questions in the crate
+// questions.
 pub mod building;
 pub mod checking;
-pub mod clearing;
-pub mod constants;
-pub mod equating;
 pub mod finding;
-pub mod questions;
+pub mod refusing;
+pub mod single;
 
 use arena::cells::node_count;
 use arena::cells::wide;
@@ -22,17 +21,10 @@ use building::empty;
 use building::first_member;
 use building::mark_of;
 use checking::check_group;
-use clearing::clear_in;
-use constants::add_constant_in;
-use constants::can_say;
-use equating::equal_condition_in;
-use equating::refusal;
 use finding::find_class;
-use questions::constant_in;
-use questions::equal_in;
+use refusing::refusal;
 ghost use mathlib.Core.Path.{_≡_};
-ghost use Rattle.classes.specs.Steps.{addEqual, clear};
-ghost use Rattle.classes.specs.Calls.{groupNumber, opened, onGroup, onConstant, askGroup, equalAnswer, constantAnswer, classAnswer};
+ghost use Rattle.classes.specs.Calls.{groupNumber, opened, askGroup, classAnswer};
 
 // A group: its member limit, the number of its classes and of all members, and the tables. The members of all
 // classes stand in class order in one table; unused places are 0.
@@ -64,19 +56,6 @@ pub struct Changed {
 pub enum Place {
     At(usize),
     Nowhere,
-}
-
-// What the equality question answers.
-pub enum Answer {
-    Yes,
-    No,
-    Refused(u32),
-}
-
-// What the constant question answers.
-pub enum ConstantIs {
-    Is(Mark),
-    Refused(u32),
 }
 
 // What the question for an expression's class answers: its place, how many members it has, the first of them,
@@ -111,65 +90,6 @@ pub fn check(cells: &[u32; 11265], group: Group) -> u32
     check_group(cells, group)
 }
 
-// Two expressions are equal. The answer says whether a new class was made. Refusals: 12, 11, 1, 4.
-pub fn add_equal_conditions(cells: &[u32; 11265], group: Group, left: u32, right: u32) -> Changed
-    ensures { λ r. ⌜ r ≡ onGroup (λ ns cs. addEqual (group .limit) ns left right cs) (now (cells .entry)) group ⌝ }
-{
-    let number = check_group(cells, group);
-    if number != 0 {
-        return refusal(number, group);
-    }
-    let n = node_count(cells);
-    if n <= wide(left) {
-        return refusal(1, group);
-    }
-    if n <= wide(right) {
-        return refusal(1, group);
-    }
-    equal_condition_in(cells, group, left, right)
-}
-
-// An expression is constant: flavour 0 heterogeneous, 1 uniform unknown, 2 uniform with a value. Refusals: 12, 11,
-// 1, 4.
-pub fn add_constant(
-    cells: &[u32; 11265],
-    group: Group,
-    expr: u32,
-    flavour: u32,
-    value: u32,
-) -> Changed
-    ensures { λ r. ⌜ r ≡ onConstant expr flavour value (now (cells .entry)) group ⌝ }
-{
-    if !can_say(flavour, value) {
-        return refusal(12, group);
-    }
-    let number = check_group(cells, group);
-    if number != 0 {
-        return refusal(number, group);
-    }
-    let n = node_count(cells);
-    if n <= wide(expr) {
-        return refusal(1, group);
-    }
-    let said = Mark {
-        flavour: flavour + 1,
-        value: value,
-    };
-    add_constant_in(cells, group, expr, said)
-}
-
-// Drops the constants that may differ from partition to partition. The answer says whether anything changed.
-// Refusals: 12, 11, 1.
-pub fn clear_per_partition_constants(cells: &[u32; 11265], group: Group) -> Changed
-    ensures { λ r. ⌜ r ≡ onGroup (λ ns cs. clear cs) (now (cells .entry)) group ⌝ }
-{
-    let number = check_group(cells, group);
-    if number != 0 {
-        return refusal(number, group);
-    }
-    clear_in(group)
-}
-
 // The class of an expression. Refusals: 12, 11, 1.
 pub fn get_equivalence_class(cells: &[u32; 11265], group: Group, expr: u32) -> ClassIs
     ensures { λ r. ⌜ r ≡ askGroup (λ k. ClassIs.Refused k) (classAnswer expr) (now (cells .entry)) group ⌝ }
@@ -191,41 +111,4 @@ pub fn get_equivalence_class(cells: &[u32; 11265], group: Group, expr: u32) -> C
         ),
         Place::Nowhere => ClassIs::Nowhere,
     }
-}
-
-// The equality question. Refusals: 12, 11, 1.
-pub fn exprs_equal(cells: &[u32; 11265], group: Group, left: u32, right: u32) -> Answer
-    ensures { λ r. ⌜ r ≡ askGroup (λ k. Answer.Refused k) (equalAnswer left right) (now (cells .entry)) group ⌝ }
-{
-    let number = check_group(cells, group);
-    if number != 0 {
-        return Answer::Refused(number);
-    }
-    let n = node_count(cells);
-    if n <= wide(left) {
-        return Answer::Refused(1);
-    }
-    if n <= wide(right) {
-        return Answer::Refused(1);
-    }
-    if equal_in(cells, group, left, right) {
-        Answer::Yes
-    } else {
-        Answer::No
-    }
-}
-
-// The constant question. Refusals: 12, 11, 1.
-pub fn is_expr_constant(cells: &[u32; 11265], group: Group, expr: u32) -> ConstantIs
-    ensures { λ r. ⌜ r ≡ askGroup (λ k. ConstantIs.Refused k) (constantAnswer expr) (now (cells .entry)) group ⌝ }
-{
-    let number = check_group(cells, group);
-    if number != 0 {
-        return ConstantIs::Refused(number);
-    }
-    let n = node_count(cells);
-    if n <= wide(expr) {
-        return ConstantIs::Refused(1);
-    }
-    ConstantIs::Is(constant_in(cells, group, expr))
 }

@@ -46,13 +46,17 @@ fn changing(cells: &[u32; 11265], g: Group) -> bool {
     let first = changed(
         b", equal ",
         g,
-        classes::add_equal_conditions(cells, g, 0, 1),
+        conditions::add_equal_conditions(cells, g, 0, 1),
     );
-    let second = changed(b", constant ", g, classes::add_constant(cells, g, 10, 2, 5));
+    let second = changed(
+        b", constant ",
+        g,
+        conditions::add_constant(cells, g, 10, 2, 5),
+    );
     let third = changed(
         b", clear ",
         g,
-        classes::clear_per_partition_constants(cells, g),
+        conditions::clear_per_partition_constants(cells, g),
     );
     if !first {
         return false;
@@ -68,9 +72,9 @@ fn asking(cells: &[u32; 11265], g: Group) {
     print::words(b", class question ");
     show::place(classes::get_equivalence_class(cells, g, 1));
     print::words(b", equality question ");
-    show::equality(classes::exprs_equal(cells, g, 0, 1));
+    show::equality(questions::exprs_equal(cells, g, 0, 1));
     print::words(b", constant question ");
-    show::constancy(classes::is_expr_constant(cells, g, 10));
+    show::constancy(questions::is_expr_constant(cells, g, 10));
 }
 
 // What every call answers to a lent group, on one line.

@@ -14,7 +14,7 @@ use Rattle.laws.proofs.Table.{length-table, getD-table}
 use Rattle.arena.specs.Node.{Node}
 use Rattle.arena.specs.Layout.{count, cellOf, decode as nodes}
 use Rattle.classes.specs.Class.{Class, isUniform}
-use Rattle.classes.specs.Questions.{exprConstant}
+use Rattle.questions.specs.Questions.{exprConstant}
 use Rattle.classes.specs.Layout.{padded}
 use Rattle.classes.proofs.Checks.{literal-cell}
 use Rattle.classes.proofs.Codec.{snoc-padded}

@@ -11,15 +11,14 @@ use Rattle.arena.specs.Value.{Row, Meaning, value}
 use Rattle.arena.specs.Arena.{Sound, Extends}
 use Rattle.arena.specs.declared.Added.the-variants.{Number}
 use Rattle.classes.specs.Class.{Class}
-use Rattle.classes.specs.Group.{among, classAt}
+use Rattle.classes.specs.Group.{among, classAt, sameClass}
 use Rattle.classes.specs.Good.{Good}
-use Rattle.classes.specs.Questions.{sameClass}
-use Rattle.classes.specs.Steps.{after, accepted}
+use Rattle.conditions.specs.Steps.{after, accepted}
 use Rattle.classes.proofs.Places.{classOf-only}
-use Rattle.classes.proofs.Answers.{place-same}
-use Rattle.classes.proofs.Chains.{Equivalence, chain-within}
-use Rattle.classes.proofs.Demands.{same-class-exactly}
-use Rattle.classes.proofs.GoodKept.{empty-good, after-good}
+use Rattle.demands.proofs.Answers.{place-same}
+use Rattle.demands.proofs.Chains.{Equivalence, chain-within}
+use Rattle.demands.proofs.Demands.{same-class-exactly}
+use Rattle.demands.proofs.GoodKept.{empty-good, after-good}
 use Rattle.normal.specs.Agree.{Same, MembersAgree, PairsAgree}
 use Rattle.normal.specs.Normal.{normal}
 use Rattle.normal.specs.Calls.{normalizeExpr}

@@ -18,7 +18,8 @@ use Rattle.arena.proofs.Growing.{add-expressions}
 use Rattle.arena.proofs.Layouts.{length-decode, coded-cells}
 use Rattle.arena.proofs.Walking.{memo-none}
 use Rattle.classes.specs.Layout.{decode}
-use Rattle.classes.specs.Inner.{Held, Marked}
+use Rattle.classes.specs.Inner.{Held}
+use Rattle.questions.specs.Inner.{Marked}
 use Rattle.classes.specs.declared.Group.{Group}
 use Rattle.normal.specs.Keys.{exprsOf, withExprs, normalForms, sorting}
 use Rattle.normal.specs.Layout.{keysOf, sorted, unsorted}

@@ -13,13 +13,13 @@ use Rattle.laws.specs.Tests.{if_then_else_, each}
 use Rattle.arena.specs.Node.{Node, column, literal, operation, nodeAt, childNumbers}
 use Rattle.arena.specs.Arena.{Sound, Extends}
 use Rattle.arena.proofs.Nodes.{extends-node}
-use Rattle.classes.specs.Class.{Constant, noConstant, heterogeneous, unknown, known, Class, isUniform, carried}
+use Rattle.classes.specs.Class.{Constant, noConstant, heterogeneous, unknown, known, Class, isUniform, carried, isConstant}
 use Rattle.classes.specs.Group.{classOf}
 use Rattle.classes.specs.Good.{Good}
-use Rattle.classes.specs.Questions.{classConstant, isConstant, orElse, constantBy, exprConstant}
+use Rattle.questions.specs.Questions.{classConstant, orElse, constantBy, exprConstant}
 use Rattle.classes.specs.Layout.{flavourOf, isLiteral}
-use Rattle.classes.specs.Inner.{Marked}
-use Rattle.classes.proofs.Asking.{constant-by-is}
+use Rattle.questions.specs.Inner.{Marked}
+use Rattle.questions.proofs.Asking.{constant-by-is}
 use Rattle.classes.proofs.Places.{classOf-some, class-flat}
 use Rattle.normal.specs.Keys.{Key, exprsOf, sorting}
 use Rattle.normal.specs.Inner.{uniformBy, keptOf}

@@ -7,7 +7,7 @@ use Rattle.arena.specs.Node.{Node}
 use Rattle.arena.specs.Expression.{expressions, those}
 use Rattle.arena.specs.Arena.{Placed, addExpressions}
 use Rattle.classes.specs.Class.{Class, isUniform}
-use Rattle.classes.specs.Questions.{exprConstant}
+use Rattle.questions.specs.Questions.{exprConstant}
 use Rattle.normal.specs.Normal.{normals}
 
 -- a key: an expression and options 0 to 3 (1 for descending plus 2 for nulls first)

@@ -7,7 +7,7 @@ use arena::cells::cell_of;
 use arena::cells::node_count;
 use arena::cells::wide;
 use classes::Group;
-use classes::questions::class_marks;
+use questions::questions::class_marks;
 ghost use mathlib.Core.Path.{_≡_};
 ghost use Prim.Native.Nat.{_<_, _≤_, _+_, _*_, _/_};
 ghost use lib.Dec.{ltb};

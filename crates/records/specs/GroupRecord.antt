@@ -12,7 +12,7 @@ use Rattle.classes.specs.Class.{Class}
 use Rattle.classes.specs.Good.{flat}
 use Rattle.classes.specs.Layout.{encode, flavourOf, valueOf, constantFrom, knownFlavour, fresh, isLiteral}
 use Rattle.classes.specs.declared.Changed.{Changed}
-pub use Rattle.classes.specs.Calls.{noGroup}
+unfoldable pub use Rattle.classes.specs.Calls.{noGroup}
 use Rattle.records.specs.Fields.{field, wideField, fields}
 use Rattle.records.specs.Record.{isWhole, bodyOf, fieldBytes, wideBytes, fieldsBytes}
 

@@ -12,7 +12,7 @@ use classes::Group;
 use classes::building::empty;
 use classes::checking::known_flavour;
 use classes::checking::member_fits;
-use classes::equating::no_group;
+use classes::refusing::no_group;
 ghost use mathlib.Core.Bool.{true, not, _&&_, _||_};
 ghost use mathlib.Core.Path.{_≡_};
 ghost use Prim.Native.Nat.{_≤_, _<_, _+_, _*_};

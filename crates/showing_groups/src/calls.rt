@@ -39,13 +39,13 @@ pub fn fresh(limit: usize) -> Group {
 
 // Two expressions are equal, with no line.
 pub fn pair(cells: &[u32; 11265], g: Group, left: u32, right: u32) -> Group {
-    let done = classes::add_equal_conditions(cells, g, left, right);
+    let done = conditions::add_equal_conditions(cells, g, left, right);
     done.group
 }
 
 // An expression is constant, with no line.
 pub fn fix(cells: &[u32; 11265], g: Group, expr: u32, flavour: u32, value: u32) -> Group {
-    let done = classes::add_constant(cells, g, expr, flavour, value);
+    let done = conditions::add_constant(cells, g, expr, flavour, value);
     done.group
 }
 
@@ -74,7 +74,7 @@ pub fn check(cells: &[u32; 11265], g: Group) {
 pub fn equal(cells: &[u32; 11265], g: Group, left: u32, right: u32) -> Group {
     print::words(b"equal");
     print::two(left, right);
-    ended(g, classes::add_equal_conditions(cells, g, left, right))
+    ended(g, conditions::add_equal_conditions(cells, g, left, right))
 }
 
 // The words for a flavour that a call says.
@@ -107,13 +107,13 @@ pub fn constant(cells: &[u32; 11265], g: Group, expr: u32, flavour: u32, value: 
     print::words(b"constant ");
     print::number(expr);
     said(flavour, value);
-    settled(g, classes::add_constant(cells, g, expr, flavour, value))
+    settled(g, conditions::add_constant(cells, g, expr, flavour, value))
 }
 
 // Drops the constants that may differ from partition to partition.
 pub fn clear(cells: &[u32; 11265], g: Group) -> Group {
     print::words(b"clear");
-    ended(g, classes::clear_per_partition_constants(cells, g))
+    ended(g, conditions::clear_per_partition_constants(cells, g))
 }
 
 // The class question.
@@ -130,7 +130,7 @@ pub fn ask_equal(cells: &[u32; 11265], g: Group, left: u32, right: u32) {
     print::words(b"are equal");
     print::two(left, right);
     print::words(b": ");
-    show::equality(classes::exprs_equal(cells, g, left, right));
+    show::equality(questions::exprs_equal(cells, g, left, right));
     print::line(b"");
 }
 
@@ -139,6 +139,6 @@ pub fn ask_constant(cells: &[u32; 11265], g: Group, expr: u32) {
     print::words(b"is constant ");
     print::number(expr);
     print::words(b": ");
-    show::constancy(classes::is_expr_constant(cells, g, expr));
+    show::constancy(questions::is_expr_constant(cells, g, expr));
     print::line(b"");
 }

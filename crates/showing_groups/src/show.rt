@@ -1,8 +1,8 @@
 // Groups, and what the calls of the classes answered.
-use classes::Answer;
 use classes::ClassIs;
-use classes::ConstantIs;
 use classes::Group;
+use questions::Answer;
+use questions::ConstantIs;
 use showing::print;
 
 // What a call that changes a group answered: a refusal's number, or true or false.

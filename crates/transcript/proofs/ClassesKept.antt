@@ -14,14 +14,15 @@ use Rattle.arena.specs.Arena.{Extends}
 use Rattle.classes.specs.Class.{Class}
 use Rattle.classes.specs.Group.{total}
 use Rattle.classes.specs.Good.{Good}
-use Rattle.classes.specs.Steps.{refused, fits, addEqual, addConstant}
+use Rattle.classes.specs.Steps.{refused, fits}
+use Rattle.conditions.specs.Steps.{addEqual, addConstant}
 use Rattle.classes.specs.Layout.{encode, decode, constantFrom}
-use Rattle.classes.specs.Calls.{sayable}
+use Rattle.conditions.specs.Calls.{sayable}
 use Rattle.classes.specs.Inner.{Held}
 use Rattle.classes.specs.declared.Group.{Group}
-use Rattle.classes.proofs.Answers.{addEqual-holds, addConstant-holds}
+use Rattle.demands.proofs.Answers.{addEqual-holds, addConstant-holds}
 use Rattle.classes.proofs.Codec.{decode-encode, coded-encode}
-use Rattle.classes.proofs.GoodKept.{addEqual-good, addConstant-good}
+use Rattle.demands.proofs.GoodKept.{addEqual-good, addConstant-good}
 use Rattle.classes.proofs.HeldLaws.{Fit}
 use Rattle.normal.proofs.NormalValue.{good-extended}
 use Rattle.transcript.specs.State.{sayConstant}

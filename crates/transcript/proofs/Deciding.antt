@@ -16,12 +16,14 @@ use Rattle.arena.specs.Inner.{Holds}
 use Rattle.arena.proofs.Layouts.{coded-cells}
 use Rattle.classes.specs.Class.{Class}
 use Rattle.classes.specs.Group.{withConstant}
-use Rattle.classes.specs.Questions.{exprsEqual}
+use Rattle.questions.specs.Questions.{exprsEqual}
 use Rattle.classes.specs.Steps.{refused, judged}
 use Rattle.classes.specs.Layout.{constantFrom}
-use Rattle.classes.specs.Calls.{sayable, equalAnswer}
-use Rattle.classes.specs.declared.Answer.{Answer}
-use Rattle.classes.proofs.Calling.{say-unknown, say-known, equal-yes, equal-no}
+use Rattle.conditions.specs.Calls.{sayable}
+use Rattle.questions.specs.Calls.{equalAnswer}
+use Rattle.questions.specs.declared.Answer.{Answer}
+use Rattle.conditions.proofs.Calling.{say-unknown, say-known}
+use Rattle.questions.proofs.Calling.{equal-yes, equal-no}
 use Rattle.normal.specs.Normal.{normal}
 use Rattle.normal.specs.Calls.{normalizeExpr}
 use Rattle.orderings.specs.Ordering.{sameKey}

@@ -18,12 +18,15 @@ use Rattle.arena.specs.declared.Added.the-variants.{Refused}
 use Rattle.arena.proofs.Layouts.{decode-encode, count-encode, encode-holds, holds-lawful}
 use Rattle.arena.proofs.Lending.{on-arena}
 use Rattle.classes.specs.Class.{Class}
-use Rattle.classes.specs.Steps.{Outcome as GroupOutcome, refused, addEqual, addConstant}
+use Rattle.classes.specs.Steps.{Outcome as GroupOutcome, refused}
+use Rattle.conditions.specs.Steps.{addEqual, addConstant}
 use Rattle.classes.specs.Layout.{encode as groupFor, decode as classesIn, constantFrom}
-use Rattle.classes.specs.Calls.{groupNumber, changed, onGroup, askGroup, sayable, onConstant, equalAnswer}
+use Rattle.classes.specs.Calls.{groupNumber, changed, onGroup, askGroup}
+use Rattle.conditions.specs.Calls.{sayable, onConstant}
+use Rattle.questions.specs.Calls.{equalAnswer}
 use Rattle.classes.specs.declared.Changed.{Changed}
-use Rattle.classes.specs.declared.Answer.{Answer}
-use Rattle.classes.specs.declared.Answer.the-variants.{Refused as Answer-Refused}
+use Rattle.questions.specs.declared.Answer.{Answer}
+use Rattle.questions.specs.declared.Answer.the-variants.{Refused as Answer-Refused}
 use Rattle.classes.proofs.Codec.{decode-encode as classes-again}
 use Rattle.normal.specs.Calls.{onChecked, normalizeExpr, normalized}
 use Rattle.orderings.specs.Ordering.{sameKey}

@@ -10,10 +10,11 @@ use Rattle.arena.specs.Expression.{expressions, those, over}
 use Rattle.arena.specs.Arena.{andThen, find, placedAt, add, addExpression, addExpressions}
 use Rattle.arena.specs.Calls.{answered, addColumn, addOperation}
 use Rattle.classes.specs.Class.{carried, taken, single, merged}
-use Rattle.classes.specs.Group.{among, classOf, total, pair, equated, equalCondition}
-use Rattle.classes.specs.Questions.{sameClass, childrenEqual, equals, equalBy}
-use Rattle.classes.specs.Steps.{fits, judged, addEqual}
-use Rattle.classes.specs.Calls.{equalAnswer}
+use Rattle.classes.specs.Group.{among, classOf, total, pair, equated, equalCondition, sameClass}
+use Rattle.questions.specs.Questions.{childrenEqual, equals, equalBy}
+use Rattle.classes.specs.Steps.{fits, judged}
+use Rattle.conditions.specs.Steps.{addEqual}
+use Rattle.questions.specs.Calls.{equalAnswer}
 use Rattle.normal.specs.Normal.{operationOver, bothFound, numberOf, numbersOf, firstAt, firstOf, replacedBy, replaced, normalBy, normalsBy}
 use Rattle.normal.specs.Calls.{normalizeExpr}
 use Rattle.records.specs.Fields.{field, wideField, fields}

@@ -19,7 +19,7 @@ use Rattle.classes.specs.Group.{total}
 use Rattle.classes.specs.Layout.{encode, decode}
 use Rattle.classes.specs.declared.Group.{Group}
 use Rattle.classes.proofs.Codec.{coded-encode, decode-encode, length-decode}
-use Rattle.classes.proofs.GoodKept.{empty-good}
+use Rattle.demands.proofs.GoodKept.{empty-good}
 use Rattle.classes.specs.Good.{Good}
 use Rattle.orderings.specs.Layout.{encode as encodeList, decode as orderingsIn}
 use Rattle.orderings.specs.Good.{Good as GoodList}

@@ -1,6 +1,6 @@
 -- What every session keeps: its state stays good, and a refusal leaves it as it was.
 use Prim.Native.Nat.{ℕ, suc, _+_, _<_, _≤_}
-use mathlib.Core.Bool.{Bool, true, false, _&&_}
+use mathlib.Core.Bool.{Bool, true, false}
 use mathlib.Core.List.{List, [], _∷_, _++_, map}
 use mathlib.Core.Path.{_≡_, refl, ap}
 use native.Mathlib.Omega.{arith}
@@ -13,13 +13,15 @@ use Rattle.arena.specs.Arena.{Sound, Placed, placed, full, add, addExpression}
 use Rattle.arena.specs.Calls.{answered, addColumn, addLiteral, addOperation, addedNumber}
 use Rattle.arena.specs.declared.Added.{Added}
 use Rattle.arena.specs.declared.Added.the-variants.{Number, Refused}
-use Rattle.classes.specs.Class.{Class}
-use Rattle.classes.specs.Group.{total, equalCondition, withConstant}
+use Rattle.classes.specs.Class.{Constant, Class}
+use Rattle.classes.specs.Group.{total}
 use Rattle.classes.specs.Good.{Good}
-use Rattle.classes.specs.Steps.{Outcome as GroupOutcome, refused, fits, judged, addEqual, addConstant}
+use Rattle.classes.specs.Steps.{Outcome as GroupOutcome, refused}
+use Rattle.conditions.specs.Steps.{addEqual, addConstant}
 use Rattle.classes.specs.Layout.{constantFrom}
-use Rattle.classes.specs.Calls.{sayable}
-use Rattle.classes.proofs.GoodKept.{empty-good}
+use Rattle.conditions.specs.Calls.{sayable}
+use Rattle.demands.proofs.Answers.{addEqual-keeps, addConstant-keeps}
+use Rattle.demands.proofs.GoodKept.{empty-good}
 use Rattle.classes.proofs.HeldLaws.{Fit}
 use Rattle.normal.specs.Normal.{normal}
 use Rattle.normal.specs.Calls.{normalizeExpr}
@@ -165,41 +167,16 @@ told-not-zero number n q z = let w : _≡_ {A = ℕ} 0 1 = ap refusing (rw z at 
 abbrev Keeps : List Class → GroupOutcome → Type 0
 Keeps cs o = (o .number ≡ 0 → ⊥) → o .classes ≡ cs
 
-judged-keeps : (l : ℕ) (cs : List Class) (o : Bool × List Class) → Keeps cs (judged l cs o)
-unfolding judged refused
-judged-keeps l cs o = go (fits l (o .1))
-  where
-    out : Bool → GroupOutcome
-    out b = if b then record { number = 0; answer = o .0; classes = o .1 } else refused 4 cs
-
-    go : (b : Bool) → Keeps cs (out b)
-    go true = λ h. absurd (h refl)
-    go false = λ h. refl
-
-equal-keeps : (ns : List Node) (a b : ℕ) (cs : List Class) → Keeps cs (addEqual 256 ns a b cs)
-unfolding addEqual refused
-equal-keeps ns a b cs = go (ltb a (length ns) && ltb b (length ns))
-  where
-    out : Bool → GroupOutcome
-    out t = if t then judged 256 cs (equalCondition ns cs a b) else refused 1 cs
-
-    go : (t : Bool) → Keeps cs (out t)
-    go true = judged-keeps 256 cs (equalCondition ns cs a b)
-    go false = λ h. refl
-
 constant-keeps : (e flavour value : ℕ) (ns : List Node) (cs : List Class) → Keeps cs (sayConstant e flavour value ns cs)
-unfolding sayConstant addConstant refused
-constant-keeps e flavour value ns cs = go (sayable flavour value) (ltb e (length ns))
+unfolding sayConstant refused
+constant-keeps e flavour value ns cs = go (sayable flavour value)
   where
-    out : Bool → Bool → GroupOutcome
-    out a b =
-        if a then (if b then judged 256 cs (false, withConstant true ns cs e (constantFrom (flavour + 1) value)) else refused 1 cs)
-        else refused 12 cs
+    said : Constant
+    said = constantFrom (flavour + 1) value
 
-    go : (a b : Bool) → Keeps cs (out a b)
-    go true true = judged-keeps 256 cs (false, withConstant true ns cs e (constantFrom (flavour + 1) value))
-    go true false = λ h. refl
-    go false b = λ h. refl
+    go : (b : Bool) → Keeps cs (if b then addConstant true 256 ns e said cs else refused 12 cs)
+    go true = addConstant-keeps true 256 ns e said cs
+    go false = λ h. refl
 
 classes-leave : (s : State) (o : GroupOutcome) → Keeps (s .classes) o → (n : ℕ) → onClasses s o .0 ≡ refusal n → onClasses s o .1 ≡ s
 unfolding onClasses withClasses
@@ -230,7 +207,7 @@ refused-leaves (column name index) s n q = nodes-leave s addedReply (addColumn n
 refused-leaves (literal value) s n q = nodes-leave s addedReply (addLiteral value (s .nodes)) (answered-leaves (s .nodes) _) (λ i. refl) n q
 refused-leaves (operationRecord label children) s n q =
     nodes-leave s addedReply (addOperation label children (s .nodes)) (operation-leaves label children (s .nodes)) (λ i. refl) n q
-refused-leaves (equalPair a b) s n q = classes-leave s (addEqual 256 (s .nodes) a b (s .classes)) (equal-keeps (s .nodes) a b (s .classes)) n q
+refused-leaves (equalPair a b) s n q = classes-leave s (addEqual 256 (s .nodes) a b (s .classes)) (addEqual-keeps 256 (s .nodes) a b (s .classes)) n q
 refused-leaves (constant e flavour value) s n q =
     classes-leave s (sayConstant e flavour value (s .nodes) (s .classes)) (constant-keeps e flavour value (s .nodes) (s .classes)) n q
 refused-leaves (normalFormOf e) s n q =

@@ -10,11 +10,13 @@ use Rattle.arena.specs.Calls.{addColumn, addLiteral, addOperation}
 use Rattle.arena.specs.declared.Added.{Added}
 use Rattle.arena.specs.declared.Added.the-variants.{Number, Refused}
 use Rattle.classes.specs.Class.{Class}
-use Rattle.classes.specs.Steps.{Outcome, refused, addEqual, addConstant}
+use Rattle.classes.specs.Steps.{Outcome, refused}
+use Rattle.conditions.specs.Steps.{addEqual, addConstant}
 use Rattle.classes.specs.Layout.{constantFrom}
-use Rattle.classes.specs.Calls.{sayable, equalAnswer}
-use Rattle.classes.specs.declared.Answer.{Answer}
-use Rattle.classes.specs.declared.Answer.the-variants.{Yes, No, Refused as Answer-Refused}
+use Rattle.conditions.specs.Calls.{sayable}
+use Rattle.questions.specs.Calls.{equalAnswer}
+use Rattle.questions.specs.declared.Answer.{Answer}
+use Rattle.questions.specs.declared.Answer.the-variants.{Yes, No, Refused as Answer-Refused}
 use Rattle.normal.specs.Calls.{normalizeExpr}
 use Rattle.orderings.specs.Ordering.{sameKey}
 use Rattle.orderings.specs.Lists.{builtAll}

@@ -7,21 +7,21 @@ use borrow.Author.Needs.{needs}
 use lib.ListN.{length}
 use Rattle.arena.specs.Layout.{decode as nodes}
 use Rattle.arena.proofs.Layouts.{length-decode}
+use Rattle.arena.proofs.cells.node_count.Reads as node-count-reads
+use Rattle.arena.proofs.cells.wide.Reads as wide-reads
 use Rattle.classes.specs.Group.{classOf}
 use Rattle.classes.specs.Layout.{decode}
 use Rattle.classes.specs.Calls.{classAnswer}
 use Rattle.classes.specs.declared.ClassIs.{ClassIs}
+use Rattle.classes.proofs.ClassPlaces.{place-at, place-nowhere}
 use Rattle.classes.proofs.Codec.{length-decode as length-classes, size-is}
 use Rattle.classes.proofs.Places.{classOf-some}
-use Rattle.classes.proofs.ConstantLaws.{place-at, place-nowhere}
 use Rattle.classes.proofs.HeldLaws.{number-held}
 use Rattle.classes.proofs.Calling.{ask-done, ask-refused, class-unknown, class-nowhere, class-at}
 use Rattle.classes.proofs.get_equivalence_class.Statement.{statement}
 use Rattle.classes.proofs.get_equivalence_class.Tie as tie
 use Rattle.classes.proofs.get_equivalence_class.Reads as reads
 use Rattle.classes.proofs.get_equivalence_class.Lts as lts
-use Rattle.arena.proofs.cells.node_count.Reads as node-count-reads
-use Rattle.arena.proofs.cells.wide.Reads as wide-reads
 use Rattle.classes.proofs.building.class_size.Reads as class-size-reads
 use Rattle.classes.proofs.building.first_member.Reads as first-member-reads
 use Rattle.classes.proofs.building.mark_of.Reads as mark-of-reads
@@ -65,7 +65,7 @@ class-size-requires c κs =
     let vl : length (c .before .before .before .before .before .before .before .before .before .args .group .values) ≡ 64 = search needs in
     let mm : length (c .before .before .before .before .before .before .before .before .before .args .group .members) ≡ 256 = search needs in
     let h = number-held (c .before .before .before .before .before .before .before .before .before .args .cells .now) (c .before .before .before .before .before .before .before .before .before .args .group) sz fl vl mm (sym (c .before .before .before .before .before .before .before .before .check-group .ensures) ∙ c .before .before .before .before .before .before .before .if1 .left) in
-    let o : classOf (decode (c .before .before .before .before .before .before .before .before .before .args .group)) (c .before .before .before .before .before .before .before .before .before .args .expr) ≡ some (c .before .i .given .0 .0) = place-at _ _ (sym (c .before .before .before .find-class .ensures) ∙ c .before .i .given .1) in
+    let o : classOf (decode (c .before .before .before .before .before .before .before .before .before .args .group)) (c .before .before .before .before .before .before .before .before .before .args .expr) ≡ some (c .before .i .given .0 .0) = place-at _ _ (sym (c .before .i .given .1) ∙ c .before .before .before .find-class .ensures) in
     let w : c .before .i .given .0 .0 < c .before .before .before .before .before .before .before .before .before .args .group .count = rw (length-classes (c .before .before .before .before .before .before .before .before .before .args .group)) at (classOf-some (decode (c .before .before .before .before .before .before .before .before .before .args .group)) (c .before .before .before .before .before .before .before .before .before .args .expr) (c .before .i .given .0 .0) o .0) in
     (h .coded, w)
 
@@ -76,7 +76,7 @@ first-member-requires c κs =
     let vl : length (c .before .before .before .before .before .before .before .before .before .before .args .group .values) ≡ 64 = search needs in
     let mm : length (c .before .before .before .before .before .before .before .before .before .before .args .group .members) ≡ 256 = search needs in
     let h = number-held (c .before .before .before .before .before .before .before .before .before .before .args .cells .now) (c .before .before .before .before .before .before .before .before .before .before .args .group) sz fl vl mm (sym (c .before .before .before .before .before .before .before .before .before .check-group .ensures) ∙ c .before .before .before .before .before .before .before .before .if1 .left) in
-    let o : classOf (decode (c .before .before .before .before .before .before .before .before .before .before .args .group)) (c .before .before .before .before .before .before .before .before .before .before .args .expr) ≡ some (c .before .before .i .given .0 .0) = place-at _ _ (sym (c .before .before .before .before .find-class .ensures) ∙ c .before .before .i .given .1) in
+    let o : classOf (decode (c .before .before .before .before .before .before .before .before .before .before .args .group)) (c .before .before .before .before .before .before .before .before .before .before .args .expr) ≡ some (c .before .before .i .given .0 .0) = place-at _ _ (sym (c .before .before .i .given .1) ∙ c .before .before .before .before .find-class .ensures) in
     let w : c .before .before .i .given .0 .0 < c .before .before .before .before .before .before .before .before .before .before .args .group .count = rw (length-classes (c .before .before .before .before .before .before .before .before .before .before .args .group)) at (classOf-some (decode (c .before .before .before .before .before .before .before .before .before .before .args .group)) (c .before .before .before .before .before .before .before .before .before .before .args .expr) (c .before .before .i .given .0 .0) o .0) in
     let f = h .good .filled (c .before .before .i .given .0 .0) (rw (length-classes (c .before .before .before .before .before .before .before .before .before .before .args .group)) w) in
     (h .coded, (w, rw (size-is (c .before .before .before .before .before .before .before .before .before .before .args .group) (h .coded) (c .before .before .i .given .0 .0)) f))
@@ -88,7 +88,7 @@ mark-of-requires c κs =
     let vl : length (c .before .before .before .before .before .before .before .before .before .before .before .args .group .values) ≡ 64 = search needs in
     let mm : length (c .before .before .before .before .before .before .before .before .before .before .before .args .group .members) ≡ 256 = search needs in
     let h = number-held (c .before .before .before .before .before .before .before .before .before .before .before .args .cells .now) (c .before .before .before .before .before .before .before .before .before .before .before .args .group) sz fl vl mm (sym (c .before .before .before .before .before .before .before .before .before .before .check-group .ensures) ∙ c .before .before .before .before .before .before .before .before .before .if1 .left) in
-    let o : classOf (decode (c .before .before .before .before .before .before .before .before .before .before .before .args .group)) (c .before .before .before .before .before .before .before .before .before .before .before .args .expr) ≡ some (c .before .before .before .i .given .0 .0) = place-at _ _ (sym (c .before .before .before .before .before .find-class .ensures) ∙ c .before .before .before .i .given .1) in
+    let o : classOf (decode (c .before .before .before .before .before .before .before .before .before .before .before .args .group)) (c .before .before .before .before .before .before .before .before .before .before .before .args .expr) ≡ some (c .before .before .before .i .given .0 .0) = place-at _ _ (sym (c .before .before .before .i .given .1) ∙ c .before .before .before .before .before .find-class .ensures) in
     let w : c .before .before .before .i .given .0 .0 < c .before .before .before .before .before .before .before .before .before .before .before .args .group .count = rw (length-classes (c .before .before .before .before .before .before .before .before .before .before .before .args .group)) at (classOf-some (decode (c .before .before .before .before .before .before .before .before .before .before .before .args .group)) (c .before .before .before .before .before .before .before .before .before .before .before .args .expr) (c .before .before .before .i .given .0 .0) o .0) in
     (h .coded, w)
 
@@ -97,14 +97,14 @@ enum-told c = search needs
 
 returns-3 : tie.Need-returns-3
 returns-3 c =
-    let o : classOf (decode (c .before .before .before .before .before .before .before .before .before .before .before .before .args .group)) (c .before .before .before .before .before .before .before .before .before .before .before .before .args .expr) ≡ some (c .before .before .before .before .i .given .0 .0) = place-at _ _ (sym (c .before .before .before .before .before .before .find-class .ensures) ∙ c .before .before .before .before .i .given .1) in
+    let o : classOf (decode (c .before .before .before .before .before .before .before .before .before .before .before .before .args .group)) (c .before .before .before .before .before .before .before .before .before .before .before .before .args .expr) ≡ some (c .before .before .before .before .i .given .0 .0) = place-at _ _ (sym (c .before .before .before .before .i .given .1) ∙ c .before .before .before .before .before .before .find-class .ensures) in
     let w : c .before .before .before .before .i .given .0 .0 < c .before .before .before .before .before .before .before .before .before .before .before .before .args .group .count = rw (length-classes (c .before .before .before .before .before .before .before .before .before .before .before .before .args .group)) at (classOf-some (decode (c .before .before .before .before .before .before .before .before .before .before .before .before .args .group)) (c .before .before .before .before .before .before .before .before .before .before .before .before .args .expr) (c .before .before .before .before .i .given .0 .0) o .0) in
     let l : c .before .before .before .before .before .before .before .before .before .before .before .before .args .expr < length (nodes (c .before .before .before .before .before .before .before .before .before .before .before .before .args .cells .now)) = omega (arith, length-decode (c .before .before .before .before .before .before .before .before .before .before .before .before .args .cells .now), c .before .before .before .before .before .before .before .before .before .node-count .ensures, c .before .before .before .before .before .before .before .before .wide .ensures) in
     rw (c .before .before .class-size .ensures, c .before .first-member .ensures, c .mark-of .ensures) (sym ((ask-done (c .before .before .before .before .before .before .before .before .before .before .before .before .args .cells .now) (c .before .before .before .before .before .before .before .before .before .before .before .before .args .group) (λ k. ClassIs.Refused k) (classAnswer (c .before .before .before .before .before .before .before .before .before .before .before .before .args .expr)) (sym (c .before .before .before .before .before .before .before .before .before .before .before .check-group .ensures) ∙ c .before .before .before .before .before .before .before .before .before .before .if1 .left)) ∙ class-at (nodes (c .before .before .before .before .before .before .before .before .before .before .before .before .args .cells .now)) (decode (c .before .before .before .before .before .before .before .before .before .before .before .before .args .group)) (c .before .before .before .before .before .before .before .before .before .before .before .before .args .expr) l (c .before .before .before .before .i .given .0 .0) o))
 
 returns-4 : tie.Need-returns-4
 returns-4 c =
-    let o : classOf (decode (c .before .before .before .before .before .before .before .before .args .group)) (c .before .before .before .before .before .before .before .before .args .expr) ≡ none = place-nowhere _ (sym (c .before .before .find-class .ensures) ∙ c .enum-told .given .1) in
+    let o : classOf (decode (c .before .before .before .before .before .before .before .before .args .group)) (c .before .before .before .before .before .before .before .before .args .expr) ≡ none = place-nowhere _ (sym (c .enum-told .given .1) ∙ c .before .before .find-class .ensures) in
     let l : c .before .before .before .before .before .before .before .before .args .expr < length (nodes (c .before .before .before .before .before .before .before .before .args .cells .now)) = omega (arith, length-decode (c .before .before .before .before .before .before .before .before .args .cells .now), c .before .before .before .before .before .node-count .ensures, c .before .before .before .before .wide .ensures) in
     sym ((ask-done (c .before .before .before .before .before .before .before .before .args .cells .now) (c .before .before .before .before .before .before .before .before .args .group) (λ k. ClassIs.Refused k) (classAnswer (c .before .before .before .before .before .before .before .before .args .expr)) (sym (c .before .before .before .before .before .before .before .check-group .ensures) ∙ c .before .before .before .before .before .before .if1 .left)) ∙ class-nowhere (nodes (c .before .before .before .before .before .before .before .before .args .cells .now)) (decode (c .before .before .before .before .before .before .before .before .args .group)) (c .before .before .before .before .before .before .before .before .args .expr) l o)
 

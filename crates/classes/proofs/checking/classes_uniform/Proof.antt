@@ -7,11 +7,11 @@ use borrow.Author.Needs.{needs}
 use borrow.Author.Tests.{not-true, not-false}
 use Rattle.laws.specs.Tests.{each}
 use Rattle.laws.proofs.Each.{each-none, each-more, each-stops, each-ends}
+use Rattle.arena.specs.Layout.{decode as nodes}
 use Rattle.classes.specs.Layout.{sumTo, uniformAt}
 use Rattle.classes.proofs.Numbers.{sum-none, sum-next, sum-holds}
 use Rattle.classes.proofs.checking.classes_uniform.Statement.{statement}
 use Rattle.classes.proofs.checking.classes_uniform.Tie as tie
-use Rattle.arena.specs.Layout.{decode as nodes}
 
 abbrev Inv-loop : tie.InvT-loop
 Inv-loop cells g start₀ j₀ start j = (j ≤ g .count) × ((start ≡ sumTo (g .sizes) j) × (each (λ j. uniformAt (nodes cells) g j) j ≡ true))

@@ -5,11 +5,11 @@ use native.Mathlib.Omega.{arith}
 use borrow.Author.Needs.{needs}
 use borrow.Author.Tests.{not-true, not-false}
 use Rattle.laws.specs.Tests.{each}
+use Rattle.arena.specs.Layout.{decode as nodes}
 use Rattle.classes.specs.Layout.{fresh, uniformAt, lawfulCounts, lawfulGroup}
 use Rattle.classes.proofs.Checks.{counts}
 use Rattle.classes.proofs.checking.lawful_group.Statement.{statement}
 use Rattle.classes.proofs.checking.lawful_group.Tie as tie
-use Rattle.arena.specs.Layout.{decode as nodes}
 
 lawful-counts-requires : tie.Need-lawful-counts-requires
 lawful-counts-requires c κs = search needs

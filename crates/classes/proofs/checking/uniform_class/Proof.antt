@@ -10,11 +10,11 @@ use borrow.Author.Tests.{not-true, not-false}
 use Rattle.laws.specs.Tests.{each}
 use Rattle.laws.proofs.Each.{each-none, each-more, each-stops, each-ends}
 use Rattle.arena.specs.Node.{Node, nodeAt}
+use Rattle.arena.specs.Layout.{decode as nodes}
 use Rattle.classes.specs.Layout.{sumTo, isLiteral, uniformAt}
 use Rattle.classes.specs.declared.Group.{Group}
 use Rattle.classes.proofs.checking.uniform_class.Statement.{statement}
 use Rattle.classes.proofs.checking.uniform_class.Tie as tie
-use Rattle.arena.specs.Layout.{decode as nodes}
 
 -- member k of class j may stand there
 abbrev Fits : List Node → Group → ℕ → ℕ → Bool

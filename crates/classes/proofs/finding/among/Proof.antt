@@ -5,11 +5,11 @@ use mathlib.Core.List.{List}
 use mathlib.Core.Path.{_≡_}
 use lib.ListN.{getD}
 use Rattle.laws.specs.Lists.{table}
-use Rattle.classes.proofs.Members.{among-none, among-more, among-hit, among-ends}
+use Rattle.classes.specs.Group.{among as isAmong}
 use borrow.Author.Needs.{needs}
+use Rattle.classes.proofs.Members.{among-none, among-more, among-hit, among-ends}
 use Rattle.classes.proofs.finding.among.Statement.{statement}
 use Rattle.classes.proofs.finding.among.Tie as tie
-use Rattle.classes.specs.Group.{among as isAmong}
 
 -- the members from a place on
 abbrev Part : List ℕ → ℕ → ℕ → ℕ

@@ -7,7 +7,7 @@ use Rattle.arena.specs.Layout.{decode as nodesIn}
 use Rattle.arena.proofs.Layouts.{length-decode}
 use Rattle.classes.specs.Layout.{decode}
 use Rattle.classes.specs.Calls.{changed}
-use Rattle.classes.proofs.Calling.{add-left, add-right, add-both}
+use Rattle.conditions.proofs.Calling.{add-left, add-right, add-both}
 use Rattle.classes.proofs.Judging.{refusal-is, handed-back}
 use borrow.Author.Needs.{needs}
 use Rattle.transcript.proofs.steps.equal_pair_in.Statement.{statement}

@@ -6,8 +6,8 @@ use lib.ListN.{length}
 use Rattle.arena.specs.Layout.{decode as nodesIn}
 use Rattle.arena.proofs.Layouts.{length-decode}
 use Rattle.classes.specs.Layout.{decode}
-use Rattle.classes.specs.declared.Answer.{Answer}
-use Rattle.classes.proofs.Calling.{equal-left, equal-right}
+use Rattle.questions.specs.declared.Answer.{Answer}
+use Rattle.questions.proofs.Calling.{equal-left, equal-right}
 use Rattle.transcript.specs.State.{equalityReply}
 use Rattle.transcript.specs.Inner.{saidOf}
 use Rattle.transcript.proofs.Deciding.{equality-said}

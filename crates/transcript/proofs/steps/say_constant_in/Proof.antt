@@ -7,12 +7,12 @@ use borrow.Author.Tests.{not-true, not-false}
 use lib.ListN.{length}
 use Rattle.arena.specs.Layout.{decode as nodesIn}
 use Rattle.arena.proofs.Layouts.{length-decode}
-use Rattle.classes.specs.Layout.{decode}
+use Rattle.classes.specs.Layout.{decode, constantFrom}
 use Rattle.classes.specs.Group.{withConstant}
 use Rattle.classes.specs.Steps.{judged}
-use Rattle.classes.specs.Layout.{constantFrom}
-use Rattle.classes.specs.Calls.{changed, sayable}
-use Rattle.classes.proofs.Calling.{said-flavour}
+use Rattle.classes.specs.Calls.{changed}
+use Rattle.conditions.specs.Calls.{sayable}
+use Rattle.conditions.proofs.Calling.{said-flavour}
 use Rattle.classes.proofs.Judging.{refusal-is, handed-back}
 use Rattle.transcript.proofs.Deciding.{said-never, said-unknown, said-known}
 use borrow.Author.Needs.{needs}

@@ -5,9 +5,10 @@ use mathlib.Core.Path.{refl, sym, ap, _∙_, subst}
 use lib.ListN.{length}
 use Rattle.arena.specs.Layout.{decode as nodesIn}
 use Rattle.arena.specs.Calls.{inCells, addColumn, addLiteral, addOperation}
-use Rattle.classes.specs.Steps.{addEqual}
+use Rattle.conditions.specs.Steps.{addEqual}
 use Rattle.classes.specs.Layout.{decode}
-use Rattle.classes.specs.Calls.{changed, equalAnswer}
+use Rattle.classes.specs.Calls.{changed}
+use Rattle.questions.specs.Calls.{equalAnswer}
 use Rattle.classes.proofs.HeldLaws.{Fit}
 use Rattle.normal.specs.Calls.{normalizeExpr}
 use Rattle.normal.proofs.NormalKept.{form-kept}

@@ -1,0 +1,2 @@
+// No functions: what is proved of the calls of classes, conditions and questions together (proofs/), as the demands
+// say it.
