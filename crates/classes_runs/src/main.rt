@@ -3,8 +3,6 @@
 mod clearing;
 mod constants;
 mod limits;
-mod questions;
-mod shared;
 mod small;
 
 use showing::nodes;
@@ -19,7 +17,5 @@ fn main() {
     small::run(&cells);
     constants::run(&cells);
     clearing::run(&cells);
-    questions::run(&cells);
     limits::run();
-    shared::run();
 }

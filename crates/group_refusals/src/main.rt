@@ -1,6 +1,5 @@
-// Runs the public calls of the classes on what they refuse, over the arena of the small examples, and prints
+// Runs the public calls on groups on what they refuse, over the arena of the small examples, and prints
 // one line for each: the call, the number of the refusal, and whether the group is as it was.
-mod lent;
 mod order;
 mod refusals;
 
@@ -10,6 +9,5 @@ use showing_groups::examples;
 fn main() {
     let cells = examples::base();
     refusals::run(&cells);
-    lent::run(&cells);
     order::run(&cells);
 }

@@ -1,8 +1,8 @@
 // The order of refusals where several hold: 12, 11, 1, 4.
-use crate::lent;
 use classes::Group;
 use showing::print;
 use showing_groups::calls;
+use showing_groups::lent;
 
 // The examples, on a sound arena and on cells that are none.
 pub fn run(cells: &[u32; 11265]) {
