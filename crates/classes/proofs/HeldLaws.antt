@@ -46,7 +46,7 @@ abbrev memberOf : Group → ℕ → ℕ → ℕ
 memberOf g j k = getD (g .members) (sumTo (g .sizes) j + k) 0
 
 -- a test that is asked only where another passes
-then-of : (b t : Bool) → b ≡ true → (not b || t) ≡ true → t ≡ true
+pub then-of : (b t : Bool) → b ≡ true → (not b || t) ≡ true → t ≡ true
 then-of true t p h = h
 then-of false t p h = absurd (true-not-false p refl)
 

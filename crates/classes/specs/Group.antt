@@ -35,6 +35,13 @@ sameClass cs a b = samePlace (classOf cs a) (classOf cs b)
     samePlace (some i) none = false
     samePlace (some i) (some j) = eqb i j
 
+-- one class of a list holds both, also of a list whose classes overlap
+pub record Together (cs : List Class) (x y : ℕ) : Type 0 where
+  pub place : ℕ
+  pub below : place < length cs
+  pub left : among x (classAt cs place .members) ≡ true
+  pub right : among y (classAt cs place .members) ≡ true
+
 -- how many members all classes have
 unfoldable pub total : List Class → ℕ
 total [] = 0

@@ -14,17 +14,10 @@ use Rattle.laws.specs.Tests.{if_then_else_}
 use Rattle.laws.proofs.Booleans.{true-not-false}
 use Rattle.arena.specs.Node.{Node}
 use Rattle.classes.specs.Class.{Class, single, merged}
-use Rattle.classes.specs.Group.{among, classAt, classOf, removed, length-removed, mergedAt, pair, joined, equated, equalCondition, sameClass}
+use Rattle.classes.specs.Group.{among, classAt, classOf, removed, length-removed, mergedAt, pair, joined, equated, equalCondition, sameClass, Together}
 use Rattle.classes.specs.Good.{flat, Distinct}
 use Rattle.classes.proofs.Places.{count, count-append, count-same, count-other, among-left, among-right, among-either, among-never, among-one, one-among, counts, Once, distinct-once, once-distinct, one-class, classOf-some, classOf-none, classOf-one, removed-gap, removed-other, counts-removed, length-mergedAt, mergedAt-same, mergedAt-other, counts-mergedAt, counts-more, more-old, more-new, length-more}
 use Rattle.demands.proofs.Step.{With, Step}
-
--- one class holds both
-pub record Together (cs : List Class) (x y : ℕ) : Type 0 where
-  pub place : ℕ
-  pub below : place < length cs
-  pub left : among x (classAt cs place .members) ≡ true
-  pub right : among y (classAt cs place .members) ≡ true
 
 -- two expressions of one class are together
 pub same-together : (cs : List Class) (x y : ℕ) → sameClass cs x y ≡ true → Together cs x y

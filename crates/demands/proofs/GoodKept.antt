@@ -47,7 +47,7 @@ parts-good ns cs p = record {
 }
 
 -- a uniform constant stays uniform, whatever comes over it
-taken-keeps : (old new : Constant) → isUniform old ≡ true → isUniform (taken old new) ≡ true
+pub taken-keeps : (old new : Constant) → isUniform old ≡ true → isUniform (taken old new) ≡ true
 unfolding taken
 taken-keeps old noConstant h = h
 taken-keeps old heterogeneous h = rw h h
@@ -62,7 +62,7 @@ chosen-uniform old new h = go (isUniform old) refl
     go true q = q
     go false q = h
 
-taken-uniform : (old new : Constant) → isUniform new ≡ true → isUniform (taken old new) ≡ true
+pub taken-uniform : (old new : Constant) → isUniform new ≡ true → isUniform (taken old new) ≡ true
 unfolding taken isUniform
 taken-uniform old noConstant h = absurd (true-not-false h refl)
 taken-uniform old heterogeneous h = absurd (true-not-false h refl)

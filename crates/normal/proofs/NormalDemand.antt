@@ -19,7 +19,7 @@ use Rattle.demands.proofs.Answers.{place-same}
 use Rattle.demands.proofs.Chains.{Equivalence, chain-within}
 use Rattle.demands.proofs.Demands.{same-class-exactly}
 use Rattle.demands.proofs.GoodKept.{empty-good, after-good}
-use Rattle.normal.specs.Agree.{Same, MembersAgree, PairsAgree}
+use Rattle.classes.specs.Agree.{Same, MembersAgree, PairsAgree}
 use Rattle.normal.specs.Normal.{normal}
 use Rattle.normal.specs.Calls.{normalizeExpr}
 use Rattle.normal.proofs.NormalValue.{normal-form-value, same-normal-form, same-number-value}

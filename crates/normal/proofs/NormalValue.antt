@@ -25,7 +25,7 @@ use Rattle.classes.specs.Group.{among, classAt, classOf}
 use Rattle.classes.specs.Good.{Good}
 use Rattle.classes.proofs.Places.{getD-among, class-flat, classOf-some}
 use Rattle.normal.specs.Normal.{numberOf, firstAt, firstOf, replacedBy, replaced, normalBy, normalsBy, normal, normals}
-use Rattle.normal.specs.Agree.{Same, MembersAgree}
+use Rattle.classes.specs.Agree.{Same, MembersAgree}
 use Rattle.normal.specs.Keys.{normalForms}
 use Rattle.normal.specs.Calls.{normalizeExpr}
 use Rattle.normal.proofs.Numbers.{number-some}

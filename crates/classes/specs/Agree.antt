@@ -1,4 +1,4 @@
--- The rows that the promise on values speaks of.
+-- The rows that the promises on values speak of. Theorems cite them, and no contract.
 use Prim.Native.Nat.{ℕ, _<_}
 use mathlib.Core.Bool.{true}
 use mathlib.Core.List.{List}

@@ -1,0 +1,20 @@
+-- Laws of the definitions in specs/.
+pub mod Missing
+pub mod Meetings
+pub mod Dropping
+pub mod Bridges
+pub mod Smaller
+pub mod LentParts
+pub mod ListCounts
+pub mod LentBuild
+pub mod KindTable
+pub mod NumberLaws
+pub mod MadeLaws
+pub mod NewLaws
+pub mod Overlaps
+pub mod ShiftOnce
+pub mod Reaching
+pub mod Placings
+pub mod PairPlaces
+pub mod ShiftedParts
+pub mod Joins

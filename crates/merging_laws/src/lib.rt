@@ -1,0 +1,1 @@
+// Theorems on `new` and join, with no function of its own: what they promise together (proofs/).
