@@ -49,7 +49,7 @@ class GroupName(Number):
 
     @staticmethod
     def read(word):
-        return GroupName(GROUPS.index(word))
+        return GroupName(list(GROUPS).index(word))
 
 
 @dataclass(frozen=True)
@@ -172,6 +172,8 @@ def read(line):
     name, *words = line.split("#")[0].split() or [None]
     if name is None:
         return None
+    if name not in FORMS:
+        raise ValueError(f"{name} is no command")
     first, following = FORMS[name]
     if name == "group" and len(words) == 1:
         words.append(str(LARGEST_LIMIT))
@@ -190,6 +192,17 @@ def as_words(commands):
     """The commands as words."""
     words = [word for one in commands for word in one.words()]
     return struct.pack(f"<{len(words)}I", *words)
+
+
+def words_of(text):
+    """A script of text in words. Raises ValueError where a line is no command."""
+    made = []
+    for number, line in enumerate(text.splitlines(), 1):
+        try:
+            made.append(as_words(filter(None, [read(line)])))
+        except (ValueError, struct.error) as wrong:
+            raise ValueError(f"line {number}: {wrong}") from None
+    return b"".join(made)
 
 
 def is_node(one):
