@@ -50,7 +50,7 @@ fn member(g: Group, at: usize) {
 }
 
 // The members of a class, which stand from one place to before another, and the line's end.
-fn members(g: Group, start: usize, end: usize) {
+pub fn members(g: Group, start: usize, end: usize) {
     let mut at = start;
     while at < end {
         member(g, at);
@@ -60,7 +60,7 @@ fn members(g: Group, start: usize, end: usize) {
 }
 
 // The place where a class ends that starts at a place and has so many members.
-fn end_of(start: usize, n: usize) -> usize {
+pub fn end_of(start: usize, n: usize) -> usize {
     if 256 < start {
         return start;
     }

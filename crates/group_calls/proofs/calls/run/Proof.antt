@@ -1,0 +1,64 @@
+-- `run` is safe and ends: each command brings `at` nearer to the end of the words.
+use Prim.Native.Nat.{_-_}
+use mathlib.Core.Path.{_≡_}
+use lib.ListN.{length}
+use borrow.Author.Needs.{needs}
+use Rattle.group_calls.proofs.calls.run.Statement.{statement}
+use Rattle.group_calls.proofs.calls.run.Tie as tie
+
+abbrev Inv-loop : tie.InvT-loop
+Inv-loop words cells₀ all₀ n at₀ cells all at = n ≡ length words
+
+abbrev μ-loop : tie.MeasureT-loop
+μ-loop words cells₀ all₀ n at₀ cells all at = n - at
+
+no-classes-requires : tie.Need-no-classes-requires Inv-loop μ-loop
+no-classes-requires c κs = search needs
+
+loop-holds : tie.Need-loop-holds Inv-loop μ-loop
+loop-holds c = search needs
+
+word-requires : tie.Need-word-requires Inv-loop μ-loop
+word-requires c κs = search needs
+
+args-at-requires : tie.Need-args-at-requires Inv-loop μ-loop
+args-at-requires c κs = search needs
+
+step-requires : tie.Need-step-requires Inv-loop μ-loop
+step-requires c κs = search needs
+
+size-at-requires : tie.Need-size-at-requires Inv-loop μ-loop
+size-at-requires c κs = search needs
+
+add-at : tie.Need-add-at Inv-loop μ-loop
+add-at c = search needs
+
+add-at-2 : tie.Need-add-at-2 Inv-loop μ-loop
+add-at-2 c = search needs
+
+loop-less : tie.Need-loop-less Inv-loop μ-loop
+loop-less c = search needs
+
+loop-again : tie.Need-loop-again Inv-loop μ-loop
+loop-again c = search needs
+
+returns : tie.Need-returns Inv-loop μ-loop
+returns c = search needs
+
+pub run-spec : {M : Type 1} → statement M
+run-spec =
+    tie.close
+    (tie.spec
+    Inv-loop
+    μ-loop
+    no-classes-requires
+    loop-holds
+    word-requires
+    args-at-requires
+    step-requires
+    size-at-requires
+    add-at
+    add-at-2
+    loop-less
+    loop-again
+    returns)

@@ -1,0 +1,38 @@
+// Runs calls on groups that are written as words of 32 bits, little-endian, from the file that its argument names or
+// from standard input, and prints the lines of each. A command is its number, the count of the words after it, and these
+// words:
+//
+//     1 col NAME INDEX          6 new G, then F V COUNT E.. of each class    11 equal G A B
+//     2 lit V                   7 eq G A B                                   12 nf G E
+//     3 op LABEL E..            8 const G E F V                              13 join NEW L R KIND LEFTSIZE, then A B
+//     4 arena                   9 clear G                                       of each pair
+//     5 group G LIMIT          10 isconst G E                                14 show G
+//
+// There are three groups, 0 to 2, empty at the beginning with limit 256. Another group, another command or a column
+// with a number over 65,535 prints `!` and the command's number. Input over 65,536 bytes is said on standard error.
+mod calls;
+mod groups;
+mod input;
+mod lines;
+
+use input::Got;
+use showing_merging::parts::first;
+
+// Reads the words and runs them.
+fn main() {
+    let fd = input::open_input();
+    if fd < 0 {
+        return;
+    }
+    let mut bytes = io::large_buffer();
+    match input::read_input(fd, &mut bytes) {
+        Got::Bytes(n) => {
+            let words = input::words_of(&bytes);
+            calls::run(first(&words, n / 4));
+        }
+        Got::Failed => os::fail(b"input"),
+        Got::TooLong => {
+            io::write_all(libc::STDERR_FILENO, b"input: over 65536 bytes\n");
+        }
+    }
+}
