@@ -4,4 +4,6 @@ pub mod JoinLaws
 pub mod JoinTheorems
 pub mod FairLent
 pub mod HandedBack
+pub mod CallRows
+pub mod FirstLiteral
 pub mod Examples
