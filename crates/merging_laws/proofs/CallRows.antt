@@ -17,7 +17,6 @@ use Rattle.classes.specs.Agree.{MembersAgree}
 use Rattle.classes.specs.Layout.{decode}
 use Rattle.classes.specs.Calls.{noGroup}
 use Rattle.classes.specs.declared.Group.{Group}
-use Rattle.classes.specs.declared.Changed.{Changed}
 use Rattle.classes.proofs.Codec.{decode-encode}
 use Rattle.classes.proofs.HeldLaws.{number-fit}
 use Rattle.merging.specs.Merging.{fromClasses}
@@ -26,7 +25,7 @@ use Rattle.merging.specs.Calls.{newNumber, madeGroup, newAnswer, joinNumber, jo
 use Rattle.merging_laws.proofs.BridgingTheorems.{new-agrees}
 use Rattle.merging_laws.proofs.JoinLaws.{rowFrom}
 use Rattle.merging_laws.proofs.JoinTheorems.{join-agrees}
-use Rattle.merging_laws.proofs.HandedBack.{both-checked, kinds-handed}
+use Rattle.merging_laws.proofs.HandedBack.{both-checked, kinds-handed, joinOut}
 
 -- on a row on which the members of each lent class agree, those of each class that `new` hands back agree
 pub new-call-agrees : {A : Type 0} (cells numbers : List ℕ) (m : Meaning A) (row : Row A) → newAnswer cells numbers .number ≡ 0
@@ -42,12 +41,6 @@ new-call-agrees cells numbers m row z h = go (eqb (newNumber cells numbers) 0) r
     go false q z = absurd (eqb-false (newNumber cells numbers) 0 q z)
 
 module _ (cells : List ℕ) (left right : Group) (kind size : ℕ) (numbers : List ℕ) {A : Type 0} (m : Meaning A) (row : Row A) where
-  -- the call, by whether its check passes
-  abbrev joinOut : Bool → Changed × List ℕ
-  joinOut b =
-      if b then inCells (joinBy left right kind size (pairsLent numbers) (nodes cells))
-      else (record { number = joinNumber cells left right kind numbers; answer = false; group = left }, cells)
-
   -- Inner, Left, Full and Right: on a row on which the left classes agree, the right ones as they are read through the shift, and for Inner the two sides of each lent pair, the classes that join hands back agree, over the arena as it is left
   pub join-call-agrees : kind < 4 → joinAnswer cells left right kind size numbers .0 .number ≡ 0
       → MembersAgree (nodes cells) (decode left) m row → MembersAgree (nodes cells) (decode right) m (rowFrom size row)
@@ -56,7 +49,7 @@ module _ (cells : List ℕ) (left right : Group) (kind size : ℕ) (numbers : Li
   unfolding joinAnswer inCells
   join-call-agrees l z hl hr hp = go (eqb (joinNumber cells left right kind numbers) 0) refl z
     where
-      go : (b : Bool) → eqb (joinNumber cells left right kind numbers) 0 ≡ b → joinOut b .0 .number ≡ 0 → MembersAgree (nodes (joinOut b .1)) (decode (joinOut b .0 .group)) m row
+      go : (b : Bool) → eqb (joinNumber cells left right kind numbers) 0 ≡ b → joinOut cells left right kind size numbers b .0 .number ≡ 0 → MembersAgree (nodes (joinOut cells left right kind size numbers b .1)) (decode (joinOut cells left right kind size numbers b .0 .group)) m row
       go true q z =
           let o = joinBy left right kind size (pairsLent numbers) (nodes cells) in
           let c = both-checked cells left right kind numbers (eqb-true (joinNumber cells left right kind numbers) 0 q) in

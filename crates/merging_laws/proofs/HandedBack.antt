@@ -35,6 +35,7 @@ use Rattle.merging.specs.Lent.{paired, sidesBelow, pairsLent, classesLent}
 use Rattle.merging.specs.Kinds.{joinKind}
 use Rattle.merging.specs.Joining.{allMove, shiftedNumbers, toShift, joinedOver}
 use Rattle.merging.specs.Calls.{newNumber, madeGroup, newAnswer, joinNumber, joinRefused, joinMade, joinPlaced, joinShifted, joinBy, joinAnswer}
+use Rattle.merging.proofs.ListCounts.{fits-few, fits-small}
 use Rattle.merging.proofs.Reaching.{from-good}
 use Rattle.merging_laws.proofs.FairLent.{list-checked, lent-fair}
 use Rattle.merging_laws.proofs.JoinLaws.{from-fits, SidesBelow, made-to, made-good}
@@ -44,12 +45,11 @@ use Rattle.merging_laws.proofs.JoinTheorems.{used, kinds-left, kinds-ri
 
 -- classes that fit, as the check asks for them
 fit-of : (ns : List Node) (cs : List Class) → Good ns cs → fits 256 cs ≡ true → Fit ns 256 cs
-unfolding fits
 fit-of ns cs g f = record {
   low = omega arith;
   high = omega arith;
-  few = leb-true (length cs) 64 (and-right (leb (total cs) 256) (leb (length cs) 64) f);
-  within = leb-true (total cs) 256 (and-left (leb (total cs) 256) (leb (length cs) 64) f);
+  few = fits-few cs f;
+  within = fits-small cs f;
   good = g;
 }
 
@@ -211,7 +211,7 @@ handed-valid r ms h =
 
 module _ (cells : List ℕ) (left right : Group) (kind size : ℕ) (numbers : List ℕ) where
   -- the call, by whether its check passes
-  abbrev joinOut : Bool → Changed × List ℕ
+  abbrev pub joinOut : Bool → Changed × List ℕ
   joinOut b =
       if b then inCells (joinBy left right kind size (pairsLent numbers) (nodes cells))
       else (record { number = joinNumber cells left right kind numbers; answer = false; group = left }, cells)
