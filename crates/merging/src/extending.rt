@@ -79,7 +79,7 @@ pub fn is_trivial(g: Group, i: usize) -> bool
 }
 
 // A group of one class that has a constant and no member yet.
-fn one_empty(mark: Mark) -> Group
+pub fn one_empty(mark: Mark) -> Group
     ensures { λ r. ⌜ r ≡ encode 256 (record { members = []; constant = constantFrom (mark .flavour) (mark .value) } ∷ []) ⌝ }
 {
     let said = mark_from(mark);
