@@ -23,7 +23,7 @@ ghost use Rattle.merging.specs.Calls.{newNumber};
 ghost use Rattle.merging.specs.Inner.{At};
 
 // The number at a place; past the end, 0.
-fn number_at(numbers: &[u32], i: usize) -> u32
+pub fn number_at(numbers: &[u32], i: usize) -> u32
     ensures { λ r. ⌜ r ≡ getD (now (numbers .entry)) i 0 ⌝ }
 {
     if i < numbers.len() { numbers[i] } else { 0 }

@@ -35,7 +35,7 @@ fn place_number(g: Group, e: u32) -> u32
 }
 
 // The places of the classes of the first n nodes.
-fn class_places(g: Group, n: usize) -> [u32; 1024]
+pub fn class_places(g: Group, n: usize) -> [u32; 1024]
     requires { ⌜ Coded g × (n ≤ 1024) ⌝ }
     ensures { λ r. ⌜ Placed (decode g) n r ⌝ }
 {
@@ -67,7 +67,7 @@ fn add_pair(seen: &mut [u64; 16384], a: usize, b: usize)
 }
 
 // Two expressions are in one class, by the places of their classes.
-fn same_place(places: &[u32; 1024], a: usize, b: usize) -> bool
+pub fn same_place(places: &[u32; 1024], a: usize, b: usize) -> bool
     requires { ⌜ (a < 1024) × (b < 1024) ⌝ }
     ensures { λ r. ⌜ r ≡ samePlace (now (places .entry)) a b ⌝ }
 {
