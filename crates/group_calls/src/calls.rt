@@ -187,6 +187,6 @@ fn join(cells: &mut [u32; 11265], all: Groups, args: &[u32]) -> Groups {
     let left = group_of(all, word(args, 1));
     let right = group_of(all, word(args, 2));
     let size = wide(word(args, 4));
-    let done = merging::join(cells, left, right, word(args, 3), size, rest(args, 5));
+    let done = joins::join(cells, left, right, word(args, 3), size, rest(args, 5));
     made(cells, all, args, done)
 }

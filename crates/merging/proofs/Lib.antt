@@ -7,14 +7,9 @@ pub mod Smaller
 pub mod LentParts
 pub mod ListCounts
 pub mod LentBuild
-pub mod KindTable
 pub mod NumberLaws
 pub mod MadeLaws
 pub mod NewLaws
 pub mod Overlaps
-pub mod ShiftOnce
+pub mod PushedClass
 pub mod Reaching
-pub mod Placings
-pub mod PairPlaces
-pub mod ShiftedParts
-pub mod Joins

@@ -1,5 +1,5 @@
--- Lists of classes that reach `new`: what comes of a fair list is a good group; the shifted right side of a join behind the left one is a fair list, with as many members as before.
-use Prim.Native.Nat.{ℕ, zero, suc, _+_, _-_, _<_, _≤_}
+-- Lists of classes that reach `new`: what comes of a fair list is a good group; a class of expressions of the arena is one of a fair list.
+use Prim.Native.Nat.{ℕ, suc, _+_, _-_, _<_, _≤_}
 use mathlib.Core.Bool.{true, false}
 use mathlib.Core.List.{List, [], _∷_, _++_, append-nil}
 use mathlib.Core.Logic.{_⊎_, inl, inr}
@@ -8,24 +8,20 @@ use native.Mathlib.Decide.{ℕ-discrete, decLt}
 use native.Mathlib.Omega.{arith}
 use borrow.Author.Tests.{eq-eqb}
 use lib.ListN.{length, getD, take, drop, length-append, length-take, length-drop, List·getD-append}
-use lib.Seq.{length-take-le, getD-take, getD-drop, getD-append-add, append-snoc}
+use lib.Seq.{getD-take, getD-drop, getD-append-add, append-snoc}
 use Rattle.laws.proofs.Booleans.{true-not-false}
 use Rattle.arena.specs.Node.{Node, literal, nodeAt}
-use Rattle.arena.specs.Arena.{Sound, Extends, placed}
-use Rattle.arena.specs.Inner.{lifted}
-use Rattle.arena.proofs.Nodes.{extends-both, extends-longer, extends-node}
-use Rattle.arena.proofs.Shifts.{lifted-within}
+use Rattle.arena.specs.Arena.{Extends}
+use Rattle.arena.proofs.Nodes.{extends-longer, extends-node}
 use Rattle.classes.specs.Class.{Constant, Class, isUniform, taken, carried, single, merged}
-use Rattle.classes.specs.Group.{among, classAt, total}
+use Rattle.classes.specs.Group.{among, classAt}
 use Rattle.classes.specs.Good.{flat, Distinct, Good}
-use Rattle.classes.proofs.Places.{count, count-append, count-same, count-other, never-among, among-one, getD-among, distinct-count, count-distinct, nothing, All, distinct-once, once-distinct, class-flat, flat-class, length-flat, sum-at}
+use Rattle.classes.proofs.Places.{count, count-append, count-same, count-other, never-among, among-one, getD-among, distinct-count, count-distinct, nothing, All, distinct-once, once-distinct, class-flat, flat-class, sum-at}
 use Rattle.demands.proofs.GoodKept.{taken-keeps, taken-uniform}
 use Rattle.merging.specs.Extending.{without, missing, extended, pushed, pushedAll, classFrom, isTrivial}
 use Rattle.merging.specs.Merging.{keptClasses, bridgeClasses, fromClasses}
-use Rattle.merging.specs.Joining.{allMove, shiftedNumbers, shiftedClasses}
 use Rattle.merging.specs.Inner.{Fair, AllBelow}
 use Rattle.merging.proofs.Overlaps.{extended-from, extended-once, Single, Extending, all-kept, kept-says, all-bridge, all-from, bridge-once}
-use Rattle.merging.proofs.ShiftOnce.{lifted-injective, stand-kept, ShiftedTo, numbers-shifted, stand-apart}
 
 -- ---- one class of a fair list
 
@@ -155,7 +151,7 @@ pub members-from : (ns : List Node) (es : List ℕ) → Distinct es → classFro
 unfolding classFrom
 members-from ns es d = pushed-all ns es nothing (λ x. distinct-count es d x)
 
--- ---- shifted classes
+-- ---- parts of lists, and lists one after the other
 
 -- a part of different numbers
 pub distinct-take : (n : ℕ) (ks : List ℕ) → Distinct ks → Distinct (take n ks)
@@ -181,30 +177,6 @@ below-take m n ks b k l = let q = length-take n ks in rw (getD-take n ks k 0 (om
 pub below-drop : (m n : ℕ) (ks : List ℕ) → AllBelow m ks → AllBelow m (drop n ks)
 below-drop m n ks b k l = let q = length-drop n ks in rw (getD-drop n ks k 0) (b (n + k) (omega arith))
 
--- classes built from numbers of the arena are such
-pub sane-shifted : (os : List Node) (rs : List Class) (ks : List ℕ) → AllBelow (length os) ks → All (Sane os) (shiftedClasses os rs ks)
-unfolding shiftedClasses
-sane-shifted os [] ks b i l = absurd (omega arith)
-sane-shifted os (c ∷ cs) ks b zero l = sane-from os (take (length (c .members)) ks) (below-take (length os) (length (c .members)) ks b)
-sane-shifted os (c ∷ cs) ks b (suc i) l = sane-shifted os cs (drop (length (c .members)) ks) (below-drop (length os) (length (c .members)) ks b) i (omega arith)
-
--- classes built from different numbers have as many members as before
-pub total-shifted : (os : List Node) (rs : List Class) (ks : List ℕ) → total rs ≤ length ks → Distinct ks → total (shiftedClasses os rs ks) ≡ total rs
-unfolding shiftedClasses total
-total-shifted os [] ks l d = refl
-total-shifted os (c ∷ cs) ks l d =
-    let n = length (c .members) in
-    let a = ap length (members-from os (take n ks) (distinct-take n ks d)) in
-    let b = length-take-le n ks (omega arith) in
-    let r = total-shifted os cs (drop n ks) (omega (arith, length-drop n ks)) (distinct-drop n ks d) in
-    omega arith
-
--- there are as many classes as before
-pub length-shifted : (os : List Node) (rs : List Class) (ks : List ℕ) → length (shiftedClasses os rs ks) ≡ length rs
-unfolding shiftedClasses
-length-shifted os [] ks = refl
-length-shifted os (c ∷ cs) ks = ap suc (length-shifted os cs (drop (length (c .members)) ks))
-
 -- what holds for every class of two lists holds for every class of both, one after the other
 pub all-append : (Q : Class → Type 0) (cs ds : List Class) → All Q cs → All Q ds → All Q (cs ++ ds)
 all-append Q cs ds h k i l = go (decLt i (length cs))
@@ -227,27 +199,3 @@ good-sane ns os ls x g i l = record {
 -- the members of a good group are in the arena, by their places
 pub flat-below : (ns : List Node) (rs : List Class) → Good ns rs → AllBelow (length ns) (flat rs)
 flat-below ns rs g k l = g .inside (getD (flat rs) k 0) (getD-among (flat rs) k l)
-
--- ---- by a lift
-
-module _ (lift : ℕ) (ns ms : List Node) (sound : Sound ns) where
-  -- the numbers of what was shifted stand for it
-  pub lifted-to : (es ks : List ℕ) → AllBelow (length ns) es → allMove (lifted lift) ns es ≡ true → shiftedNumbers (lifted lift) ns es ns ≡ placed ks ms → ShiftedTo (lifted lift) ns es ns ks ms
-  lifted-to es ks b m e = numbers-shifted (lifted lift) (lifted-within lift) ns sound es b m ns sound ks ms e
-
--- shifting is injective, so the shifted classes have as many members as the classes
-pub shifted-total : (lift : ℕ) (ns ms os : List Node) (rs : List Class) (ks : List ℕ) → Sound ns → Good ns rs → allMove (lifted lift) ns (flat rs) ≡ true
-    → shiftedNumbers (lifted lift) ns (flat rs) ns ≡ placed ks ms → total (shiftedClasses os rs ks) ≡ total rs
-shifted-total lift ns ms os rs ks s g m e =
-    let t = lifted-to lift ns ms s (flat rs) ks (flat-below ns rs g) m e .stand in
-    total-shifted os rs ks (omega (arith, t .counted, length-flat rs))
-    (stand-apart (lifted lift) (lifted-within lift) ns s (lifted-injective lift) (flat rs) (flat-below ns rs g) m (g .distinct) ms ks t)
-
--- the left classes and the shifted right ones are a fair list
-pub list-fair : (lift : ℕ) (ns ms os : List Node) (rs : List Class) (ks : List ℕ) → Sound ns → Good ns rs → allMove (lifted lift) ns (flat rs) ≡ true
-    → shiftedNumbers (lifted lift) ns (flat rs) ns ≡ placed ks ms → Extends ms os → (ls : List Class) → Good ns ls → Fair os (ls ++ shiftedClasses os rs ks)
-list-fair lift ns ms os rs ks s g m e x ls h =
-    let t = lifted-to lift ns ms s (flat rs) ks (flat-below ns rs g) m e in
-    sane-fair os (ls ++ shiftedClasses os rs ks)
-    (all-append (Sane os) ls (shiftedClasses os rs ks) (good-sane ns os ls (extends-both (t .extends) x) h)
-    (sane-shifted os rs ks (stand-kept (lifted lift) ns (flat rs) ks x (t .stand) .below)))

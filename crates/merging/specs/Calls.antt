@@ -1,28 +1,18 @@
--- What each public call answers and what it leaves in the arena, in document 01's order of refusals.
--- A refusal is a case that hands back what came in.
+-- What the public call answers, in document 01's order of refusals. A refusal makes no group.
 use Prim.Native.Nat.{ℕ}
-use mathlib.Core.Bool.{true, false, _&&_}
-use mathlib.Core.List.{List, [], _++_}
-use mathlib.Core.Option.{Option, none, some}
-use lib.Dec.{eqb, leb}
-use lib.IntN.{pos}
+use mathlib.Core.Bool.{true, _&&_}
+use mathlib.Core.List.{List}
+use lib.Dec.{eqb}
 use lib.ListN.{length}
 use Rattle.laws.specs.Tests.{if_then_else_}
-use Rattle.arena.specs.Node.{Node}
-use Rattle.arena.specs.Arena.{Placed, placed, full}
-use Rattle.arena.specs.Shift.{moved}
 use Rattle.arena.specs.Layout.{lawful, decode as nodes}
-use Rattle.arena.specs.Calls.{inCells}
 use Rattle.classes.specs.Class.{Class}
 use Rattle.classes.specs.Steps.{fits}
-use Rattle.classes.specs.Layout.{encode, decode, inSet, lawfulGroup, membersInside}
+use Rattle.classes.specs.Layout.{encode}
 use Rattle.classes.specs.Calls.{noGroup}
-use Rattle.classes.specs.declared.Group.{Group}
 use Rattle.classes.specs.declared.Changed.{Changed}
 use Rattle.merging.specs.Merging.{fromClasses}
-use Rattle.merging.specs.Lent.{flavoursKnown, whole, membersApart, literalsUniform, membersBelow, classesLent, paired, sidesBelow, pairsLent}
-use Rattle.merging.specs.Kinds.{joinKind}
-use Rattle.merging.specs.Joining.{allMove, shiftedNumbers, toShift, joinedOver}
+use Rattle.merging.specs.Lent.{flavoursKnown, whole, membersApart, literalsUniform, membersBelow, classesLent}
 
 -- the check of a list of classes lent as numbers: 12, 11 for the arena or the list, 1, 4 for the list as it comes, else 0
 unfoldable pub newNumber : List ℕ → List ℕ → ℕ
@@ -42,44 +32,3 @@ madeGroup cs = record { number = 0; answer = true; group = encode 256 cs }
 -- the group of a list of classes, or the refusal
 unfoldable pub newAnswer : List ℕ → List ℕ → Changed
 newAnswer cells numbers = if eqb (newNumber cells numbers) 0 then madeGroup (fromClasses (classesLent numbers)) else noGroup (newNumber cells numbers)
-
--- the check of two lent groups, a kind and pairs: 12 for the kind or either group, 11 for the arena, either group or a left side alone, then 1 for a member of either or a side, else 0
-unfoldable pub joinNumber : List ℕ → Group → Group → ℕ → List ℕ → ℕ
-joinNumber cells left right kind numbers =
-    if leb kind 9 && inSet left && inSet right then
-    (if lawful cells && (lawfulGroup (nodes cells) left && lawfulGroup (nodes cells) right && paired numbers) then
-    (if membersInside (nodes cells) left && membersInside (nodes cells) right && sidesBelow (length (nodes cells)) numbers then 0 else 1)
-    else 11)
-    else 12
-
--- a refusal: the left group as it was, and the arena
-unfoldable pub joinRefused : ℕ → Group → List Node → Changed × List Node
-joinRefused k left ns = (record { number = k; answer = false; group = left }, ns)
-
--- the joined classes, or 4, and then the arena is as it was
-unfoldable pub joinMade : Group → List Node → List Node → Option (List Class) → Changed × List Node
-joinMade left ns ms (some cs) = (madeGroup cs, ms)
-joinMade left ns ms none = joinRefused 4 left ns
-
--- once the nodes are there, or 3, and then the arena is as it was
-unfoldable pub joinPlaced : Group → List Class → List (ℕ × ℕ) → List Node → Placed (List ℕ) → Changed × List Node
-joinPlaced left rs ps ns (placed ks ms) = joinMade left ns ms (joinedOver ms (decode left) rs ps ks)
-joinPlaced left rs ps ns full = joinRefused 3 left ns
-
--- a join that shifts the right side by the number of left columns: 10 where a column leaves 0..65,535
-unfoldable pub joinShifted : Group → List Class → ℕ → List (ℕ × ℕ) → List Node → Changed × List Node
-joinShifted left rs size ps ns =
-    if allMove (moved (pos size)) ns (toShift rs ps) then joinPlaced left rs ps ns (shiftedNumbers (moved (pos size)) ns (toShift rs ps) ns)
-    else joinRefused 10 left ns
-
--- a join by its kind: shifted, or the classes of the sides that are kept as they are
-unfoldable pub joinBy : Group → Group → ℕ → ℕ → List (ℕ × ℕ) → List Node → Changed × List Node
-joinBy left right kind size ps ns =
-    if joinKind kind .shifted then joinShifted left (decode right) size (if joinKind kind .pairs then ps else []) ns
-    else (madeGroup ((if joinKind kind .left then decode left else []) ++ (if joinKind kind .right then decode right else [])), ns)
-
--- the call on lent cells
-unfoldable pub joinAnswer : List ℕ → Group → Group → ℕ → ℕ → List ℕ → Changed × List ℕ
-joinAnswer cells left right kind size numbers =
-    if eqb (joinNumber cells left right kind numbers) 0 then inCells (joinBy left right kind size (pairsLent numbers) (nodes cells))
-    else (record { number = joinNumber cells left right kind numbers; answer = false; group = left }, cells)

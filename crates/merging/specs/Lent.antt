@@ -1,6 +1,5 @@
 -- A list of classes lent as numbers: for each class its flavour (0 none, 1 heterogeneous, 2 uniform unknown, 3 uniform with a value), its value, its member count and its members, directly after the class before.
--- Pairs lent as numbers: left and right of each, one after the other.
-use Prim.Native.Nat.{ℕ, _+_, _*_, _/_, _%_, _<_}
+use Prim.Native.Nat.{ℕ, _+_, _<_}
 use mathlib.Core.Bool.{Bool, not, _&&_, _||_}
 use mathlib.Core.List.{List}
 use native.Mathlib.Omega.{arith}
@@ -98,15 +97,3 @@ classesFrom numbers at = parts (classLent numbers) (nextClass numbers) (length n
 -- the classes that are lent
 unfoldable pub classesLent : List ℕ → List Class
 classesLent numbers = classesFrom numbers 0
-
--- each left side has its right side (else 11)
-unfoldable pub paired : List ℕ → Bool
-paired numbers = eqb (length numbers % 2) 0
-
--- every side is among the first n (else 1)
-unfoldable pub sidesBelow : ℕ → List ℕ → Bool
-sidesBelow n numbers = each (λ k. ltb (getD numbers k 0) n) (length numbers)
-
--- the pairs that are lent
-unfoldable pub pairsLent : List ℕ → List (ℕ × ℕ)
-pairsLent numbers = table (λ k. (getD numbers (2 * k) 0, getD numbers (2 * k + 1) 0)) (length numbers / 2)

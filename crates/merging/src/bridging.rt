@@ -1,9 +1,10 @@
 // `new`, over a list of classes that is checked already: the classes that say nothing go, and those that overlap
-// become one.
+// become one; and the answer of a call that made a group.
 use crate::Bridged;
 use crate::extending::contains_any;
 use crate::extending::extend;
 use crate::extending::is_trivial;
+use classes::Changed;
 use classes::Group;
 use classes::Place;
 use classes::building::remove_class_at_idx;
@@ -12,6 +13,7 @@ ghost use Prim.Native.Nat.{_≤_, _<_};
 ghost use Rattle.classes.specs.Layout.{encode, decode};
 ghost use Rattle.classes.specs.Inner.{Coded, placeOf};
 ghost use Rattle.merging.specs.Merging.{droppedAt, keptClasses, lastMeeting, bridgeClasses, fromClasses};
+ghost use Rattle.merging.specs.Calls.{madeGroup};
 ghost use Rattle.merging.specs.Inner.{Stepped};
 
 // The class at a place goes if it says nothing.
@@ -92,4 +94,18 @@ pub fn from_classes(list: Group) -> Group
     ensures { λ r. ⌜ r ≡ encode (list .limit) (fromClasses (decode list)) ⌝ }
 {
     bridge_classes(drop_trivial(list))
+}
+
+// A group that was made, with limit 256.
+pub fn made(g: Group) -> Changed
+    requires { ⌜ Coded g ⌝ }
+    ensures { λ r. ⌜ r ≡ madeGroup (decode g) ⌝ }
+{
+    let mut group = g;
+    group.limit = 256;
+    Changed {
+        number: 0,
+        answer: true,
+        group: group,
+    }
 }

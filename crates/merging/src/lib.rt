@@ -1,43 +1,21 @@
-// Groups that are made of lists of classes (document 01, "Classes"): `new`, which merges classes that overlap, and
-// join.
+// Groups that are made of lists of classes (document 01, "Classes"): `new`, which merges classes that overlap.
 //
-// The functions of this file are the public calls and ask nothing of their caller: each checks what it is lent for
-// itself, and a refusal gives its number of document 01's table and leaves everything as it was. Those of the modules
-// serve the crates above, which hold an arena and groups that are checked already.
+// The function of this file is the public call and asks nothing of its caller: it checks what it is lent for itself, and
+// a refusal gives its number of document 01's table and makes no group. Those of the modules serve the crates above,
+// which hold an arena and groups that are checked already.
 pub mod bridging;
 pub mod extending;
-pub mod joining;
-pub mod kinds;
 pub mod lent;
-pub mod shifting;
 
 use bridging::from_classes;
+use bridging::made;
 use classes::Changed;
 use classes::Group;
 use classes::refusing::no_group;
-use classes::refusing::refusal;
-use joining::join_by;
-use joining::join_number;
-use joining::made;
 use lent::lent_classes;
 use lent::new_number;
 ghost use mathlib.Core.Path.{_≡_};
-ghost use Rattle.merging.specs.Calls.{newAnswer, joinAnswer};
-
-// What a kind of join keeps: the left side, the right side, the right side shifted behind the left one, and the pairs
-// as equal conditions.
-pub struct JoinKind {
-    pub left: bool,
-    pub right: bool,
-    pub shifted: bool,
-    pub pairs: bool,
-}
-
-// The members of a group's classes, shifted, in a table of 256 places, or that the arena has no room.
-pub struct Members {
-    pub fits: bool,
-    pub members: [u32; 256],
-}
+ghost use Rattle.merging.specs.Calls.{newAnswer};
 
 // One step of bridging: the group after it, and the place where the next one looks.
 pub struct Bridged {
@@ -56,25 +34,4 @@ pub fn new(cells: &[u32; 11265], list: &[u32]) -> Changed
         return no_group(number);
     }
     made(from_classes(lent_classes(list)))
-}
-
-// Combines the groups of the two sides of a join. The kinds are 0 Inner, 1 Left, 2 Full, 3 Right, 4 LeftSemi,
-// 5 LeftAnti, 6 LeftMark, 7 RightSemi, 8 RightAnti, 9 RightMark. `left_size` is the number of left columns; `pairs` has
-// left and right of each condition, one after the other, the right sides as they stand before the shift. The limit is
-// 256. Refusals: 12, 11, 1, 10, 3, 4, with the left group as it was.
-pub fn join(
-    cells: &mut [u32; 11265],
-    left: Group,
-    right: Group,
-    kind: u32,
-    left_size: usize,
-    pairs: &[u32],
-) -> Changed
-    ensures { λ r. ⌜ (r, now (cells .exit)) ≡ joinAnswer (now (cells .entry)) left right kind «left_size» (now (pairs .entry)) ⌝ }
-{
-    let number = join_number(cells, left, right, kind, pairs);
-    if number != 0 {
-        return refusal(number, left);
-    }
-    join_by(cells, left, right, kind, left_size, pairs)
 }

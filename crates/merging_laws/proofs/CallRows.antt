@@ -20,8 +20,10 @@ use Rattle.classes.specs.declared.Group.{Group}
 use Rattle.classes.proofs.Codec.{decode-encode}
 use Rattle.classes.proofs.HeldLaws.{number-fit}
 use Rattle.merging.specs.Merging.{fromClasses}
-use Rattle.merging.specs.Lent.{classesLent, pairsLent}
-use Rattle.merging.specs.Calls.{newNumber, madeGroup, newAnswer, joinNumber, joinBy, joinAnswer}
+use Rattle.merging.specs.Lent.{classesLent}
+use Rattle.merging.specs.Calls.{newNumber, madeGroup, newAnswer}
+use Rattle.joins.specs.Lent.{pairsLent}
+use Rattle.joins.specs.Calls.{joinNumber, joinBy, joinAnswer}
 use Rattle.merging_laws.proofs.BridgingTheorems.{new-agrees}
 use Rattle.merging_laws.proofs.JoinLaws.{rowFrom}
 use Rattle.merging_laws.proofs.JoinTheorems.{join-agrees}

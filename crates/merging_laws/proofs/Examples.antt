@@ -18,9 +18,10 @@ use Rattle.classes.specs.Layout.{constantFrom, flavourOf, valueOf, padded, sumT
 use Rattle.merging.specs.Extending.{without, missing, extended, pushed, pushedAll, classFrom, anyAmong, containsAny, isTrivial}
 use Rattle.merging.specs.Merging.{droppedAt, dropBelow, keptClasses, meetingBelow, lastMeeting, bridged, bridgeFrom, bridgeRest, bridgeClasses, fromClasses}
 use Rattle.merging.specs.Lent.{nextClass, classLent, classesLent}
-use Rattle.merging.specs.Kinds.{joinKind}
-use Rattle.merging.specs.Joining.{allMove, shiftedNumbers, shiftedClasses, withRights, equatedAll, joinedClasses, toShift, joinedOver}
-use Rattle.merging.specs.Calls.{madeGroup, joinRefused, joinMade, joinPlaced, joinShifted, joinBy}
+use Rattle.merging.specs.Calls.{madeGroup}
+use Rattle.joins.specs.Kinds.{joinKind}
+use Rattle.joins.specs.Joining.{allMove, shiftedNumbers, shiftedClasses, withRights, equatedAll, joinedClasses, toShift, joinedOver}
+use Rattle.joins.specs.Calls.{joinRefused, joinMade, joinPlaced, joinShifted, joinBy}
 
 -- a class without a constant
 abbrev plain : List ℕ → Class

@@ -31,12 +31,14 @@ use Rattle.classes.specs.declared.Group.{Group}
 use Rattle.classes.specs.declared.Changed.{Changed}
 use Rattle.classes.proofs.HeldLaws.{Fit, number-fit, held-number}
 use Rattle.merging.specs.Merging.{fromClasses}
-use Rattle.merging.specs.Lent.{paired, sidesBelow, pairsLent, classesLent}
-use Rattle.merging.specs.Kinds.{joinKind}
-use Rattle.merging.specs.Joining.{allMove, shiftedNumbers, toShift, joinedOver}
-use Rattle.merging.specs.Calls.{newNumber, madeGroup, newAnswer, joinNumber, joinRefused, joinMade, joinPlaced, joinShifted, joinBy, joinAnswer}
+use Rattle.merging.specs.Lent.{classesLent}
+use Rattle.merging.specs.Calls.{newNumber, madeGroup, newAnswer}
 use Rattle.merging.proofs.ListCounts.{fits-few, fits-small}
 use Rattle.merging.proofs.Reaching.{from-good}
+use Rattle.joins.specs.Lent.{paired, sidesBelow, pairsLent}
+use Rattle.joins.specs.Kinds.{joinKind}
+use Rattle.joins.specs.Joining.{allMove, shiftedNumbers, toShift, joinedOver}
+use Rattle.joins.specs.Calls.{joinNumber, joinRefused, joinMade, joinPlaced, joinShifted, joinBy, joinAnswer}
 use Rattle.merging_laws.proofs.FairLent.{list-checked, lent-fair}
 use Rattle.merging_laws.proofs.JoinLaws.{from-fits, SidesBelow, made-to, made-good}
 use Rattle.merging_laws.proofs.JoinTheorems.{used, kinds-left, kinds-right, used-below, kinds-made}

@@ -35,12 +35,15 @@ use Rattle.demands.proofs.GoodKept.{condition-good}
 use Rattle.merging.specs.Extending.{missing, pushed, pushedAll, classFrom, isTrivial}
 use Rattle.merging.specs.Merging.{droppedAt, dropBelow, keptClasses, bridged, length-bridged, fromClasses}
 use Rattle.classes.specs.Agree.{Same, MembersAgree, PairsAgree}
-use Rattle.merging.specs.Joining.{allMove, shiftedNumbers, shiftedClasses, withRights, equatedAll, joinedClasses, toShift, joinedOver}
-use Rattle.merging.specs.Calls.{madeGroup, joinRefused, joinMade, joinPlaced, joinShifted}
+use Rattle.merging.specs.Calls.{madeGroup}
 use Rattle.merging.specs.Inner.{Fair, AllBelow}
 use Rattle.merging.proofs.Overlaps.{length-without, extended-from, Meets, bridge-keeps, meets-low, Within}
-use Rattle.merging.proofs.ShiftOnce.{each-moves, ShiftedTo, numbers-shifted}
-use Rattle.merging.proofs.Reaching.{Sane, sane-fair, from-good, sane-shifted, length-shifted, all-append, good-sane, flat-below}
+use Rattle.merging.proofs.Reaching.{Sane, sane-fair, from-good, all-append, good-sane, flat-below}
+use Rattle.joins.specs.Joining.{allMove, shiftedNumbers, shiftedClasses, withRights, equatedAll, joinedClasses, toShift, joinedOver}
+use Rattle.joins.specs.Calls.{joinRefused, joinMade, joinPlaced, joinShifted}
+use Rattle.joins.proofs.ShiftOnce.{each-moves, ShiftedTo, numbers-shifted}
+use Rattle.joins.proofs.Reaching.{sane-shifted}
+use Rattle.joins.proofs.ShiftedParts.{length-shifted}
 use Rattle.merging_laws.proofs.BridgingTheorems.{new-agrees}
 
 -- ---- `new` makes neither more members nor more classes

@@ -18,9 +18,10 @@ use Rattle.classes.specs.Layout.{decode}
 use Rattle.classes.specs.declared.Group.{Group}
 use Rattle.classes.specs.declared.Changed.{Changed}
 use Rattle.classes.proofs.Codec.{decode-encode}
-use Rattle.merging.specs.Kinds.{joinKind}
 use Rattle.classes.specs.Agree.{MembersAgree}
-use Rattle.merging.specs.Calls.{madeGroup, joinShifted, joinBy}
+use Rattle.merging.specs.Calls.{madeGroup}
+use Rattle.joins.specs.Kinds.{joinKind}
+use Rattle.joins.specs.Calls.{joinShifted, joinBy}
 use Rattle.merging_laws.proofs.JoinLaws.{SidesBelow, rowFrom, Made, shifted-made, made-agrees}
 
 -- the pairs that a kind uses: Inner all of them, the others none

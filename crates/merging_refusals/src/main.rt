@@ -1,5 +1,5 @@
-// Runs the public calls of merging on what they refuse, and prints one line for each: the call, the number of the
-// refusal, and whether everything is as it was.
+// Runs the public calls of merging and joins on what they refuse, and prints one line for each: the call, the number of
+// the refusal, and whether everything is as it was.
 mod joins;
 mod lists;
 mod order;

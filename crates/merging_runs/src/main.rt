@@ -1,5 +1,5 @@
-// Runs the public calls of merging on worked examples and prints one line for each: the call, what it answered, and the
-// group that it made.
+// Runs the public calls of merging and joins on worked examples and prints one line for each: the call, what it
+// answered, and the group that it made.
 mod joins;
 mod limits;
 mod lists;

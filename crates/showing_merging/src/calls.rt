@@ -1,5 +1,5 @@
-// Each public call of merging, with its line: the call, its answer, and the group that it made. A list of classes is
-// shown as it is lent: for each class its flavour, its value, its member count and its members.
+// Each public call of merging and joins, with its line: the call, its answer, and the group that it made. A list of
+// classes is shown as it is lent: for each class its flavour, its value, its member count and its members.
 use crate::lists;
 use crate::parts::first;
 use arena::cells::wide;
@@ -95,7 +95,7 @@ pub fn join(
 ) -> Group {
     asked(kind, left_size, pairs);
     let mut copy = *cells;
-    let done = merging::join(&mut copy, left, right, kind, left_size, pairs);
+    let done = joins::join(&mut copy, left, right, kind, left_size, pairs);
     if done.number != 0 {
         return refused(cells, &copy, left, done);
     }
