@@ -1,0 +1,261 @@
+-- The table of the projections: what becomes of a whole expression as an entry, the projection of a node by those of its children, and what an entry says.
+use Prim.Native.Nat.{ℕ, zero, suc, _+_, _<_}
+use mathlib.Core.Bool.{Bool, true, false, not, _&&_, and-true}
+use mathlib.Core.List.{List, [], _∷_}
+use mathlib.Core.Option.{Option, none, some}
+use mathlib.Core.Path.{_≡_, refl, sym, ap, _∙_, subst}
+use native.Mathlib.Decide.{ℕ-discrete}
+use native.Mathlib.Omega.{arith}
+use borrow.Author.Tests.{eq-eqb, ne-eqb}
+use lib.Dec.{eqb}
+use lib.ListN.{length, getD, set}
+use lib.Seq.{getD-set-same, getD-set-other}
+use Rattle.laws.specs.Tests.{if_then_else_, each}
+use Rattle.laws.proofs.Booleans.{true-not-false}
+use Rattle.laws.proofs.Each.{each-holds}
+use Rattle.arena.specs.Node.{Node, column, literal, operation, nodeAt, childNumbers}
+use Rattle.arena.specs.Expression.{Expression, Expressions, op, ∅, _▹_, expressionAt}
+use Rattle.arena.specs.Arena.{Allowed, Sound}
+use Rattle.arena.proofs.Made.{made-is}
+use Rattle.classes.specs.Class.{Class}
+use Rattle.classes.specs.Group.{sameClass}
+use Rattle.classes.specs.Layout.{isLiteral}
+use Rattle.questions.proofs.Asking.{child-under}
+use Rattle.mappings.specs.Mapping.{Mapped, targetFor}
+use Rattle.mappings.specs.Layout.{decode, Checked}
+use Rattle.mappings.specs.declared.Mapping.{Mapping}
+use Rattle.projection.specs.Projecting.{orElse, becomes, bothProject, allProject, operationOf, byChildren, wholeOr, projectionsBy, projections}
+use Rattle.projection.specs.Inner.{entryOf, Says}
+use Rattle.projection.proofs.Sources.{found-below}
+
+-- ---- the projection of a node
+
+-- the projections of children look only at their numbers
+all-cong : (xs ys : List (Option Expression)) (ks : List ℕ) → ((k : ℕ) → k < length ks → getD xs (getD ks k 0) none ≡ getD ys (getD ks k 0) none) → allProject xs ks ≡ allProject ys ks
+unfolding allProject
+all-cong xs ys [] h = refl
+all-cong xs ys (k ∷ ks) h = rw (h 0 (omega arith), all-cong xs ys ks (λ j l. h (suc j) (omega arith)))
+
+-- what the children give a node that may have the number i looks only below i
+children-cong : (xs ys : List (Option Expression)) (i : ℕ) (n : Node) → Allowed i n → ((k : ℕ) → k < i → getD xs k none ≡ getD ys k none) → byChildren xs n ≡ byChildren ys n
+unfolding byChildren Allowed
+children-cong xs ys i (column name index) a h = refl
+children-cong xs ys i (literal value) a h = refl
+children-cong xs ys i (operation label []) a h = refl
+children-cong xs ys i (operation label (k ∷ ks)) a h = ap (operationOf label) (all-cong xs ys (k ∷ ks) (λ j l. h (getD (k ∷ ks) j 0) (a .1 j l)))
+
+-- a number's projection is what it becomes as a whole, or what its children give, for any account of what becomes of a whole expression
+pub projection-by-at : (ns : List Node) (to : ℕ → Option ℕ) → Sound ns → (e : ℕ) → e < length ns
+    → getD (projectionsBy ns to) e none ≡ wholeOr ns (byChildren (projectionsBy ns to) (nodeAt ns e)) (to e)
+unfolding projectionsBy
+projection-by-at ns to s e l =
+    made-is (λ xs i n. wholeOr ns (byChildren xs n) (to i)) none ns s
+    (λ xs ys i n a h. ap (λ (x : Option Expression). wholeOr ns x (to i)) (children-cong xs ys i n a h)) e l
+
+-- by a group and a mapping
+pub projection-at : (ns : List Node) (cs : List Class) (ps : List Mapped) → Sound ns → (e : ℕ) → e < length ns
+    → getD (projections ns cs ps) e none ≡ wholeOr ns (byChildren (projections ns cs ps) (nodeAt ns e)) (becomes ns cs ps e)
+projection-at ns cs ps s e l = projection-by-at ns (becomes ns cs ps) s e l
+
+-- ---- what becomes of a whole expression, as an entry
+
+-- an entry 0 is that of nothing
+entry-none : (o : Option ℕ) → 0 ≡ entryOf o → o ≡ none
+unfolding entryOf
+entry-none none e = refl
+entry-none (some i) e = absurd (omega arith)
+
+-- the first of two findings
+first-found : (o p : Option ℕ) → (entryOf o ≡ 0 → ⊥) → orElse o p ≡ o
+unfolding entryOf orElse
+first-found none p h = absurd (h refl)
+first-found (some i) p h = refl
+
+module _ (ns : List Node) (cs : List Class) (ps : List Mapped) (e own : ℕ) (q : own ≡ entryOf (targetFor (λ s. eqb s e) ps)) where
+  -- a mapped source
+  pub becomes-own : (own ≡ 0 → ⊥) → own ≡ entryOf (becomes ns cs ps e)
+  unfolding becomes
+  becomes-own h =
+      q
+      ∙ ap entryOf (sym (first-found (targetFor (λ s. eqb s e) ps)
+      (orElse (if isLiteral (nodeAt ns e) then some e else none) (targetFor (λ s. sameClass cs s e) ps)) (λ z. h (q ∙ z))))
+
+  module _ (z : own ≡ 0) where
+    no-source : targetFor (λ s. eqb s e) ps ≡ none
+    no-source = entry-none (targetFor (λ s. eqb s e) ps) (sym z ∙ q)
+
+    -- a literal
+    pub becomes-literal : isLiteral (nodeAt ns e) ≡ true → e + 2 ≡ entryOf (becomes ns cs ps e)
+    unfolding becomes orElse entryOf
+    becomes-literal t = rw (no-source, t)
+
+    -- what the class gives
+    pub becomes-class : isLiteral (nodeAt ns e) ≡ false → (r : ℕ) → r ≡ entryOf (targetFor (λ s. sameClass cs s e) ps) → r ≡ entryOf (becomes ns cs ps e)
+    unfolding becomes orElse
+    becomes-class t r h = h ∙ rw (no-source, t)
+
+-- ---- what an entry says
+
+-- children that all have projections have them together
+pub all-project : (xs : List (Option Expression)) (ks : List ℕ) → ((k : ℕ) → k < length ks → (x : Expression) × (getD xs (getD ks k 0) none ≡ some x)) → (ys : Expressions) × (allProject xs ks ≡ some ys)
+unfolding allProject bothProject
+all-project xs [] h = (∅, refl)
+all-project xs (k ∷ ks) h =
+    let a = h 0 (omega arith) in
+    let r = all-project xs ks (λ j l. h (suc j) (omega arith)) in
+    (a .0 ▹ r .0, rw (a .1, r .1))
+
+-- one that has none leaves all without
+pub none-projects : (xs : List (Option Expression)) (ks : List ℕ) (k : ℕ) → k < length ks → getD xs (getD ks k 0) none ≡ none → allProject xs ks ≡ none
+unfolding allProject bothProject
+none-projects xs [] k l e = absurd (omega arith)
+none-projects xs (j ∷ ks) zero l e = rw e
+none-projects xs (j ∷ ks) (suc k) l e = rw (none-projects xs ks k (omega arith) e) (both (getD xs j none))
+  where
+    both : (x : Option Expression) → bothProject x none ≡ none
+    both none = refl
+    both (some x) = refl
+
+-- an entry other than 0 is that of a node with a projection
+pub says-some : (os : List Node) (xs : List (Option Expression)) (ns : List Node) (e entry : ℕ) → Says os xs ns e entry → (entry ≡ 0 → ⊥) → (x : Expression) × (getD xs e none ≡ some x)
+unfolding Says
+says-some os xs ns e zero h z = absurd (z refl)
+says-some os xs ns e (suc zero) h z = (h .0, h .1 .0)
+says-some os xs ns e (suc (suc i)) h z = (expressionAt ns i, h .1)
+
+-- and 0 is that of a node with none
+pub says-none : (os : List Node) (xs : List (Option Expression)) (ns : List Node) (e : ℕ) → Says os xs ns e 0 → getD xs e none ≡ none
+unfolding Says
+says-none os xs ns e h = h
+
+-- a node without children gets nothing from them
+leaf-none : (xs : List (Option Expression)) (n : Node) → length (childNumbers n) ≡ 0 → byChildren xs n ≡ none
+unfolding byChildren childNumbers
+leaf-none xs (column name index) z = refl
+leaf-none xs (literal value) z = refl
+leaf-none xs (operation label []) z = refl
+leaf-none xs (operation label (k ∷ ks)) z = absurd (omega arith)
+
+-- so does one with a child that has no projection
+children-none : (xs : List (Option Expression)) (n : Node) (k : ℕ) → k < length (childNumbers n) → getD xs (getD (childNumbers n) k 0) none ≡ none → byChildren xs n ≡ none
+unfolding byChildren childNumbers operationOf
+children-none xs (column name index) k l e = refl
+children-none xs (literal value) k l e = refl
+children-none xs (operation label []) k l e = refl
+children-none xs (operation label (j ∷ ks)) k l e = ap (operationOf label) (none-projects xs (j ∷ ks) k l e)
+
+-- one whose children all have projections is an operation over them
+children-some : (xs : List (Option Expression)) (n : Node) → (length (childNumbers n) ≡ 0 → ⊥) → ((k : ℕ) → k < length (childNumbers n) → (x : Expression) × (getD xs (getD (childNumbers n) k 0) none ≡ some x))
+    → (x : Expression) × (byChildren xs n ≡ some x)
+unfolding byChildren childNumbers operationOf
+children-some xs (column name index) z h = absurd (z refl)
+children-some xs (literal value) z h = absurd (z refl)
+children-some xs (operation label []) z h = absurd (z refl)
+children-some xs (operation label (k ∷ ks)) z h = let a = all-project xs (k ∷ ks) h in (op label (a .0), ap (operationOf label) (a .1))
+
+-- "for all" that fails, fails somewhere
+fails-at : (p : ℕ → Bool) (n : ℕ) → each p n ≡ false → (k : ℕ) × ((k < n) × (p k ≡ false))
+unfolding each
+fails-at p zero e = absurd (true-not-false refl e)
+fails-at p (suc n) e = go (p n) refl (fails-at p n)
+  where
+    go : (b : Bool) → p n ≡ b → (each p n ≡ false → (k : ℕ) × ((k < n) × (p k ≡ false))) → (k : ℕ) × ((k < suc n) × (p k ≡ false))
+    go true q r = let a = r (sym (and-true (each p n)) ∙ ap (λ (b : Bool). each p n && b) (sym q) ∙ e) in (a .0, (omega (arith, a .1 .0), a .1 .1))
+    go false q r = (n, (omega arith, q))
+
+-- an entry that a test tells from 0, or doesn't
+entry-is-0 : (entry : ℕ) → not (eqb entry 0) ≡ false → entry ≡ 0
+entry-is-0 zero e = refl
+entry-is-0 (suc entry) e = absurd (true-not-false (ap not (ne-eqb (suc entry) 0 (λ z. omega arith))) e)
+
+entry-not-0 : (entry : ℕ) → not (eqb entry 0) ≡ true → entry ≡ 0 → ⊥
+entry-not-0 entry e z = true-not-false e (ap not (eq-eqb entry 0 z))
+
+-- ---- the table
+
+-- what is found is among the first n if both findings are
+or-below : (n : ℕ) (o p : Option ℕ) → ((i : ℕ) → o ≡ some i → i < n) → ((i : ℕ) → p ≡ some i → i < n) → (i : ℕ) → orElse o p ≡ some i → i < n
+unfolding orElse
+or-below n none p a b i e = b i e
+or-below n (some j) p a b i e = a i e
+
+-- what becomes of a whole expression of the first n is among them
+becomes-below : (ns : List Node) (cs : List Class) (n : ℕ) (m : Mapping) (e : ℕ) → Checked n m → e < n → (i : ℕ) → becomes ns cs (decode m) e ≡ some i → i < n
+unfolding becomes
+becomes-below ns cs n m e c l =
+    or-below n (targetFor (λ s. eqb s e) (decode m)) (orElse (stays (isLiteral (nodeAt ns e))) (targetFor (λ s. sameClass cs s e) (decode m)))
+    (found-below (λ s. eqb s e) n m c)
+    (or-below n (stays (isLiteral (nodeAt ns e))) (targetFor (λ s. sameClass cs s e) (decode m)) (itself (isLiteral (nodeAt ns e))) (found-below (λ s. sameClass cs s e) n m c))
+  where
+    stays : Bool → Option ℕ
+    stays b = if b then some e else none
+
+    itself : (b : Bool) (i : ℕ) → stays b ≡ some i → i < n
+    itself true i q = let z : e ≡ i = cc in omega arith
+    itself false i q = absurd (let z : _≡_ {A = ℕ} 0 1 = cc in omega arith)
+
+module _ (ns : List Node) (cs : List Class) (m : Mapping) (s : Sound ns) (e : ℕ) (l : e < length ns) (whole : ℕ) (q : whole ≡ entryOf (becomes ns cs (decode m) e)) where
+  abbrev All : List (Option Expression)
+  All = projections ns cs (decode m)
+
+  -- something becomes of the whole expression
+  pub says-whole : Checked (length ns) m → (whole ≡ 0 → ⊥) → Says ns All ns e whole
+  unfolding Says entryOf wholeOr
+  says-whole c h = go (becomes ns cs (decode m) e) refl
+    where
+      go : (o : Option ℕ) → becomes ns cs (decode m) e ≡ o → Says ns All ns e whole
+      go none t = absurd (h (q ∙ ap entryOf t))
+      go (some i) t =
+          let y : whole ≡ i + 2 = q ∙ ap entryOf t in
+          let w : suc (suc i) ≡ whole = omega arith in
+          subst (Says ns All ns e) w (becomes-below ns cs (length ns) m e c l i t, projection-at ns cs (decode m) s e l ∙ rw t)
+
+  module _ (z : whole ≡ 0) where
+    -- nothing does: what the children give
+    by-children : getD All e none ≡ byChildren All (nodeAt ns e)
+    unfolding wholeOr
+    by-children =
+        let t : becomes ns cs (decode m) e ≡ none = entry-none (becomes ns cs (decode m) e) (sym z ∙ q) in
+        projection-at ns cs (decode m) s e l ∙ rw t
+
+    -- there are none
+    pub says-leaf : length (childNumbers (nodeAt ns e)) ≡ 0 → Says ns All ns e 0
+    unfolding Says
+    says-leaf k = by-children ∙ leaf-none All (nodeAt ns e) k
+
+    module _ (table : List ℕ) (h : (j : ℕ) → j < e → Says ns All ns j (getD table j 0)) where
+      -- child k
+      abbrev child : ℕ → ℕ
+      child k = getD (childNumbers (nodeAt ns e)) k 0
+
+      -- it has a projection, by the table
+      abbrev pub projects : ℕ → Bool
+      projects k = not (eqb (getD table (child k) 0) 0)
+
+      below : (k : ℕ) → k < length (childNumbers (nodeAt ns e)) → Says ns All ns (child k) (getD table (child k) 0)
+      below k b = h (child k) (child-under ns s e k l b)
+
+      -- one child has none
+      pub says-fails : (all : Bool) → all ≡ each projects (length (childNumbers (nodeAt ns e))) → all ≡ false → Says ns All ns e 0
+      unfolding Says
+      says-fails all t f =
+          let a = fails-at projects (length (childNumbers (nodeAt ns e))) (sym t ∙ f) in
+          let y : getD table (child (a .0)) 0 ≡ 0 = entry-is-0 (getD table (child (a .0)) 0) (a .1 .1) in
+          by-children ∙ children-none All (nodeAt ns e) (a .0) (a .1 .0) (says-none ns All ns (child (a .0)) (subst (Says ns All ns (child (a .0))) y (below (a .0) (a .1 .0))))
+
+      -- all have one
+      pub says-open : (length (childNumbers (nodeAt ns e)) ≡ 0 → ⊥) → (all : Bool) → all ≡ each projects (length (childNumbers (nodeAt ns e))) → all ≡ true → Says ns All ns e 1
+      unfolding Says
+      says-open k all t f =
+          let a = children-some All (nodeAt ns e) k
+          (λ j b. says-some ns All ns (child j) (getD table (child j) 0) (below j b) (entry-not-0 (getD table (child j) 0) (each-holds projects (length (childNumbers (nodeAt ns e))) j (sym t ∙ f) b))) in
+          (a .0, (by-children ∙ a .1, a .1))
+
+-- a table that holds below e, and the entry of e written into it
+pub table-more : (P : ℕ → ℕ → Type 0) (table : List ℕ) (e entry : ℕ) → e < length table → ((j : ℕ) → j < e → P j (getD table j 0)) → P e entry
+    → (j : ℕ) → j < e + 1 → P j (getD (set table e entry) j 0)
+table-more P table e entry l h p j b = at (ℕ-discrete j e)
+  where
+    at : Dec (j ≡ e) → P j (getD (set table e entry) j 0)
+    at (yes q) = rw q (rw (getD-set-same table e entry 0 l) p)
+    at (no q) = rw (getD-set-other table e j entry 0 q) (h j (omega arith))
