@@ -5,6 +5,7 @@ import struct
 from dataclasses import dataclass
 
 GROUPS = "ABC"
+MAPPINGS = "PQR"
 LARGEST_LIMIT = 256
 
 
@@ -22,6 +23,10 @@ class Number:
 
     def renumbered(self, new_number):
         return self
+
+    def smaller(self):
+        """A number has nothing to leave out."""
+        return ()
 
     @staticmethod
     def read(word):
@@ -53,6 +58,33 @@ class GroupName(Number):
 
 
 @dataclass(frozen=True)
+class MappingName(Number):
+    """A mapping: 0, 1 or 2, in the text P, Q or R."""
+
+    def text(self):
+        return MAPPINGS[self.number]
+
+    @staticmethod
+    def read(word):
+        return MappingName(list(MAPPINGS).index(word))
+
+
+def joined(numbers):
+    """Expressions as text, with commas between them."""
+    return ",".join(map(str, numbers))
+
+
+def split(word):
+    """The expressions of such a text."""
+    return tuple(map(int, filter(None, word.split(","))))
+
+
+def each_left_out(items):
+    """The items without one of them, for each of them."""
+    return (items[:place] + items[place + 1 :] for place in range(len(items)))
+
+
+@dataclass(frozen=True)
 class ListedClass:
     """A class of a list: the flavour and value of its constant, and its members."""
 
@@ -61,7 +93,7 @@ class ListedClass:
     members: tuple
 
     def text(self):
-        return f"{self.flavour}:{self.value}:{','.join(map(str, self.members))}"
+        return f"{self.flavour}:{self.value}:{joined(self.members)}"
 
     def words(self):
         return [self.flavour, self.value, len(self.members), *self.members]
@@ -69,10 +101,40 @@ class ListedClass:
     def renumbered(self, new_number):
         return ListedClass(self.flavour, self.value, tuple(map(new_number, self.members)))
 
+    def smaller(self):
+        """The class without one of its members."""
+        return (ListedClass(self.flavour, self.value, fewer) for fewer in each_left_out(self.members))
+
     @staticmethod
     def read(word):
         flavour, value, members = word.split(":")
-        return ListedClass(int(flavour), int(value), tuple(map(int, filter(None, members.split(",")))))
+        return ListedClass(int(flavour), int(value), split(members))
+
+
+@dataclass(frozen=True)
+class Mapped:
+    """A source of a mapping with its targets."""
+
+    source: int
+    targets: tuple
+
+    def text(self):
+        return f"{self.source}={joined(self.targets)}"
+
+    def words(self):
+        return [self.source, len(self.targets), *self.targets]
+
+    def renumbered(self, new_number):
+        return Mapped(new_number(self.source), tuple(map(new_number, self.targets)))
+
+    def smaller(self):
+        """The source without one of its targets."""
+        return (Mapped(self.source, fewer) for fewer in each_left_out(self.targets))
+
+    @staticmethod
+    def read(word):
+        source, targets = word.split("=")
+        return Mapped(int(source), split(targets))
 
 
 @dataclass(frozen=True)
@@ -90,6 +152,10 @@ class Pair:
 
     def renumbered(self, new_number):
         return Pair(new_number(self.left), new_number(self.right))
+
+    def smaller(self):
+        """A pair has nothing to leave out."""
+        return ()
 
     @staticmethod
     def read(word):
@@ -113,6 +179,10 @@ FORMS = {
     "nf": ([GroupName, Expression], None),
     "join": ([GroupName, GroupName, GroupName, Number, Number], Pair),
     "show": ([GroupName], None),
+    "map": ([MappingName], Mapped),
+    "projexpr": ([GroupName, MappingName, Expression], None),
+    "projexprs": ([GroupName, MappingName], Expression),
+    "project": ([GroupName, GroupName, MappingName], None),
 }
 NUMBERS = {name: number for number, name in enumerate(FORMS, 1)}
 NODES = ("col", "lit", "op")
@@ -167,6 +237,15 @@ def join(made, left, right, kind, left_size, pairs):
                    tuple(Pair(*pair) for pair in pairs))
 
 
+def mapping(name, sources):
+    """Sources are pairs of a source and its targets."""
+    return Command("map", (MappingName(name),), tuple(Mapped(source, tuple(targets)) for source, targets in sources))
+
+
+def project_expressions(group, mapping, expressions):
+    return Command("projexprs", (GroupName(group), MappingName(mapping)), tuple(map(Expression, expressions)))
+
+
 def read(line):
     """The command of a line of text, or none of an empty line."""
     name, *words = line.split("#")[0].split() or [None]
@@ -216,10 +295,9 @@ def moved_down(one, first, gone):
 
 
 def smaller(one):
-    """The command with one of the fields that follow left out, or with one of their members left out."""
+    """The command with one of the fields that follow left out, or with something within one of them left out."""
     for place, field in enumerate(one.rest):
         before, after = one.rest[:place], one.rest[place + 1 :]
         yield Command(one.name, one.fields, before + after)
-        for member in range(len(getattr(field, "members", ()))):
-            fewer = field.members[:member] + field.members[member + 1 :]
-            yield Command(one.name, one.fields, (*before, ListedClass(field.flavour, field.value, fewer), *after))
+        for fewer in field.smaller():
+            yield Command(one.name, one.fields, (*before, fewer, *after))

@@ -1,6 +1,6 @@
 """The session of a seed, and the script of a seed."""
 
-from harness import call_themes, themes
+from harness import call_themes, projection_themes, themes
 from harness.dice import Dice
 from harness.script import Script
 from harness.session import Session
@@ -28,6 +28,6 @@ def session(seed):
 
 def theme_and_script(seed):
     """The name of the seed's theme, and its script as commands. At the end all is shown."""
-    theme, script = made(seed, Script, call_themes.THEMES)
+    theme, script = made(seed, Script, call_themes.THEMES + projection_themes.THEMES)
     script.show_all()
     return theme, script.parts

@@ -8,7 +8,7 @@ LAST_INDEX = 65535
 
 class Script(Draft):
     """Beside the nodes, a script knows about which expressions stand in each of the three groups: those that it
-    put there, whether or not they stayed."""
+    put there, whether or not they stayed. It also knows the sources and targets of the three mappings."""
 
     most_beyond = 12
 
@@ -16,6 +16,7 @@ class Script(Draft):
         super().__init__(dice, commands)
         self.nodes = []
         self.members = [[] for _ in commands.GROUPS]
+        self.mappings = [[] for _ in commands.MAPPINGS]
 
     def node(self, node, size, part):
         number = super().node(node, size, part)
@@ -57,6 +58,25 @@ class Script(Draft):
         self.members[made] = self.members[left] + [member for member in shifted if member is not None]
         self.grown += shifted.count(None)
 
+    def map(self, mapping, sources):
+        """Sources are pairs of a source and its targets."""
+        self.add(commands.mapping(mapping, sources))
+        self.mappings[mapping] = sources
+
+    def project_expr(self, group, mapping, expression):
+        self.call("projexpr", group, mapping, expression)
+        self.grown += 1
+
+    def project_expressions(self, group, mapping, expressions):
+        self.add(commands.project_expressions(group, mapping, expressions))
+        self.grown += len(expressions)
+
+    def project(self, made, group, mapping):
+        """A projection of a group. The targets count as members; what comes of other members may be new nodes."""
+        self.call("project", made, group, mapping)
+        self.grown += len(self.members[group])
+        self.members[made] = [target for _, targets in self.mappings[mapping] for target in targets]
+
     def show_all(self):
         """The nodes, and all three groups."""
         self.call("arena")
@@ -67,6 +87,11 @@ class Script(Draft):
         """The number of an expression that likely stands in the group, or now and then some other number."""
         members = self.members[group]
         return self.dice.pick(members) if members and self.dice.chance(0.75) else self.some()
+
+    def source(self, mapping):
+        """The number of a source of the mapping, or now and then some other number."""
+        sources = self.mappings[mapping]
+        return self.dice.pick(sources)[0] if sources and self.dice.chance(0.75) else self.some()
 
     def add_shifted(self, number, by):
         """Adds the nodes of an expression whose columns are moved, as far as their indices go."""

@@ -4,7 +4,7 @@ from collections import Counter
 
 from harness import records
 
-GROUP_CALLS = ("group", "new", "eq", "const", "clear", "join", "show")
+GROUP_CALLS = ("group", "new", "eq", "const", "clear", "join", "show", "project")
 
 
 class Tally:
@@ -100,8 +100,23 @@ class ScriptTally(Tally):
         elif sort == "n":
             own = int(numbers[0]) == command.fields[1].number
             self.lines["n, itself" if own else "n, another"] += 1
+        elif sort == "p":
+            for expression, answer in zip(asked_of(command), numbers):
+                self.lines[f"p, {projected(expression, answer)}, of {command.name}"] += 1
         else:
             self.lines[f"{sort}, {numbers[0]}" if sort in "bckq" else sort] += 1
+
+
+def asked_of(command):
+    """The expressions that a command projects."""
+    return [field.number for field in command.rest or command.fields[2:]]
+
+
+def projected(expression, answer):
+    """What came of an expression, in a word."""
+    if answer == "-":
+        return "none"
+    return "itself" if int(answer) == expression else "another"
 
 
 def named(command):

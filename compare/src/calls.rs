@@ -13,10 +13,14 @@ use crate::group::Group;
 use crate::joining::{JoinRule, joined_group};
 use crate::lines::Lines;
 use crate::lists::{Made, new_group};
+use crate::projecting::{MappedSource, projected_expr, projected_expressions, projected_group};
 use crate::refusal::Refusal;
 
 /// The groups that are there from the start, empty.
 const FIRST_GROUPS: [&str; 3] = ["A", "B", "C"];
+
+/// The mappings that are there from the start, without a source.
+const FIRST_MAPPINGS: [&str; 3] = ["P", "Q", "R"];
 
 /// Why a line does nothing.
 enum Fault {
@@ -30,16 +34,19 @@ impl From<Refusal> for Fault {
     }
 }
 
-/// The nodes, and the groups by their names.
+/// The nodes, and the groups and the mappings by their names. A mapping is kept as it was given; what is wrong with
+/// it is refused when it is used.
 struct State {
     arena: Arena,
     groups: HashMap<String, Group>,
+    mappings: HashMap<String, Vec<MappedSource>>,
 }
 
 impl Default for State {
     fn default() -> Self {
         let groups = FIRST_GROUPS.map(|name| (name.to_string(), Group::default()));
-        State { arena: Arena::default(), groups: HashMap::from(groups) }
+        let mappings = FIRST_MAPPINGS.map(|name| (name.to_string(), Vec::new()));
+        State { arena: Arena::default(), groups: HashMap::from(groups), mappings: HashMap::from(mappings) }
     }
 }
 
@@ -51,6 +58,12 @@ impl State {
 
     fn group_mut(&mut self, name: &str) -> Result<&mut Group, Fault> {
         self.groups.get_mut(name).ok_or(Fault::NoCommand)
+    }
+
+    /// The nodes, the group and the mapping of a projection.
+    fn to_project(&mut self, group: &str, mapping: &str) -> Result<(&mut Arena, &Group, &[MappedSource]), Fault> {
+        let group = self.groups.get(group).ok_or(Fault::NoCommand)?;
+        Ok((&mut self.arena, group, self.mappings.get(mapping).ok_or(Fault::NoCommand)?))
     }
 }
 
@@ -104,6 +117,14 @@ impl Calls {
             Command::NormalForm { group, expression } => self.print_normal_form(group, expression)?,
             Command::Join { made, left, right, rule } => self.join(made, left, right, &rule)?,
             Command::Show { group } => self.print_group(group)?,
+            Command::Map { mapping, sources } => self.keep_mapping(mapping, sources),
+            Command::ProjectExpr { group, mapping, expression } => {
+                self.print_projection(group, mapping, expression)?
+            }
+            Command::ProjectExpressions { group, mapping, expressions } => {
+                self.print_projections(group, mapping, &expressions)?
+            }
+            Command::Project { made, group, mapping } => self.project(made, group, mapping)?,
         }
         Ok(())
     }
@@ -158,10 +179,39 @@ impl Calls {
     }
 
     fn join(&mut self, made: &str, left: &str, right: &str, rule: &JoinRule) -> Result<(), Fault> {
-        let State { arena, groups } = &mut self.state;
+        let State { arena, groups, .. } = &mut self.state;
         let (left, right) = (groups.get(left).ok_or(Fault::NoCommand)?, groups.get(right).ok_or(Fault::NoCommand)?);
         let joined = joined_group(arena, left, right, rule)?;
         self.keep_made(made, joined);
+        Ok(())
+    }
+
+    fn keep_mapping(&mut self, name: &str, sources: Vec<MappedSource>) {
+        self.state.mappings.insert(name.to_string(), sources);
+        self.lines.print(format_args!("ok"));
+    }
+
+    fn print_projection(&mut self, group: &str, mapping: &str, expression: usize) -> Result<(), Fault> {
+        let (arena, group, mapping) = self.state.to_project(group, mapping)?;
+        match projected_expr(arena, group, mapping, expression)? {
+            Some(number) => self.lines.print(format_args!("p {number} nodes {}", arena.count())),
+            None => self.lines.print(format_args!("p -")),
+        }
+        Ok(())
+    }
+
+    fn print_projections(&mut self, group: &str, mapping: &str, expressions: &[usize]) -> Result<(), Fault> {
+        let (arena, group, mapping) = self.state.to_project(group, mapping)?;
+        let numbers = projected_expressions(arena, group, mapping, expressions)?;
+        let shown: String = numbers.into_iter().map(|number| format!(" {}", number_or_none(number))).collect();
+        self.lines.print(format_args!("p{shown} nodes {}", arena.count()));
+        Ok(())
+    }
+
+    fn project(&mut self, made: &str, group: &str, mapping: &str) -> Result<(), Fault> {
+        let (arena, group, mapping) = self.state.to_project(group, mapping)?;
+        let projected = projected_group(arena, group, mapping)?;
+        self.keep(made, projected);
         Ok(())
     }
 
@@ -212,6 +262,11 @@ fn print_classes(arena: &Arena, group: &Group, lines: &mut Lines) {
         let members: Vec<usize> = class.iter().map(|member| arena.number_of(member)).collect();
         lines.print(format_args!("c {flavour} {value}{}", after_blanks(&members)));
     }
+}
+
+/// A number, or `-` where there is none.
+fn number_or_none(number: Option<usize>) -> String {
+    number.map_or("-".to_string(), |number| number.to_string())
 }
 
 /// The numbers, each after a blank.

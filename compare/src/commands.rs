@@ -6,8 +6,9 @@ use crate::arena::Node;
 use crate::group::MOST_MEMBERS;
 use crate::joining::JoinRule;
 use crate::lists::ListedClass;
+use crate::projecting::MappedSource;
 
-/// What a line asks for. Expressions are numbers of nodes; groups are named.
+/// What a line asks for. Expressions are numbers of nodes; groups and mappings are named.
 #[derive(Debug)]
 pub enum Command<'a> {
     Reset,
@@ -23,6 +24,10 @@ pub enum Command<'a> {
     NormalForm { group: &'a str, expression: usize },
     Join { made: &'a str, left: &'a str, right: &'a str, rule: JoinRule },
     Show { group: &'a str },
+    Map { mapping: &'a str, sources: Vec<MappedSource> },
+    ProjectExpr { group: &'a str, mapping: &'a str, expression: usize },
+    ProjectExpressions { group: &'a str, mapping: &'a str, expressions: Vec<usize> },
+    Project { made: &'a str, group: &'a str, mapping: &'a str },
 }
 
 /// The command of a line without its comment, or none where the line is no command.
@@ -61,6 +66,20 @@ pub fn parse(line: &str) -> Option<Command<'_>> {
             rule: JoinRule { kind: number(kind)?, left_size: number(left_size)?, pairs: all(pairs, equal_pair)? },
         },
         ["show", group] => Command::Show { group: name(group)? },
+        ["map", mapping, ref sources @ ..] => {
+            Command::Map { mapping: name(mapping)?, sources: all(sources, mapped_source)? }
+        }
+        ["projexpr", group, mapping, asked] => {
+            Command::ProjectExpr { group: name(group)?, mapping: name(mapping)?, expression: expression(asked)? }
+        }
+        ["projexprs", group, mapping, ref asked @ ..] => Command::ProjectExpressions {
+            group: name(group)?,
+            mapping: name(mapping)?,
+            expressions: expressions(asked)?,
+        },
+        ["project", made, group, mapping] => {
+            Command::Project { made: name(made)?, group: name(group)?, mapping: name(mapping)? }
+        }
         _ => return None,
     };
     Some(command)
@@ -89,8 +108,19 @@ fn name(word: &str) -> Option<&str> {
 fn listed_class(word: &str) -> Option<ListedClass> {
     let (flavour, rest) = word.split_once(':')?;
     let (value, members) = rest.split_once(':')?;
-    let members: Vec<&str> = if members.is_empty() { Vec::new() } else { members.split(',').collect() };
-    Some(ListedClass { flavour: number(flavour)?, value: number(value)?, members: expressions(&members)? })
+    Some(ListedClass { flavour: number(flavour)?, value: number(value)?, members: joined_expressions(members)? })
+}
+
+/// A source of a mapping and its targets, `S=T,T,..`.
+fn mapped_source(word: &str) -> Option<MappedSource> {
+    let (source, targets) = word.split_once('=')?;
+    Some(MappedSource { source: expression(source)?, targets: joined_expressions(targets)? })
+}
+
+/// The expressions between commas, `E,E,..`, or none of nothing.
+fn joined_expressions(word: &str) -> Option<Vec<usize>> {
+    let words: Vec<&str> = if word.is_empty() { Vec::new() } else { word.split(',').collect() };
+    expressions(&words)
 }
 
 /// A pair of a join, `A=B`.

@@ -11,6 +11,7 @@ pub mod joining;
 pub mod lines;
 pub mod lists;
 pub mod operation;
+pub mod projecting;
 pub mod records;
 pub mod refusal;
 pub mod session;

@@ -7,7 +7,7 @@ pub enum Refusal {
     Malformed = 9,
     /// A number is outside its set.
     OutsideSet = 12,
-    /// A list of classes breaks a rule.
+    /// A list of classes or a mapping breaks a rule.
     BrokenRule = 11,
     /// An expression number is not below the node count.
     UnknownExpression = 1,

@@ -1,46 +1,49 @@
 // The commands, a function each: the call, and what it prints.
-use crate::groups::Groups;
-use crate::groups::group_of;
-use crate::groups::no_classes;
-use crate::groups::with_group;
-use crate::input::word;
-use crate::lines;
+use crate::maps::Mappings;
+use crate::maps::no_sources;
+use crate::projections;
 use arena::cells::wide;
 use classes::Changed;
-use showing_merging::parts::first;
+use showing_calls::groups::Groups;
+use showing_calls::groups::group_of;
+use showing_calls::groups::no_classes;
+use showing_calls::groups::with_group;
+use showing_calls::lines;
+use showing_calls::words::args_at;
+use showing_calls::words::size_at;
+use showing_calls::words::word;
 use showing_merging::parts::rest;
 ghost use Prim.Native.Nat.{_<_};
 ghost use lib.ListN.{length};
-
-// How many words follow a command that starts at a place.
-fn size_at(words: &[u32], at: usize) -> usize
-    requires { ⌜ at < length (now words) ⌝ }
-    ensures { λ r. ⌜ r < 4294967296 ⌝ }
-{
-    wide(word(words, at + 1))
-}
-
-// The words that follow a command that starts at a place.
-fn args_at(words: &[u32], at: usize) -> &[u32]
-    requires { ⌜ at < length (now words) ⌝ }
-{
-    first(rest(words, at + 2), size_at(words, at))
-}
 
 // The commands, one after the other.
 pub fn run(words: &[u32]) {
     let mut cells = [0u32; 11265];
     let mut all = no_classes();
+    let mut maps = no_sources();
     let n = words.len();
     let mut at = 0;
     while at < n {
-        all = step(&mut cells, all, word(words, at), args_at(words, at));
+        maps = projections::kept(maps, words, at);
+        all = step(&mut cells, all, maps, words, at);
         at += 2 + size_at(words, at);
     }
 }
 
+// The command at a place: over mappings, or over nodes and groups alone.
+fn step(cells: &mut [u32; 11265], all: Groups, maps: Mappings, words: &[u32], at: usize) -> Groups
+    requires { ⌜ at < length (now words) ⌝ }
+{
+    let op = word(words, at);
+    let args = args_at(words, at);
+    if 14 < op {
+        return projections::step(cells, all, maps, words, op, args);
+    }
+    on_nodes_or_groups(cells, all, op, args)
+}
+
 // One command: over the nodes alone, or over groups that are there.
-fn step(cells: &mut [u32; 11265], all: Groups, op: u32, args: &[u32]) -> Groups {
+fn on_nodes_or_groups(cells: &mut [u32; 11265], all: Groups, op: u32, args: &[u32]) -> Groups {
     if op < 5 {
         on_nodes(cells, op, args);
         return all;
@@ -55,11 +58,8 @@ fn step(cells: &mut [u32; 11265], all: Groups, op: u32, args: &[u32]) -> Groups 
     asked(cells, all, op, args)
 }
 
-// The command is one of those over groups, and its groups are there.
+// The groups of a command are there.
 fn groups_known(op: u32, args: &[u32]) -> bool {
-    if 14 < op {
-        return false;
-    }
     if 2 < word(args, 0) {
         return false;
     }
@@ -120,7 +120,7 @@ fn column(cells: &mut [u32; 11265], name: u32, index: u32) {
 }
 
 // What a call came to that makes the first group of the arguments.
-fn made(cells: &[u32; 11265], all: Groups, args: &[u32], done: Changed) -> Groups {
+pub fn made(cells: &[u32; 11265], all: Groups, args: &[u32], done: Changed) -> Groups {
     if done.number != 0 {
         lines::refused(done.number);
         return all;

@@ -74,8 +74,3 @@ pub fn words_of(bytes: &[u8]) -> [u32; 16384] {
     }
     words
 }
-
-// The word at a place; past the end, 0.
-pub fn word(words: &[u32], i: usize) -> u32 {
-    if i < words.len() { words[i] } else { 0 }
-}

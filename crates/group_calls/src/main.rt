@@ -2,18 +2,21 @@
 // from standard input, and prints the lines of each. A command is its number, the count of the words after it, and these
 // words:
 //
-//     1 col NAME INDEX          6 new G, then F V COUNT E.. of each class    11 equal G A B
-//     2 lit V                   7 eq G A B                                   12 nf G E
-//     3 op LABEL E..            8 const G E F V                              13 join NEW L R KIND LEFTSIZE, then A B
-//     4 arena                   9 clear G                                       of each pair
-//     5 group G LIMIT          10 isconst G E                                14 show G
+//     1 col NAME INDEX          7 eq G A B                   13 join NEW L R KIND LEFTSIZE, then A B of each pair
+//     2 lit V                   8 const G E F V              14 show G
+//     3 op LABEL E..            9 clear G                    15 map M, then S COUNT T.. of each source
+//     4 arena                  10 isconst G E                16 projexpr G M E
+//     5 group G LIMIT          11 equal G A B                17 projexprs G M E..
+//     6 new G, then F V        12 nf G E                     18 project NEW G M
+//       COUNT E.. of each class
 //
-// There are three groups, 0 to 2, empty at the beginning with limit 256. Another group, another command or a column
-// with a number over 65,535 prints `!` and the command's number. Input over 65,536 bytes is said on standard error.
+// There are three groups, 0 to 2, empty at the beginning with limit 256, and three mappings, 0 to 2, without sources at
+// the beginning. Another group or mapping, another command or a column with a number over 65,535 prints `!` and the
+// command's number. Input over 65,536 bytes is said on standard error.
 mod calls;
-mod groups;
 mod input;
-mod lines;
+mod maps;
+mod projections;
 
 use input::Got;
 use showing_merging::parts::first;

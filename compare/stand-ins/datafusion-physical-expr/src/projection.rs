@@ -1,4 +1,5 @@
-//! A projection mapping: for each source expression its targets, with their places.
+//! A projection mapping: for each source expression its targets, with their places. It has the form that the Rust
+//! crate's projection.rs gives it.
 
 use std::ops::Deref;
 use std::sync::Arc;
@@ -17,7 +18,7 @@ pub struct ProjectionTargets {
 
 impl ProjectionTargets {
     pub fn first(&self) -> &Target {
-        &self.targets[0]
+        self.targets.first().expect("a source has a target")
     }
 }
 
@@ -41,13 +42,11 @@ pub struct ProjectionMapping {
     map: IndexMap<Arc<dyn PhysicalExpr>, ProjectionTargets>,
 }
 
-impl ProjectionMapping {
-    pub fn get(&self, source: &Arc<dyn PhysicalExpr>) -> Option<&ProjectionTargets> {
-        self.map.get(source)
-    }
+impl Deref for ProjectionMapping {
+    type Target = IndexMap<Arc<dyn PhysicalExpr>, ProjectionTargets>;
 
-    pub fn iter(&self) -> impl Iterator<Item = (&Arc<dyn PhysicalExpr>, &ProjectionTargets)> {
-        self.map.iter()
+    fn deref(&self) -> &Self::Target {
+        &self.map
     }
 }
 

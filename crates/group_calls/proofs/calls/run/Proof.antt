@@ -7,22 +7,22 @@ use Rattle.group_calls.proofs.calls.run.Statement.{statement}
 use Rattle.group_calls.proofs.calls.run.Tie as tie
 
 abbrev Inv-loop : tie.InvT-loop
-Inv-loop words cells₀ all₀ n at₀ cells all at = n ≡ length words
+Inv-loop words cells₀ all₀ maps₀ n at₀ cells all maps at = n ≡ length words
 
 abbrev μ-loop : tie.MeasureT-loop
-μ-loop words cells₀ all₀ n at₀ cells all at = n - at
+μ-loop words cells₀ all₀ maps₀ n at₀ cells all maps at = n - at
 
 no-classes-requires : tie.Need-no-classes-requires Inv-loop μ-loop
 no-classes-requires c κs = search needs
 
+no-sources-requires : tie.Need-no-sources-requires Inv-loop μ-loop
+no-sources-requires c κs = search needs
+
 loop-holds : tie.Need-loop-holds Inv-loop μ-loop
 loop-holds c = search needs
 
-word-requires : tie.Need-word-requires Inv-loop μ-loop
-word-requires c κs = search needs
-
-args-at-requires : tie.Need-args-at-requires Inv-loop μ-loop
-args-at-requires c κs = search needs
+kept-requires : tie.Need-kept-requires Inv-loop μ-loop
+kept-requires c κs = search needs
 
 step-requires : tie.Need-step-requires Inv-loop μ-loop
 step-requires c κs = search needs
@@ -52,9 +52,9 @@ run-spec =
     Inv-loop
     μ-loop
     no-classes-requires
+    no-sources-requires
     loop-holds
-    word-requires
-    args-at-requires
+    kept-requires
     step-requires
     size-at-requires
     add-at

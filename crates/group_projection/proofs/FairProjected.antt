@@ -1,0 +1,214 @@
+-- The list of classes of a projection is fair, so what becomes of it is a group.
+use Prim.Native.Nat.{ℕ, zero, suc, _+_, _<_}
+use mathlib.Core.Bool.{Bool, true, false}
+use mathlib.Core.List.{List, [], _∷_, _++_}
+use mathlib.Core.Option.{Option, none, some}
+use mathlib.Core.Path.{_≡_, refl, sym, ap, _∙_, subst}
+use native.Mathlib.Decide.{decLt}
+use native.Mathlib.Omega.{arith}
+use lib.Dec.{eqb}
+use lib.ListN.{length, getD, take, drop, length-take, List·getD-eq-default}
+use lib.Seq.{getD-take, getD-drop}
+use Rattle.laws.specs.Tests.{if_then_else_}
+use Rattle.arena.specs.Node.{Node}
+use Rattle.classes.specs.Class.{Class}
+use Rattle.classes.specs.Good.{flat}
+use Rattle.classes.specs.Steps.{fits}
+use Rattle.classes.specs.Layout.{fresh, encode, decode}
+use Rattle.classes.specs.Calls.{noGroup}
+use Rattle.classes.specs.Inner.{Coded}
+use Rattle.classes.specs.declared.Group.{Group}
+use Rattle.classes.specs.declared.Changed.{Changed}
+use Rattle.classes.proofs.Places.{All, length-flat}
+use Rattle.classes.proofs.Codec.{at-padded, built-limit, built-classes, built-coded, members-is, used-is}
+use Rattle.merging.specs.Extending.{classFrom, isTrivial}
+use Rattle.merging.specs.Merging.{fromClasses}
+use Rattle.merging.specs.Inner.{Fair, AllBelow}
+use Rattle.merging.proofs.Smaller.{from-few, from-small}
+use Rattle.merging.proofs.Reaching.{Sane, sane-fair, from-good, sane-from, all-append}
+use Rattle.mappings.specs.Mapping.{Mapped}
+use Rattle.mappings.specs.Layout.{decode as mapping, Checked}
+use Rattle.mappings.specs.declared.Mapping.{Mapping}
+use Rattle.projection.specs.Inner.{answerOf, answersIn}
+use Rattle.group_projection.specs.Group.{there, projectedClasses, targetsOf, sourceClasses, telling, projectedList, newConstants, constantsSaid, projectedGroup}
+use Rattle.group_projection.specs.Inner.{listed, madeOrNone, Made, Entries}
+use Rattle.group_projection.proofs.SourcePlaces.{noSource, readIn, read-targets, length-mapping, mapping-at, targets-below}
+use Rattle.group_projection.proofs.MadeGroups.{fits-few, fits-small, few-fits, Within, within-made, listed-done, listed-refused}
+
+-- ---- numbers below a bound
+
+-- every number that there is is below n
+abbrev pub ThereBelow : ℕ → List (Option ℕ) → Type 0
+ThereBelow n ks = (k i : ℕ) → getD ks k none ≡ some i → i < n
+
+-- every target is below n
+abbrev pub TargetsBelow : ℕ → List Mapped → Type 0
+TargetsBelow n ps = (i : ℕ) → i < length ps → AllBelow n (getD ps i noSource .targets)
+
+-- there is none where there is none
+none-some : {P : Type 0} (i : ℕ) → _≡_ {A = Option ℕ} none (some i) → P
+none-some i e = absurd (let z : _≡_ {A = ℕ} 0 1 = cc in omega arith)
+
+-- two lists of such numbers, one after the other
+below-both : (n : ℕ) (xs ys : List ℕ) → AllBelow n xs → AllBelow n ys → AllBelow n (xs ++ ys)
+below-both n [] ys a b k l = b k l
+below-both n (x ∷ xs) ys a b zero l = a 0 (omega arith)
+below-both n (x ∷ xs) ys a b (suc k) l = below-both n xs ys (λ j m. a (suc j) (omega arith)) b k (omega arith)
+
+-- those that there are
+there-below : (n : ℕ) (ks : List (Option ℕ)) → ThereBelow n ks → AllBelow n (there ks)
+unfolding there
+there-below n [] h k l = absurd (omega arith)
+there-below n (none ∷ ks) h k l = there-below n ks (λ j i e. h (suc j) i e) k l
+there-below n (some x ∷ ks) h zero l = h 0 x refl
+there-below n (some x ∷ ks) h (suc k) l = there-below n ks (λ j i e. h (suc j) i e) k (omega arith)
+
+-- those of the first m
+there-take : (n m : ℕ) (ks : List (Option ℕ)) → ThereBelow n ks → ThereBelow n (take m ks)
+there-take n m ks h k i e = go (decLt k m)
+  where
+    go : Dec (k < m) → i < n
+    go (yes l) = h k i (sym (getD-take m ks k none l) ∙ e)
+    go (no l) = none-some i (sym (List·getD-eq-default (take m ks) none {n = k} (omega (arith, length-take m ks))) ∙ e)
+
+-- those of the rest
+there-drop : (n m : ℕ) (ks : List (Option ℕ)) → ThereBelow n ks → ThereBelow n (drop m ks)
+there-drop n m ks h k i e = h (m + k) i (sym (getD-drop m ks k none) ∙ e)
+
+-- the targets of the sources with a normal form
+targets-of-below : (n j : ℕ) (js : List ℕ) (ps : List Mapped) → TargetsBelow n ps → AllBelow n (targetsOf j js ps)
+unfolding targetsOf
+targets-of-below n j [] ps h = λ k l. absurd (omega arith)
+targets-of-below n j (i ∷ js) [] h = λ k l. absurd (omega arith)
+targets-of-below n j (i ∷ js) (p ∷ ps) h =
+    below-both n (if eqb i j then p .targets else []) (targetsOf j js ps) (go (eqb i j)) (targets-of-below n j js ps (λ a l. h (suc a) (omega arith)))
+  where
+    go : (b : Bool) → AllBelow n (if b then p .targets else [])
+    go true = h 0 (omega arith)
+    go false = λ k l. absurd (omega arith)
+
+-- ---- the list is fair
+
+module _ (ns : List Node) where
+  -- for each class
+  sane-projected : (cs : List Class) (ks : List (Option ℕ)) → ThereBelow (length ns) ks → All (Sane ns) (projectedClasses ns cs ks)
+  unfolding projectedClasses
+  sane-projected [] ks h i l = absurd (omega arith)
+  sane-projected (c ∷ cs) ks h zero l =
+      let n = length (c .members) in
+      sane-from ns (there (take n ks)) (there-below (length ns) (take n ks) (there-take (length ns) n ks h))
+  sane-projected (c ∷ cs) ks h (suc i) l =
+      sane-projected cs (drop (length (c .members)) ks) (there-drop (length ns) (length (c .members)) ks h) i (omega arith)
+
+  -- for each normal form
+  sane-sources : (js : List ℕ) (ps : List Mapped) → TargetsBelow (length ns) ps → (n : ℕ) → All (Sane ns) (sourceClasses ns js ps n)
+  unfolding sourceClasses
+  sane-sources js ps h zero = λ i l. absurd (omega arith)
+  sane-sources js ps h (suc n) =
+      all-append (Sane ns) (sourceClasses ns js ps n) (if fresh js n then classFrom ns (targetsOf (getD js n 0) js ps) ∷ [] else []) (sane-sources js ps h n)
+      (go (fresh js n))
+    where
+      go : (b : Bool) → All (Sane ns) (if b then classFrom ns (targetsOf (getD js n 0) js ps) ∷ [] else [])
+      go true zero l = sane-from ns (targetsOf (getD js n 0) js ps) (targets-of-below (length ns) (getD js n 0) js ps h)
+      go true (suc i) l = absurd (omega arith)
+      go false i l = absurd (omega arith)
+
+-- what holds for every class holds for every class that says something
+pub all-telling : (Q : Class → Type 0) (cs : List Class) → All Q cs → All Q (telling cs)
+unfolding telling
+all-telling Q [] h = λ i l. absurd (omega arith)
+all-telling Q (c ∷ cs) h = go (isTrivial c) (all-telling Q cs (λ i l. h (suc i) (omega arith)))
+  where
+    go : (b : Bool) → All Q (telling cs) → All Q (if b then telling cs else c ∷ telling cs)
+    go true r i l = r i l
+    go false r zero l = h 0 (omega arith)
+    go false r (suc i) l = r i (omega arith)
+
+-- no expression twice in a class, a literal's class uniform, every member in the arena
+pub list-fair-projected : (ns : List Node) (cs : List Class) (ps : List Mapped) (ks : List (Option ℕ)) (js : List ℕ)
+    → ThereBelow (length ns) ks → TargetsBelow (length ns) ps → Fair ns (projectedList ns cs ps ks js)
+unfolding projectedList
+list-fair-projected ns cs ps ks js h t =
+    sane-fair ns (telling (projectedClasses ns cs ks ++ sourceClasses ns js ps (length js)))
+    (all-telling (Sane ns) (projectedClasses ns cs ks ++ sourceClasses ns js ps (length js))
+    (all-append (Sane ns) (projectedClasses ns cs ks) (sourceClasses ns js ps (length js)) (sane-projected ns cs ks h) (sane-sources ns js ps t (length js))))
+
+-- ---- by a table and a struct
+
+-- what an entry below n + 2 says is below n
+answer-below : (n x i : ℕ) → x < n + 2 → answerOf x ≡ some i → i < n
+unfolding answerOf
+answer-below n zero i l e = none-some i e
+answer-below n (suc zero) i l e = none-some i e
+answer-below n (suc (suc x)) i l e = let y : x ≡ i = cc e in omega arith
+
+-- the answers of a table for expressions
+answers-below : (n : ℕ) (table es : List ℕ) → ((k : ℕ) → k < length es → getD table (getD es k 0) 0 < n + 2) → ThereBelow n (answersIn table es)
+answers-below n table [] h k i e = none-some i e
+answers-below n table (x ∷ es) h zero i e = answer-below n (getD table x 0) i (h 0 (omega arith)) e
+answers-below n table (x ∷ es) h (suc k) i e = answers-below n table es (λ j l. h (suc j) (omega arith)) k i e
+
+-- those for the members of a group
+pub members-answers : (n : ℕ) (table : List ℕ) (g : Group) → Coded g → Entries n table (g .members) (g .used) → ThereBelow n (answersIn table (flat (decode g)))
+members-answers n table g c h =
+    answers-below n table (flat (decode g))
+    (λ k l.
+    let e : getD (g .members) k 0 ≡ getD (flat (decode g)) k 0 = ap (λ (xs : List ℕ). getD xs k 0) (members-is g c) ∙ at-padded 256 (flat (decode g)) k in
+    subst (λ (x : ℕ). getD table x 0 < n + 2) e (h k (omega (arith, length-flat (decode g), used-is g c)) .1))
+
+-- the targets of a checked mapping
+pub checked-targets : (n : ℕ) (m : Mapping) → Checked n m → TargetsBelow n (mapping m)
+checked-targets n m c i l =
+    let b : i < m .count = omega (arith, length-mapping m) in
+    subst (λ (p : Mapped). AllBelow n (p .targets)) (sym (mapping-at m i b)) (targets-below (readIn m i) n (read-targets n m c i b))
+
+-- ---- the group
+
+-- a fair list that fits becomes classes that fit
+pub from-within : (ns : List Node) (cs : List Class) → Fair ns cs → fits 256 cs ≡ true → Within ns (fromClasses cs)
+from-within ns cs f e =
+    record {
+      room = few-fits (fromClasses cs) (omega (arith, from-few cs, fits-few cs e)) (omega (arith, from-small cs, fits-small cs e));
+      good = from-good ns cs f;
+    }
+
+module _ (ns : List Node) (cs : List Class) (ps : List Mapped) (ks : List (Option ℕ)) (js : List ℕ)
+    (list : Changed) (p : list ≡ listed (projectedList ns cs ps ks js)) where
+  -- it exceeds the bounds
+  pub projected-over : (list .number ≡ 0 → ⊥) → (r : Changed) → r ≡ noGroup 4 → r ≡ madeOrNone (projectedGroup ns cs ps ks js)
+  unfolding madeOrNone projectedGroup
+  projected-over n r e = e ∙ rw (listed-refused (projectedList ns cs ps ks js) list p n)
+
+  module _ (z : list .number ≡ 0) where
+    -- the list fits
+    list-fits : fits 256 (projectedList ns cs ps ks js) ≡ true
+    list-fits = listed-done (projectedList ns cs ps ks js) list p z .0
+
+    -- and is laid out
+    list-is : list .group ≡ encode 256 (projectedList ns cs ps ks js)
+    list-is = listed-done (projectedList ns cs ps ks js) list p z .1
+
+    -- so it can reach `new`
+    pub list-coded : Coded (list .group)
+    list-coded = built-coded 256 (projectedList ns cs ps ks js) (list .group) list-is (fits-few (projectedList ns cs ps ks js) list-fits) (fits-small (projectedList ns cs ps ks js) list-fits)
+
+    module _ (out : Group) (q : out ≡ encode (list .group .limit) (fromClasses (decode (list .group)))) where
+      -- what comes of it
+      out-is : out ≡ encode 256 (fromClasses (projectedList ns cs ps ks js))
+      out-is =
+          q
+          ∙ ap (λ (n : ℕ). encode n (fromClasses (decode (list .group)))) (built-limit 256 (projectedList ns cs ps ks js) (list .group) list-is)
+          ∙ ap (λ (ds : List Class). encode 256 (fromClasses ds)) (built-classes 256 (projectedList ns cs ps ks js) (list .group) list-is)
+
+      -- is a group
+      pub projected-made : (n : ℕ) → n ≡ length ns → ThereBelow n ks → TargetsBelow n ps → Made ns out
+      projected-made n e h t =
+          within-made ns out (fromClasses (projectedList ns cs ps ks js)) out-is
+          (from-within ns (projectedList ns cs ps ks js) (list-fair-projected ns cs ps ks js (subst (λ (k : ℕ). ThereBelow k ks) e h) (subst (λ (k : ℕ). TargetsBelow k ps) e t)) list-fits)
+
+      -- and then the constants are said
+      pub projected-done : (r : Changed) → r ≡ madeOrNone (constantsSaid true ns (newConstants ns cs ps) (decode out)) → r ≡ madeOrNone (projectedGroup ns cs ps ks js)
+      unfolding projectedGroup
+      projected-done r e =
+          e ∙ ap (λ (ds : List Class). madeOrNone (constantsSaid true ns (newConstants ns cs ps) ds)) (built-classes 256 (fromClasses (projectedList ns cs ps ks js)) out out-is)
+          ∙ rw list-fits

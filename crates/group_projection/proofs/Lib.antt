@@ -1,0 +1,11 @@
+-- Laws of the definitions in specs/.
+pub mod ListedLaws
+pub mod OneLaws
+pub mod ProjectedParts
+pub mod SourceLaws
+pub mod SourcePlaces
+pub mod MadeGroups
+pub mod ConstantLaws
+pub mod FormLaws
+pub mod FairProjected
+pub mod ProjectLaws

@@ -1,0 +1,188 @@
+-- The classes of a projected group agree on the output row wherever the classes agree on the input row and each target has there its source's value.
+use Prim.Native.Nat.{ℕ, zero, suc, _+_, _-_, _<_}
+use mathlib.Core.Bool.{Bool, true, false}
+use mathlib.Core.List.{List, [], _∷_, _++_}
+use mathlib.Core.Option.{Option, none, some}
+use mathlib.Core.Path.{_≡_, refl, sym, ap, _∙_, subst}
+use native.Mathlib.Decide.{decLt}
+use native.Mathlib.Omega.{arith}
+use borrow.Author.Tests.{eqb-true}
+use lib.Dec.{eqb}
+use lib.ListN.{length, getD, take, drop, length-append, length-take, List·getD-append}
+use lib.Seq.{getD-take, getD-drop, getD-append-add}
+use Rattle.laws.specs.Tests.{if_then_else_}
+use Rattle.arena.specs.Node.{Node}
+use Rattle.arena.specs.Expression.{Expression, expressionAt}
+use Rattle.arena.specs.Value.{Meaning, Row, value}
+use Rattle.arena.specs.Arena.{Sound, placed}
+use Rattle.arena.proofs.Values.{value-kept}
+use Rattle.classes.specs.Class.{Class}
+use Rattle.classes.specs.Group.{among, classAt}
+use Rattle.classes.specs.Good.{flat, Good}
+use Rattle.classes.specs.Layout.{fresh}
+use Rattle.classes.specs.Agree.{Same, MembersAgree}
+use Rattle.classes.proofs.Places.{All, getD-among, class-flat}
+use Rattle.normal.proofs.NormalValue.{normal-value}
+use Rattle.merging.specs.Extending.{classFrom}
+use Rattle.merging.proofs.Overlaps.{Within}
+use Rattle.merging.proofs.Reaching.{all-append}
+use Rattle.merging_laws.proofs.BridgingTheorems.{new-agrees}
+use Rattle.merging_laws.proofs.JoinLaws.{from-place}
+use Rattle.mappings.specs.Mapping.{Mapped, mappedAt}
+use Rattle.mappings.specs.Agree.{TargetsAgree, Over}
+use Rattle.group_projection.specs.Group.{projectedNumbers, there, projectedClasses, targetsOf, sourceClasses, projectedList, beforeConstants}
+use Rattle.group_projection.proofs.FairProjected.{all-telling}
+use Rattle.projection.specs.Projecting.{projection}
+use Rattle.projection_laws.proofs.ProjectedValue.{projection-value}
+use Rattle.projection_laws.proofs.ProjectedList.{answers-some, answers-kept}
+use Rattle.projection_laws.proofs.GroupNumbers.{target-inside, NumbersPlaced, numbers-placed}
+
+-- ---- where the members come from
+
+-- a number that there is stands at some place
+there-place : (ks : List (Option ℕ)) (k : ℕ) → k < length (there ks) → (j : ℕ) × (j < length ks) × (getD ks j none ≡ some (getD (there ks) k 0))
+unfolding there
+there-place [] k l = absurd (omega arith)
+there-place (none ∷ ks) k l = let p = there-place ks k l in (suc (p .0), omega (arith, p .1), p .2)
+there-place (some x ∷ ks) zero l = (0, omega arith, refl)
+there-place (some x ∷ ks) (suc k) l = let p = there-place ks k (omega arith) in (suc (p .0), omega (arith, p .1), p .2)
+
+-- as many classes as there were
+pub length-projected : (os : List Node) (cs : List Class) (ks : List (Option ℕ)) → length (projectedClasses os cs ks) ≡ length cs
+unfolding projectedClasses
+length-projected os [] ks = refl
+length-projected os (c ∷ cs) ks = ap suc (length-projected os cs (drop (length (c .members)) ks))
+
+-- each member of a projected class stands for a member of the class, where the numbers that there are stand for the members in order
+pub projected-member : (T : ℕ → ℕ → Type 0) (os : List Node) (cs : List Class) (ks : List (Option ℕ)) → ((j k : ℕ) → j < length (flat cs) → getD ks j none ≡ some k → T k (getD (flat cs) j 0))
+    → (i x : ℕ) → i < length cs → among x (classAt (projectedClasses os cs ks) i .members) ≡ true → (e : ℕ) × (among e (classAt cs i .members) ≡ true) × T x e
+unfolding projectedClasses flat
+projected-member T os [] ks h i x l p = absurd (omega arith)
+projected-member T os (c ∷ cs) ks h zero x l p =
+    let n = length (c .members) in
+    let f = from-place os (there (take n ks)) x p in
+    let t = there-place (take n ks) (f .0) (f .1) in
+    let j = t .0 in
+    let b : j < n = omega (arith, t .1, length-take n ks) in
+    let q : getD ks j none ≡ some x = sym (getD-take n ks j none b) ∙ t .2 ∙ ap (λ (k : ℕ). some k) (f .2) in
+    let r : getD (c .members ++ flat cs) j 0 ≡ getD (c .members) j 0 = List·getD-append (c .members) (flat cs) 0 j b in
+    (getD (c .members) j 0, getD-among (c .members) j b, subst (λ (k : ℕ). T x k) r (h j x (omega (arith, length-append (c .members) (flat cs))) q))
+projected-member T os (c ∷ cs) ks h (suc i) x l p =
+    let n = length (c .members) in
+    projected-member T os cs (drop n ks)
+    (λ j k b q. subst (λ (e : ℕ). T k e) (getD-append-add (c .members) (flat cs) j 0)
+    (h (n + j) k (omega (arith, length-append (c .members) (flat cs))) (sym (getD-drop n ks j none) ∙ q)))
+    i x (omega arith) p
+
+-- a target of a source with the normal form j
+pub record TargetOf (j : ℕ) (js : List ℕ) (ps : List Mapped) (x : ℕ) : Type 0 where
+  pub place : ℕ
+  pub below : place < length ps
+  pub form : getD js place 0 ≡ j
+  pub target : ℕ
+  pub inside : target < length (mappedAt ps place .targets)
+  pub is : getD (mappedAt ps place .targets) target 0 ≡ x
+
+-- so is each of those that are collected for j
+pub targets-place : (j : ℕ) (js : List ℕ) (ps : List Mapped) (k : ℕ) → k < length (targetsOf j js ps) → TargetOf j js ps (getD (targetsOf j js ps) k 0)
+unfolding targetsOf
+targets-place j [] ps k l = absurd (omega arith)
+targets-place j (i ∷ js) [] k l = absurd (omega arith)
+targets-place j (i ∷ js) (p ∷ ps) k l = go (eqb i j) refl l (targets-place j js ps)
+  where
+    own : Bool → List ℕ
+    own b = if b then p .targets else []
+
+    after : (x : ℕ) → TargetOf j js ps x → TargetOf j (i ∷ js) (p ∷ ps) x
+    after x t = record { place = suc (t .place); below = omega (arith, t .below); form = t .form; target = t .target; inside = t .inside; is = t .is }
+
+    here : eqb i j ≡ true → ((n : ℕ) → n < length (targetsOf j js ps) → TargetOf j js ps (getD (targetsOf j js ps) n 0)) → Dec (k < length (p .targets)) → k < length (p .targets ++ targetsOf j js ps)
+        → TargetOf j (i ∷ js) (p ∷ ps) (getD (p .targets ++ targetsOf j js ps) k 0)
+    here q r (yes b) m = record { place = 0; below = omega arith; form = eqb-true i j q; target = k; inside = b; is = sym (List·getD-append (p .targets) (targetsOf j js ps) 0 k b) }
+    here q r (no b) m =
+        let n = k - length (p .targets) in
+        let e : length (p .targets) + n ≡ k = omega arith in
+        let w : getD (targetsOf j js ps) n 0 ≡ getD (p .targets ++ targetsOf j js ps) k 0 =
+        sym (getD-append-add (p .targets) (targetsOf j js ps) n 0) ∙ ap (λ (a : ℕ). getD (p .targets ++ targetsOf j js ps) a 0) e in
+        subst (TargetOf j (i ∷ js) (p ∷ ps)) w (after (getD (targetsOf j js ps) n 0) (r n (omega (arith, length-append (p .targets) (targetsOf j js ps)))))
+
+    go : (b : Bool) → eqb i j ≡ b → k < length (own b ++ targetsOf j js ps) → ((n : ℕ) → n < length (targetsOf j js ps) → TargetOf j js ps (getD (targetsOf j js ps) n 0))
+        → TargetOf j (i ∷ js) (p ∷ ps) (getD (own b ++ targetsOf j js ps) k 0)
+    go true q m r = here q r (decLt k (length (p .targets))) m
+    go false q m r = after (getD (targetsOf j js ps) k 0) (r k m)
+
+-- what holds of the class of the targets with any normal form holds of each class of sources
+pub all-sources : (Q : Class → Type 0) (os : List Node) (js : List ℕ) (ps : List Mapped) → ((j : ℕ) → Q (classFrom os (targetsOf j js ps))) → (n : ℕ) → All Q (sourceClasses os js ps n)
+unfolding sourceClasses
+all-sources Q os js ps h zero = λ i l. absurd (omega arith)
+all-sources Q os js ps h (suc n) =
+    all-append Q (sourceClasses os js ps n) (if fresh js n then classFrom os (targetsOf (getD js n 0) js ps) ∷ [] else []) (all-sources Q os js ps h n) (go (fresh js n))
+  where
+    go : (b : Bool) → All Q (if b then classFrom os (targetsOf (getD js n 0) js ps) ∷ [] else [])
+    go true zero l = h (getD js n 0)
+    go true (suc i) l = absurd (omega arith)
+    go false i l = absurd (omega arith)
+
+-- ---- rows
+
+module _ {A : Type 0} (ns : List Node) (cs : List Class) (ps : List Mapped) (s : Sound ns) (g : Good ns cs) (o : Over ns ps)
+    (ks : List (Option ℕ)) (js : List ℕ) (os : List Node) (placed-is : projectedNumbers ns cs ps ≡ placed (ks, js) os)
+    (m : Meaning A) (row out : Row A) (agree : MembersAgree ns cs m row) (targets : TargetsAgree ns ps m row out) where
+  -- what was placed
+  abbrev numbers : NumbersPlaced ns cs ps ks js os
+  numbers = numbers-placed ns cs ps s g o ks js os placed-is
+
+  -- the members of each projected class agree on the output row
+  projected-agrees : All (Within (Same os m out)) (projectedClasses os cs ks)
+  projected-agrees i l x y p q =
+      let b : i < length cs = omega (arith, length-projected os cs ks) in
+      let e = member x b p in
+      let f = member y b q in
+      valued x (e .0) b (e .1) (e .2) ∙ agree i (e .0) (f .0) b (e .1) (f .1) ∙ sym (valued y (f .0) b (f .1) (f .2))
+    where
+      T : ℕ → ℕ → Type 0
+      T x e = projection ns cs ps e ≡ some (expressionAt os x)
+
+      answered : (j k : ℕ) → j < length (flat cs) → getD ks j none ≡ some k → T k (getD (flat cs) j 0)
+      answered j k b q =
+          let x = projection ns cs ps (getD (flat cs) j 0) in
+          let a = answers-kept (numbers .later) x (getD ks j none) (numbers .projected .answers j b) in
+          answers-some os x (getD ks j none) a k q .1
+
+      member : (x : ℕ) → i < length cs → among x (classAt (projectedClasses os cs ks) i .members) ≡ true → (e : ℕ) × (among e (classAt cs i .members) ≡ true) × T x e
+      member x b p = projected-member T os cs ks answered i x b p
+
+      valued : (x e : ℕ) → i < length cs → among e (classAt cs i .members) ≡ true → T x e → value (expressionAt os x) m out ≡ value (expressionAt ns e) m row
+      valued x e b p t = projection-value ns cs ps s o m row out agree targets e (g .inside e (class-flat cs e i b p)) (expressionAt os x) t
+
+  -- so do the targets of the sources with one normal form
+  targets-agree : (j : ℕ) → Within (Same os m out) (classFrom os (targetsOf j js ps))
+  targets-agree j x y p q = at x p ∙ sym (at y q)
+    where
+      valued : (x : ℕ) → TargetOf j js ps x → value (expressionAt os x) m out ≡ value (expressionAt os j) m row
+      valued x t =
+          let i = t .place in
+          let k = t .target in
+          ap (λ (e : ℕ). value (expressionAt os e) m out) (sym (t .is))
+          ∙ value-kept (numbers .extends) (getD (mappedAt ps i .targets) k 0) (target-inside ns ps o i (t .below) k (t .inside)) m out
+          ∙ targets i k (t .below) (t .inside)
+          ∙ sym (normal-value ns cs m row s g agree (expressionAt ns (mappedAt ps i .source)))
+          ∙ sym (ap (λ (z : Expression). value z m row) (numbers .is i (t .below)))
+          ∙ ap (λ (e : ℕ). value (expressionAt os e) m row) (t .form)
+
+      at : (x : ℕ) → among x (classFrom os (targetsOf j js ps) .members) ≡ true → value (expressionAt os x) m out ≡ value (expressionAt os j) m row
+      at x p =
+          let f = from-place os (targetsOf j js ps) x p in
+          valued x (subst (TargetOf j js ps) (f .2) (targets-place j js ps (f .0) (f .1)))
+
+  -- so do the members of each class that reaches `new`
+  pub list-agrees : MembersAgree os (projectedList os cs ps ks js) m out
+  unfolding projectedList
+  list-agrees i a b l p q =
+      all-telling (Within (Same os m out)) (projectedClasses os cs ks ++ sourceClasses os js ps (length js))
+      (all-append (Within (Same os m out)) (projectedClasses os cs ks) (sourceClasses os js ps (length js)) projected-agrees (all-sources (Within (Same os m out)) os js ps targets-agree (length js)))
+      i l a b p q
+
+  -- and those of each class of the projected group
+  pub before-agrees : MembersAgree os (beforeConstants os cs ps ks js) m out
+  before-agrees = new-agrees os (projectedList os cs ps ks js) m out list-agrees
