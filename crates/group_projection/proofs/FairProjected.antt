@@ -20,20 +20,24 @@ use Rattle.classes.specs.Inner.{Coded}
 use Rattle.classes.specs.declared.Group.{Group}
 use Rattle.classes.specs.declared.Changed.{Changed}
 use Rattle.classes.proofs.Places.{All, length-flat}
-use Rattle.classes.proofs.Codec.{at-padded, built-limit, built-classes, built-coded, members-is, used-is}
+use Rattle.classes.proofs.Codec.{at-padded, built-classes, members-is, used-is}
+use Rattle.conditions.proofs.ConstantLaws.{fits-both}
 use Rattle.merging.specs.Extending.{classFrom, isTrivial}
 use Rattle.merging.specs.Merging.{fromClasses}
 use Rattle.merging.specs.Inner.{Fair, AllBelow}
+use Rattle.merging.proofs.ListCounts.{fits-few, fits-small}
 use Rattle.merging.proofs.Smaller.{from-few, from-small}
 use Rattle.merging.proofs.Reaching.{Sane, sane-fair, from-good, sane-from, all-append}
-use Rattle.mappings.specs.Mapping.{Mapped}
-use Rattle.mappings.specs.Layout.{decode as mapping, Checked}
+use Rattle.mappings.specs.Mapping.{Mapped, mappedAt}
+use Rattle.mappings.specs.Layout.{placeIn, decode as mapping, Checked}
 use Rattle.mappings.specs.declared.Mapping.{Mapping}
+use Rattle.mappings.proofs.Targets.{targets-below, decode-length, decode-at}
 use Rattle.projection.specs.Inner.{answerOf, answersIn}
+use Rattle.projection.proofs.TableLaws.{none-some}
 use Rattle.group_projection.specs.Group.{there, projectedClasses, targetsOf, sourceClasses, telling, projectedList, newConstants, constantsSaid, projectedGroup}
 use Rattle.group_projection.specs.Inner.{listed, madeOrNone, Made, Entries}
-use Rattle.group_projection.proofs.SourcePlaces.{noSource, readIn, read-targets, length-mapping, mapping-at, targets-below}
-use Rattle.group_projection.proofs.MadeGroups.{fits-few, fits-small, few-fits, Within, within-made, listed-done, listed-refused}
+use Rattle.group_projection.proofs.ListedLaws.{Lists, lists-coded, lists-classes, lists-list, answer-lists, answer-over}
+use Rattle.group_projection.proofs.MadeGroups.{Within, within-made}
 
 -- ---- numbers below a bound
 
@@ -43,11 +47,7 @@ ThereBelow n ks = (k i : ℕ) → getD ks k none ≡ some i → i < n
 
 -- every target is below n
 abbrev pub TargetsBelow : ℕ → List Mapped → Type 0
-TargetsBelow n ps = (i : ℕ) → i < length ps → AllBelow n (getD ps i noSource .targets)
-
--- there is none where there is none
-none-some : {P : Type 0} (i : ℕ) → _≡_ {A = Option ℕ} none (some i) → P
-none-some i e = absurd (let z : _≡_ {A = ℕ} 0 1 = cc in omega arith)
+TargetsBelow n ps = (i : ℕ) → i < length ps → AllBelow n (mappedAt ps i .targets)
 
 -- two lists of such numbers, one after the other
 below-both : (n : ℕ) (xs ys : List ℕ) → AllBelow n xs → AllBelow n ys → AllBelow n (xs ++ ys)
@@ -69,7 +69,7 @@ there-take n m ks h k i e = go (decLt k m)
   where
     go : Dec (k < m) → i < n
     go (yes l) = h k i (sym (getD-take m ks k none l) ∙ e)
-    go (no l) = none-some i (sym (List·getD-eq-default (take m ks) none {n = k} (omega (arith, length-take m ks))) ∙ e)
+    go (no l) = absurd (none-some (List·getD-eq-default (take m ks) none {n = k} (omega (arith, length-take m ks))) e)
 
 -- those of the rest
 there-drop : (n m : ℕ) (ks : List (Option ℕ)) → ThereBelow n ks → ThereBelow n (drop m ks)
@@ -87,6 +87,18 @@ targets-of-below n j (i ∷ js) (p ∷ ps) h =
     go true = h 0 (omega arith)
     go false = λ k l. absurd (omega arith)
 
+-- what holds of the class of the targets with any normal form holds of each class of sources
+pub all-sources : (Q : Class → Type 0) (ns : List Node) (js : List ℕ) (ps : List Mapped) → ((j : ℕ) → Q (classFrom ns (targetsOf j js ps))) → (n : ℕ) → All Q (sourceClasses ns js ps n)
+unfolding sourceClasses
+all-sources Q ns js ps h zero = λ i l. absurd (omega arith)
+all-sources Q ns js ps h (suc n) =
+    all-append Q (sourceClasses ns js ps n) (if fresh js n then classFrom ns (targetsOf (getD js n 0) js ps) ∷ [] else []) (all-sources Q ns js ps h n) (go (fresh js n))
+  where
+    go : (b : Bool) → All Q (if b then classFrom ns (targetsOf (getD js n 0) js ps) ∷ [] else [])
+    go true zero l = h (getD js n 0)
+    go true (suc i) l = absurd (omega arith)
+    go false i l = absurd (omega arith)
+
 -- ---- the list is fair
 
 module _ (ns : List Node) where
@@ -102,16 +114,7 @@ module _ (ns : List Node) where
 
   -- for each normal form
   sane-sources : (js : List ℕ) (ps : List Mapped) → TargetsBelow (length ns) ps → (n : ℕ) → All (Sane ns) (sourceClasses ns js ps n)
-  unfolding sourceClasses
-  sane-sources js ps h zero = λ i l. absurd (omega arith)
-  sane-sources js ps h (suc n) =
-      all-append (Sane ns) (sourceClasses ns js ps n) (if fresh js n then classFrom ns (targetsOf (getD js n 0) js ps) ∷ [] else []) (sane-sources js ps h n)
-      (go (fresh js n))
-    where
-      go : (b : Bool) → All (Sane ns) (if b then classFrom ns (targetsOf (getD js n 0) js ps) ∷ [] else [])
-      go true zero l = sane-from ns (targetsOf (getD js n 0) js ps) (targets-of-below (length ns) (getD js n 0) js ps h)
-      go true (suc i) l = absurd (omega arith)
-      go false i l = absurd (omega arith)
+  sane-sources js ps h = all-sources (Sane ns) ns js ps (λ j. sane-from ns (targetsOf j js ps) (targets-of-below (length ns) j js ps h))
 
 -- what holds for every class holds for every class that says something
 pub all-telling : (Q : Class → Type 0) (cs : List Class) → All Q cs → All Q (telling cs)
@@ -138,29 +141,31 @@ list-fair-projected ns cs ps ks js h t =
 -- what an entry below n + 2 says is below n
 answer-below : (n x i : ℕ) → x < n + 2 → answerOf x ≡ some i → i < n
 unfolding answerOf
-answer-below n zero i l e = none-some i e
-answer-below n (suc zero) i l e = none-some i e
+answer-below n zero i l e = absurd (none-some refl e)
+answer-below n (suc zero) i l e = absurd (none-some refl e)
 answer-below n (suc (suc x)) i l e = let y : x ≡ i = cc e in omega arith
 
 -- the answers of a table for expressions
 answers-below : (n : ℕ) (table es : List ℕ) → ((k : ℕ) → k < length es → getD table (getD es k 0) 0 < n + 2) → ThereBelow n (answersIn table es)
-answers-below n table [] h k i e = none-some i e
+answers-below n table [] h k i e = absurd (none-some refl e)
 answers-below n table (x ∷ es) h zero i e = answer-below n (getD table x 0) i (h 0 (omega arith)) e
 answers-below n table (x ∷ es) h (suc k) i e = answers-below n table es (λ j l. h (suc j) (omega arith)) k i e
 
--- those for the members of a group
+-- a member in the table is the one of the classes
+pub member-at : (g : Group) → Coded g → (k : ℕ) → getD (g .members) k 0 ≡ getD (flat (decode g)) k 0
+member-at g c k = ap (λ (l : List ℕ). getD l k 0) (members-is g c) ∙ at-padded 256 (flat (decode g)) k
+
+-- the answers for the members of a group
 pub members-answers : (n : ℕ) (table : List ℕ) (g : Group) → Coded g → Entries n table (g .members) (g .used) → ThereBelow n (answersIn table (flat (decode g)))
 members-answers n table g c h =
     answers-below n table (flat (decode g))
-    (λ k l.
-    let e : getD (g .members) k 0 ≡ getD (flat (decode g)) k 0 = ap (λ (xs : List ℕ). getD xs k 0) (members-is g c) ∙ at-padded 256 (flat (decode g)) k in
-    subst (λ (x : ℕ). getD table x 0 < n + 2) e (h k (omega (arith, length-flat (decode g), used-is g c)) .1))
+    (λ k l. subst (λ (x : ℕ). getD table x 0 < n + 2) (member-at g c k) (h k (omega (arith, length-flat (decode g), used-is g c)) .1))
 
 -- the targets of a checked mapping
 pub checked-targets : (n : ℕ) (m : Mapping) → Checked n m → TargetsBelow n (mapping m)
 checked-targets n m c i l =
-    let b : i < m .count = omega (arith, length-mapping m) in
-    subst (λ (p : Mapped). AllBelow n (p .targets)) (sym (mapping-at m i b)) (targets-below (readIn m i) n (read-targets n m c i b))
+    let b : i < m .count = omega (arith, decode-length m) in
+    subst (λ (p : Mapped). AllBelow n (p .targets)) (sym (decode-at m i (record { source = 0; targets = [] }) b)) (targets-below (placeIn m i) n (λ k. c .target-below i k b))
 
 -- ---- the group
 
@@ -168,7 +173,7 @@ checked-targets n m c i l =
 pub from-within : (ns : List Node) (cs : List Class) → Fair ns cs → fits 256 cs ≡ true → Within ns (fromClasses cs)
 from-within ns cs f e =
     record {
-      room = few-fits (fromClasses cs) (omega (arith, from-few cs, fits-few cs e)) (omega (arith, from-small cs, fits-small cs e));
+      room = fits-both 256 (fromClasses cs) (omega (arith, from-small cs, fits-small cs e)) (omega (arith, from-few cs, fits-few cs e));
       good = from-good ns cs f;
     }
 
@@ -177,38 +182,34 @@ module _ (ns : List Node) (cs : List Class) (ps : List Mapped) (ks : List (Optio
   -- it exceeds the bounds
   pub projected-over : (list .number ≡ 0 → ⊥) → (r : Changed) → r ≡ noGroup 4 → r ≡ madeOrNone (projectedGroup ns cs ps ks js)
   unfolding madeOrNone projectedGroup
-  projected-over n r e = e ∙ rw (listed-refused (projectedList ns cs ps ks js) list p n)
+  projected-over n r e = e ∙ rw (answer-over list (projectedList ns cs ps ks js) p n)
 
   module _ (z : list .number ≡ 0) where
     -- the list fits
-    list-fits : fits 256 (projectedList ns cs ps ks js) ≡ true
-    list-fits = listed-done (projectedList ns cs ps ks js) list p z .0
-
-    -- and is laid out
-    list-is : list .group ≡ encode 256 (projectedList ns cs ps ks js)
-    list-is = listed-done (projectedList ns cs ps ks js) list p z .1
+    lists : Lists (list .group) (projectedList ns cs ps ks js)
+    lists = answer-lists list (projectedList ns cs ps ks js) p z
 
     -- so it can reach `new`
     pub list-coded : Coded (list .group)
-    list-coded = built-coded 256 (projectedList ns cs ps ks js) (list .group) list-is (fits-few (projectedList ns cs ps ks js) list-fits) (fits-small (projectedList ns cs ps ks js) list-fits)
+    list-coded = lists-coded (list .group) (projectedList ns cs ps ks js) lists
 
     module _ (out : Group) (q : out ≡ encode (list .group .limit) (fromClasses (decode (list .group)))) where
       -- what comes of it
       out-is : out ≡ encode 256 (fromClasses (projectedList ns cs ps ks js))
       out-is =
           q
-          ∙ ap (λ (n : ℕ). encode n (fromClasses (decode (list .group)))) (built-limit 256 (projectedList ns cs ps ks js) (list .group) list-is)
-          ∙ ap (λ (ds : List Class). encode 256 (fromClasses ds)) (built-classes 256 (projectedList ns cs ps ks js) (list .group) list-is)
+          ∙ ap (λ (n : ℕ). encode n (fromClasses (decode (list .group)))) (lists-list (list .group) (projectedList ns cs ps ks js) lists .limit)
+          ∙ ap (λ (ds : List Class). encode 256 (fromClasses ds)) (lists-classes (list .group) (projectedList ns cs ps ks js) lists)
 
       -- is a group
       pub projected-made : (n : ℕ) → n ≡ length ns → ThereBelow n ks → TargetsBelow n ps → Made ns out
       projected-made n e h t =
           within-made ns out (fromClasses (projectedList ns cs ps ks js)) out-is
-          (from-within ns (projectedList ns cs ps ks js) (list-fair-projected ns cs ps ks js (subst (λ (k : ℕ). ThereBelow k ks) e h) (subst (λ (k : ℕ). TargetsBelow k ps) e t)) list-fits)
+          (from-within ns (projectedList ns cs ps ks js) (list-fair-projected ns cs ps ks js (subst (λ (k : ℕ). ThereBelow k ks) e h) (subst (λ (k : ℕ). TargetsBelow k ps) e t)) (lists .room))
 
       -- and then the constants are said
       pub projected-done : (r : Changed) → r ≡ madeOrNone (constantsSaid true ns (newConstants ns cs ps) (decode out)) → r ≡ madeOrNone (projectedGroup ns cs ps ks js)
       unfolding projectedGroup
       projected-done r e =
           e ∙ ap (λ (ds : List Class). madeOrNone (constantsSaid true ns (newConstants ns cs ps) ds)) (built-classes 256 (fromClasses (projectedList ns cs ps ks js)) out out-is)
-          ∙ rw list-fits
+          ∙ rw (lists .room)

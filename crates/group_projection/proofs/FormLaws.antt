@@ -24,7 +24,8 @@ use Rattle.mappings.specs.Mapping.{sources}
 use Rattle.mappings.specs.Layout.{decode as mapping}
 use Rattle.mappings.specs.declared.Mapping.{Mapping}
 use Rattle.group_projection.specs.Inner.{FormsReady, Formed}
-use Rattle.group_projection.proofs.SourcePlaces.{readIn, length-sources, source-at}
+use Rattle.mappings.proofs.Targets.{decode-sources}
+use Rattle.mappings.proofs.PlaceReads.{readIn, read-source}
 
 -- k sources are done: their normal forms are in the arena, their numbers stand first in the table, and the rest is to be added
 pub record FormedTo (old : ℕ) (firsts s : List ℕ) (m : Mapping) (t memo numbers : List ℕ) (k : ℕ) : Type 0 where
@@ -64,7 +65,7 @@ module _ (old : ℕ) (firsts s : List ℕ) (m : Mapping) (d : FormsReady old fir
 
     -- it is an old node
     expr-below : expr < old
-    expr-below = omega (arith, source-at m k l, d .below k (omega (arith, length-sources m)))
+    expr-below = omega (arith, read-source m k l, d .below k (omega (arith, decode-sources m)))
 
     -- it can be walked
     pub form-ready : Ready old firsts t memo expr
@@ -83,7 +84,7 @@ module _ (old : ℕ) (firsts s : List ℕ) (m : Mapping) (d : FormsReady old fir
 
     -- the rest begins with it
     rest : drop k exprs ≡ expr ∷ drop (k + 1) exprs
-    rest = drop-cons exprs k 0 (omega (arith, length-sources m)) ∙ rw (add-one, source-at m k l)
+    rest = drop-cons exprs k 0 (omega (arith, decode-sources m)) ∙ rw (add-one, read-source m k l)
 
     -- what is added after it
     abbrev after : ℕ → List Node → Placed (List ℕ)
@@ -136,7 +137,7 @@ module _ (old : ℕ) (firsts s : List ℕ) (m : Mapping) (d : FormsReady old fir
   pub forms-end : (t memo numbers : List ℕ) (k : ℕ) → FormedTo old firsts s m t memo numbers k → k ≡ m .count → Formed old firsts s t exprs true (take (m .count) numbers)
   unfolding prefixed addExpressions mapAll those
   forms-end t memo numbers k h e =
-      let c : k ≡ length exprs = e ∙ sym (length-sources m) in
+      let c : k ≡ length exprs = e ∙ sym (decode-sources m) in
       let r : drop k exprs ≡ [] = rw c (drop-length exprs) in
       let a : addExpressions (rewrittenFrom 0) (nodes s) ≡ placed (take k numbers) (nodes t) = h .goes ∙ rw (r, append-nil) in
       record {

@@ -3,7 +3,6 @@ pub mod ListedLaws
 pub mod OneLaws
 pub mod ProjectedParts
 pub mod SourceLaws
-pub mod SourcePlaces
 pub mod MadeGroups
 pub mod ConstantLaws
 pub mod FormLaws

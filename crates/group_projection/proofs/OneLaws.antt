@@ -39,19 +39,14 @@ module _ (ns : List Node) where
   unfolding pushed extended merged missing single
   pushed-length c e = length-append (c .members) (without (c .members) (e ∷ []))
 
-  -- no member goes, and each expression brings at most one
-  pub pushed-most : (c : Class) (es : List ℕ) → length (c .members) ≤ length (pushedAll ns c es .members)
+  -- no member goes
+  pushed-most : (c : Class) (es : List ℕ) → length (c .members) ≤ length (pushedAll ns c es .members)
   unfolding pushedAll
   pushed-most c [] = omega arith
   pushed-most c (e ∷ es) = omega (arith, pushed-most (pushed ns c e) es, pushed-length c e)
 
-  pub pushed-few : (c : Class) (es : List ℕ) → length (pushedAll ns c es .members) ≤ length (c .members) + length es
-  unfolding pushedAll
-  pushed-few c [] = omega arith
-  pushed-few c (e ∷ es) = omega (arith, pushed-few (pushed ns c e) es, pushed-length c e, without-length (c .members) (e ∷ []))
-
   -- a class that is too large stays so
-  pub pushed-over : (c : Class) (es : List ℕ) → fits 256 (c ∷ []) ≡ false → fits 256 (pushedAll ns c es ∷ []) ≡ false
+  pushed-over : (c : Class) (es : List ℕ) → fits 256 (c ∷ []) ≡ false → fits 256 (pushedAll ns c es ∷ []) ≡ false
   unfolding total
   pushed-over c es f = over-larger (c ∷ []) (pushedAll ns c es ∷ []) (omega (arith, pushed-most c es)) (omega arith) f
 

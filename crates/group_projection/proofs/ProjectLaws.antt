@@ -26,7 +26,7 @@ use Rattle.classes.specs.Inner.{Coded, Held}
 use Rattle.classes.specs.declared.Group.{Group}
 use Rattle.classes.specs.declared.Changed.{Changed}
 use Rattle.classes.proofs.Places.{getD-among, length-flat}
-use Rattle.classes.proofs.Codec.{at-padded, used-is, members-is}
+use Rattle.classes.proofs.Codec.{used-is, members-is}
 use Rattle.classes.proofs.Judging.{handedBack, refusal-is}
 use Rattle.normal.specs.Normal.{normals}
 use Rattle.normal.specs.Inner.{Firsts, rewriting}
@@ -39,20 +39,17 @@ use Rattle.mappings.specs.Lent.{mappingLent}
 use Rattle.mappings.specs.Layout.{decode as mapping, Checked}
 use Rattle.mappings.specs.Calls.{projectNumber}
 use Rattle.mappings.specs.declared.Mapping.{Mapping}
+use Rattle.mappings.proofs.Targets.{decode-sources, decode-source}
 use Rattle.projection.specs.Projecting.{projections, projectAll}
 use Rattle.projection.specs.Inner.{Says, Tabled, answersIn, toldAnswers, AddedAll, ReadyAll, WalkedAll}
 use Rattle.projection.proofs.Sources.{checked-wider}
 use Rattle.projection.proofs.Written.{list-ready}
-use Rattle.group_projection.proofs.SourcePlaces.{read-below, length-sources, source-at}
 use Rattle.group_projection.specs.Group.{projectedNumbers, projectedGroup}
 use Rattle.group_projection.specs.Calls.{projectRefused, projectMade, projectPlaced, projectBy, projectAnswer}
 use Rattle.group_projection.specs.Inner.{madeOrNone, Entries, FormsReady, Formed, ProjectedOver}
+use Rattle.group_projection.proofs.FairProjected.{member-at}
 
 -- ---- what is given
-
--- a member in the table is the one of the classes
-member-at : (g : Group) → Coded g → (k : ℕ) → getD (g .members) k 0 ≡ getD (flat (decode g)) k 0
-member-at g c k = ap (λ (l : List ℕ). getD l k 0) (members-is g c) ∙ at-padded 256 (flat (decode g)) k
 
 -- the used places of the table hold the members of all classes
 pub members-flat : (g : Group) → Coded g → take (g .used) (g .members) ≡ flat (decode g)
@@ -64,7 +61,7 @@ members-flat g c =
 
 -- the sources of a checked mapping are in the arena
 sources-below : (n : ℕ) (m : Mapping) → Checked n m → (k : ℕ) → k < length (sources (mapping m)) → getD (sources (mapping m)) k 0 < n
-sources-below n m c k l = let b : k < m .count = omega (arith, length-sources m) in omega (arith, source-at m k b, read-below n m c k b)
+sources-below n m c k l = let b : k < m .count = omega (arith, decode-sources m) in omega (arith, decode-source m k b, c .source-below k b)
 
 -- a group is checked also over the grown arena
 held-extended : {ns ms : List Node} (g : Group) → Extends ns ms → Held ns g → Held ms g

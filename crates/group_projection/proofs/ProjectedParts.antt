@@ -1,6 +1,6 @@
 -- The classes of the members' projections, part by part: member by member, and class by class.
 use Prim.Native.Nat.{ℕ, zero, suc, _+_, _-_, _<_, _≤_}
-use mathlib.Core.List.{List, [], _∷_, _++_, map, map-append}
+use mathlib.Core.List.{List, [], _∷_, _++_, map}
 use mathlib.Core.Option.{Option, none, some}
 use mathlib.Core.Path.{_≡_, refl, sym, ap, ap₂, _∙_, subst}
 use native.Mathlib.Numerals.{add-one}
@@ -21,11 +21,13 @@ use Rattle.classes.proofs.Places.{nothing, length-flat}
 use Rattle.classes.proofs.Codec.{length-decode, used-is, members-is, total-take, total-front}
 use Rattle.conditions.proofs.ConstantLaws.{fits-both}
 use Rattle.merging.specs.Extending.{missing, pushedAll, classFrom}
+use Rattle.merging.proofs.PushedClass.{class-few}
 use Rattle.projection.specs.Inner.{answerOf, answersIn}
+use Rattle.projection.proofs.ListLaws.{answers-more}
 use Rattle.group_projection.specs.Group.{there, projectedClasses, telling}
 use Rattle.group_projection.specs.Inner.{listed, One, List256, Entries}
 use Rattle.group_projection.proofs.ListedLaws.{Lists, lists-as, lists-one, lists-list, lists-classes, one-lists, one-used, listed-over, over-more, answer-lists, answer-over, telling-append}
-use Rattle.group_projection.proofs.OneLaws.{pushed-append, pushed-one, pushed-few, push-is}
+use Rattle.group_projection.proofs.OneLaws.{pushed-append, pushed-one, push-is}
 
 -- ---- an entry of the table
 
@@ -84,9 +86,8 @@ MembersTo ns entries es k one = one ≡ encode 256 (classOfMembers ns entries (t
 module _ (ns : List Node) (entries es : List ℕ) where
   -- it has no more members
   members-few : (k : ℕ) → k ≤ length es → length (classOfMembers ns entries (take k es) .members) ≤ k
-  unfolding classFrom
   members-few k l =
-      omega (arith, pushed-few ns nothing (there (answersIn entries (take k es))), there-few (answersIn entries (take k es)), length-map (take k es) (λ (e : ℕ). answerOf (getD entries e 0)), length-take-le k es l)
+      omega (arith, class-few ns (there (answersIn entries (take k es))), there-few (answersIn entries (take k es)), length-map (take k es) (λ (e : ℕ). answerOf (getD entries e 0)), length-take-le k es l)
 
   -- none yet
   pub members-begin : (one : Group) → one ≡ encode 256 (record { members = []; constant = constantFrom 0 0 } ∷ []) → MembersTo ns entries es 0 one
@@ -117,9 +118,8 @@ module _ (ns : List Node) (entries es : List ℕ) where
     unfolding classFrom
     members-more e x r p =
         let f : ℕ → Option ℕ = λ e. answerOf (getD entries e 0) in
-        let t : take (k + 1) es ≡ take k es ++ (e ∷ []) = rw (add-one k) (take-suc es k 0 l) ∙ ap (λ (y : ℕ). take k es ++ (y ∷ [])) (sym x) in
         let a : there (answersIn entries (take (k + 1) es)) ≡ there (answersIn entries (take k es)) ++ there (f e ∷ []) =
-        ap (λ (xs : List ℕ). there (answersIn entries xs)) t ∙ ap there (map-append f (take k es) (e ∷ [])) ∙ there-append (answersIn entries (take k es)) (f e ∷ []) in
+        ap there (answers-more entries es k l ∙ ap (λ (y : ℕ). answersIn entries (take k es) ++ (f y ∷ [])) (sym x)) ∙ there-append (answersIn entries (take k es)) (f e ∷ []) in
         p ∙ ap (λ (c : Class). encode 256 (pushedAll ns c (there (f e ∷ [])) ∷ [])) members-class
         ∙ ap (λ (c : Class). encode 256 (c ∷ [])) (sym (ap (λ (xs : List ℕ). pushedAll ns nothing xs) a ∙ pushed-append ns nothing (there (answersIn entries (take k es))) (there (f e ∷ []))))
 

@@ -8,7 +8,7 @@ use native.Mathlib.Numerals.{add-one}
 use native.Mathlib.Omega.{arith}
 use borrow.Author.Tests.{ne-eqb, eq-eqb}
 use lib.Dec.{eqb}
-use lib.ListN.{length, getD, take, drop, take-append-drop, List·getD-eq-default}
+use lib.ListN.{length, getD, take, drop, take-append-drop}
 use lib.Seq.{take-suc, take-all, drop-cons, length-take-le, getD-take}
 use Rattle.laws.specs.Tests.{if_then_else_, each}
 use Rattle.laws.specs.Lists.{table}
@@ -29,9 +29,11 @@ use Rattle.conditions.proofs.ConstantLaws.{fits-both}
 use Rattle.merging.specs.Extending.{pushed, pushedAll, classFrom, isTrivial}
 use Rattle.merging.specs.Calls.{madeGroup}
 use Rattle.mappings.specs.Mapping.{Mapped}
-use Rattle.mappings.specs.Layout.{unused, placeIn, mappedOf, decode as mapping, Checked}
+use Rattle.mappings.specs.Layout.{mappedOf, decode as mapping}
 use Rattle.mappings.specs.declared.Source.{Source}
 use Rattle.mappings.specs.declared.Mapping.{Mapping}
+use Rattle.mappings.proofs.Targets.{decode-length}
+use Rattle.mappings.proofs.PlaceReads.{readIn, read-at}
 use Rattle.projection.specs.Inner.{answersIn}
 use Rattle.group_projection.specs.Group.{targetsOf, sourceClasses, projectedClasses, projectedList, telling}
 use Rattle.group_projection.specs.Inner.{listed, One, List256}
@@ -138,42 +140,6 @@ targets-next j i js ps d a b =
 targets-rest : (j i : ℕ) (js : List ℕ) (ps : List Mapped) → targetsOf j js ps ≡ targetsOf j (take i js) ps ++ targetsOf j (drop i js) (drop (length (take i js)) ps)
 targets-rest j i js ps = ap (λ (xs : List ℕ). targetsOf j xs ps) (sym (take-append-drop i js)) ∙ targets-append j (take i js) (drop i js) ps
 
--- an element does not depend on what stands past the end
-getD-any : (l : List Source) (i : ℕ) (d e : Source) → i < length l → getD l i d ≡ getD l i e
-getD-any [] i d e b = absurd (omega arith)
-getD-any (x ∷ l) zero d e b = refl
-getD-any (x ∷ l) (suc i) d e b = getD-any l i d e (omega arith)
-
--- the places of a mapping
-module _ (n : ℕ) (m : Mapping) (v : Checked n m) (i : ℕ) (l : i < m .count) where
-  -- it has as many as it says
-  place-inside : i < length (m .list)
-  place-inside = go (decLt i (length (m .list)))
-    where
-      go : Dec (i < length (m .list)) → i < length (m .list)
-      go (yes b) = b
-      go (no b) = absurd (omega (arith, v .bounded .some-target i l, ap (λ (r : Source). r .size) (List·getD-eq-default (m .list) unused {n = i} (omega arith))))
-
-  -- whatever a read past the end would give
-  place-is : (d : Source) → getD (m .list) i d ≡ placeIn m i
-  place-is d = getD-any (m .list) i d unused place-inside
-
-  -- its targets are few, and nodes
-  pub place-asks : (d : Source) → (getD (m .list) i d .size ≤ 8) × ((k : ℕ) → k < getD (m .list) i d .size → getD (getD (m .list) i d .targets) k 0 < n)
-  place-asks d =
-      subst (λ (r : Source). (r .size ≤ 8) × ((k : ℕ) → k < r .size → getD (r .targets) k 0 < n)) (sym (place-is d))
-      (v .bounded .few-targets i l, λ k b. v .target-below i k l b)
-
-  -- it is the source of the mapping
-  place-mapped : (d : Source) (p : Mapped) → mappedOf (getD (m .list) i d) ≡ getD (mapping m) i p
-  unfolding mapping
-  place-mapped d p = ap mappedOf (place-is d) ∙ sym (getD-table (λ i. mappedOf (placeIn m i)) (m .count) i p l)
-
--- a mapping has as many sources as it says
-length-mapping : (m : Mapping) → length (mapping m) ≡ m .count
-unfolding mapping
-length-mapping m = length-table (λ i. mappedOf (placeIn m i)) (m .count)
-
 -- the class of the targets of the first i sources with a normal form
 abbrev pub classOfSources : List Node → Mapping → List ℕ → ℕ → ℕ → Class
 classOfSources ns m js form i = classFrom ns (targetsOf form (take i js) (mapping m))
@@ -193,19 +159,19 @@ module _ (ns : List Node) (m : Mapping) (js : List ℕ) (form : ℕ) where
   sources-end i one l v =
       lists-as one (classOfSources ns m js form i ∷ []) (classOfForm ns m js form ∷ []) (ap (λ (xs : List ℕ). classFrom ns (targetsOf form xs (mapping m)) ∷ []) (take-all i js l)) v
 
-  module _ (n : ℕ) (v : Checked n m) (len : length js ≡ m .count) (i : ℕ) (l : i < m .count) (one : Group) (o : Lists one (classOfSources ns m js form i ∷ [])) (d : Source) (same : Bool) (t : same ≡ eqb (getD js i 0) form)
-      (r : Changed) (q : r ≡ listed (pushedAll ns (classAt (decode one) 0) (targetsIf same (mappedOf (getD (m .list) i d))) ∷ [])) where
+  module _ (len : length js ≡ m .count) (i : ℕ) (l : i < m .count) (one : Group) (o : Lists one (classOfSources ns m js form i ∷ [])) (same : Bool) (t : same ≡ eqb (getD js i 0) form)
+      (r : Changed) (q : r ≡ listed (pushedAll ns (classAt (decode one) 0) (targetsIf same (mappedOf (readIn m i))) ∷ [])) where
     abbrev before : List ℕ
     before = targetsOf form (take i js) (mapping m)
 
     abbrev here : List ℕ
-    here = targetsIf same (mappedOf (getD (m .list) i d))
+    here = targetsIf same (mappedOf (readIn m i))
 
     source-next : before ++ here ≡ targetsOf form (take (i + 1) js) (mapping m)
     source-next =
         let p : Mapped = record { source = 0; targets = [] } in
-        let e : here ≡ targetsIf (eqb (getD js i 0) form) (getD (mapping m) i p) = ap₂ {C = List ℕ} (λ (b : Bool) (x : Mapped). targetsIf b x) t (place-mapped n m v i l d p) in
-        ap (λ (xs : List ℕ). before ++ xs) e ∙ sym (targets-next form i js (mapping m) p (omega arith) (omega (arith, length-mapping m)))
+        let e : here ≡ targetsIf (eqb (getD js i 0) form) (getD (mapping m) i p) = ap₂ {C = List ℕ} (λ (b : Bool) (x : Mapped). targetsIf b x) t (sym (read-at m i l p)) in
+        ap (λ (xs : List ℕ). before ++ xs) e ∙ sym (targets-next form i js (mapping m) p (omega arith) (omega (arith, decode-length m)))
 
     -- the next was pushed
     pub sources-more : r .number ≡ 0 → Lists (r .group) (classOfSources ns m js form (i + 1) ∷ [])

@@ -2,11 +2,11 @@
 use Prim.Native.Nat.{ℕ, _<_, _≤_}
 use mathlib.Core.Bool.{Bool, true, false, not, _&&_}
 use mathlib.Core.List.{[]}
-use mathlib.Core.Path.{_≡_, sym, ap, ap₂, _∙_, subst}
+use mathlib.Core.Path.{_≡_, sym, ap, ap₂, _∙_}
 use native.Mathlib.Omega.{arith}
 use borrow.Author.Tests.{ltb-true, lt-ltb, le-ltb, eq-eqb, ne-eqb}
 use lib.Dec.{eqb, ltb}
-use lib.ListN.{length, getD, List·getD-map}
+use lib.ListN.{getD}
 use Rattle.laws.specs.Tests.{each}
 use Rattle.laws.proofs.Booleans.{and-left, and-right, and-both, and-fails-left, and-fails-right}
 use Rattle.laws.proofs.Each.{each-cong, each-holds, each-fails}
@@ -15,8 +15,8 @@ use Rattle.mappings.specs.Mapping.{Mapped, sources, sourcesApart, mapped
 use Rattle.mappings.specs.Layout.{placeIn, mappedOf, decode}
 use Rattle.mappings.specs.declared.Source.{Source}
 use Rattle.mappings.specs.declared.Mapping.{Mapping}
-use Rattle.mappings.proofs.PlaceReads.{noPlace, read-is}
-use Rattle.mappings.proofs.Targets.{mapped-length, mapped-source, mapped-target, decode-length, decode-at}
+use Rattle.mappings.proofs.Targets.{mapped-length, mapped-source, mapped-target, decode-length, decode-at, decode-source}
+use Rattle.mappings.proofs.PlaceReads.{readIn, read-mapped, read-expr}
 
 -- target k of a source is below n
 abbrev pub TargetBelow : ℕ → Source → ℕ → Bool
@@ -66,37 +66,24 @@ module _ (m : Mapping) where
       ap (each (λ i. mappedBelow n (getD (decode m) i d))) (decode-length m)
       ∙ each-cong (λ i. mappedBelow n (getD (decode m) i d)) (SourceBelow n m) (m .count) (λ i l. ap (λ (p : Mapped). mappedBelow n p) (decode-at m i d l))
 
-  -- source i among the sources
-  source-at : (i : ℕ) → i < m .count → getD (sources (decode m)) i 0 ≡ placeIn m i .expr
-  unfolding sources
-  source-at i l =
-      let d : Mapped = record { source = 0; targets = [] } in
-      List·getD-map (λ (p : Mapped). p .source) (decode m) i d ∙ ap (λ (p : Mapped). p .source) (decode-at m i d l) ∙ mapped-source (placeIn m i)
-
   -- source k does not stand before its place
   pub fresh-of : (k : ℕ) → k < m .count → fresh (sources (decode m)) k ≡ each (Unlike m k) k
   unfolding fresh
   fresh-of k l =
       each-cong (λ i. not (eqb (getD (sources (decode m)) i 0) (getD (sources (decode m)) k 0))) (Unlike m k) k
-      (λ i b. ap₂ (λ (x y : ℕ). not (eqb x y)) (source-at i (omega arith)) (source-at k l))
+      (λ i b. ap₂ (λ (x y : ℕ). not (eqb x y)) (decode-source m i (omega arith)) (decode-source m k l))
 
   -- no source stands twice
   pub apart-of : sourcesApart (decode m) ≡ each (λ k. fresh (sources (decode m)) k) (m .count)
   unfolding sourcesApart
   apart-of = ap (each (λ k. fresh (sources (decode m)) k)) (decode-length m)
 
--- the tests of what the code reads
-module _ (m : Mapping) (z : length (m .list) ≡ 64) where
-  pub like-read : (k i : ℕ) → k < 64 → i < 64 → getD (m .list) i noPlace .expr ≡ getD (m .list) k noPlace .expr → Unlike m k i ≡ false
-  like-read k i a b e =
-      ap not (eq-eqb (placeIn m i .expr) (placeIn m k .expr) (ap (λ (r : Source). r .expr) (sym (read-is m z i b)) ∙ e ∙ ap (λ (r : Source). r .expr) (read-is m z k a)))
+  -- the tests of what the code reads
+  pub like-read : (k i : ℕ) → readIn m i .expr ≡ readIn m k .expr → Unlike m k i ≡ false
+  like-read k i e = ap not (eq-eqb (placeIn m i .expr) (placeIn m k .expr) (sym (read-expr m i) ∙ e ∙ read-expr m k))
 
-  pub unlike-read : (k i : ℕ) → k < 64 → i < 64 → (getD (m .list) i noPlace .expr ≡ getD (m .list) k noPlace .expr → ⊥) → Unlike m k i ≡ true
-  unlike-read k i a b n =
-      ap not (ne-eqb (placeIn m i .expr) (placeIn m k .expr) (λ e. n (ap (λ (r : Source). r .expr) (read-is m z i b) ∙ e ∙ ap (λ (r : Source). r .expr) (sym (read-is m z k a)))))
+  pub unlike-read : (k i : ℕ) → (readIn m i .expr ≡ readIn m k .expr → ⊥) → Unlike m k i ≡ true
+  unlike-read k i n = ap not (ne-eqb (placeIn m i .expr) (placeIn m k .expr) (λ e. n (read-expr m i ∙ e ∙ sym (read-expr m k))))
 
-  pub few-read : (i : ℕ) → i < 64 → placeIn m i .size ≤ 8 → getD (m .list) i noPlace .size ≤ 8
-  few-read i b l = subst (λ (r : Source). r .size ≤ 8) (sym (read-is m z i b)) l
-
-  pub below-read : (n i : ℕ) → i < 64 → (t : Bool) → mappedBelow n (mappedOf (getD (m .list) i noPlace)) ≡ t → SourceBelow n m i ≡ t
-  below-read n i b t e = subst (λ (r : Source). mappedBelow n (mappedOf r) ≡ t) (read-is m z i b) e
+  pub below-read : (n i : ℕ) (t : Bool) → mappedBelow n (mappedOf (readIn m i)) ≡ t → SourceBelow n m i ≡ t
+  below-read n i t e = ap (λ (p : Mapped). mappedBelow n p) (sym (read-mapped m i)) ∙ e

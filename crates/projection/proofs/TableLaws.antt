@@ -14,8 +14,8 @@ use Rattle.laws.specs.Tests.{if_then_else_, each}
 use Rattle.laws.proofs.Booleans.{true-not-false}
 use Rattle.laws.proofs.Each.{each-holds}
 use Rattle.arena.specs.Node.{Node, column, literal, operation, nodeAt, childNumbers}
-use Rattle.arena.specs.Expression.{Expression, Expressions, op, ∅, _▹_, expressionAt}
-use Rattle.arena.specs.Arena.{Allowed, Sound}
+use Rattle.arena.specs.Expression.{Expression, Expressions, op, ∅, _▹_, size, expressionAt}
+use Rattle.arena.specs.Arena.{Allowed, Sound, Small, AllSmall}
 use Rattle.arena.proofs.Made.{made-is}
 use Rattle.classes.specs.Class.{Class}
 use Rattle.classes.specs.Group.{sameClass}
@@ -57,6 +57,94 @@ pub projection-at : (ns : List Node) (cs : List Class) (ps : List Mapped) → So
     → getD (projections ns cs ps) e none ≡ wholeOr ns (byChildren (projections ns cs ps) (nodeAt ns e)) (becomes ns cs ps e)
 projection-at ns cs ps s e l = projection-by-at ns (becomes ns cs ps) s e l
 
+-- ---- projections of children
+
+-- node e has a projection
+pub record Projects (xs : List (Option Expression)) (e : ℕ) : Type 0 where
+  pub expression : Expression
+  pub known : getD xs e none ≡ some expression
+
+-- no projection is one
+pub none-some : {A : Type 0} {o : Option A} {x : A} → o ≡ none → o ≡ some x → ⊥
+none-some p q = let z : _≡_ {A = ℕ} 0 1 = cc in omega arith
+
+-- the first of several children, and the others
+record Parted (xs : List (Option Expression)) (k : ℕ) (ks : List ℕ) (ys : Expressions) : Type 0 where
+  one : Expression
+  others : Expressions
+  one-known : getD xs k none ≡ some one
+  others-known : allProject xs ks ≡ some others
+  is : ys ≡ one ▹ others
+
+-- they are such where all have projections
+parted : (xs : List (Option Expression)) (k : ℕ) (ks : List ℕ) (ys : Expressions) → allProject xs (k ∷ ks) ≡ some ys → Parted xs k ks ys
+unfolding allProject bothProject
+parted xs k ks ys e = go (getD xs k none) (allProject xs ks) refl refl e
+  where
+    go : (a : Option Expression) (b : Option Expressions) → getD xs k none ≡ a → allProject xs ks ≡ b → bothProject a b ≡ some ys → Parted xs k ks ys
+    go none b p q z = absurd (none-some refl z)
+    go (some x) none p q z = absurd (none-some refl z)
+    go (some x) (some zs) p q z = record { one = x; others = zs; one-known = p; others-known = q; is = cc }
+
+-- where each child has a projection, they all do
+pub all-known : (xs : List (Option Expression)) (ks : List ℕ) → ((j : ℕ) → j < length ks → Projects xs (getD ks j 0)) → (ys : Expressions) × (allProject xs ks ≡ some ys)
+unfolding allProject bothProject
+all-known xs [] h = (∅, refl)
+all-known xs (k ∷ ks) h =
+    let p = h 0 (omega arith) in
+    let q = all-known xs ks (λ j l. h (suc j) (omega arith)) in
+    (p .expression ▹ q .0, rw (p .known, q .1))
+
+-- where they all do, each does
+pub all-child : (xs : List (Option Expression)) (ks : List ℕ) (ys : Expressions) → allProject xs ks ≡ some ys → (j : ℕ) → j < length ks → Projects xs (getD ks j 0)
+all-child xs [] ys e j l = absurd (omega arith)
+all-child xs (k ∷ ks) ys e zero l = let p = parted xs k ks ys e in record { expression = p .one; known = p .one-known }
+all-child xs (k ∷ ks) ys e (suc j) l = let p = parted xs k ks ys e in all-child xs ks (p .others) (p .others-known) j (omega arith)
+
+-- as many as children
+pub all-size : (xs : List (Option Expression)) (ks : List ℕ) (ys : Expressions) → allProject xs ks ≡ some ys → size ys ≡ length ks
+unfolding allProject size
+all-size xs [] ys e = let q : ys ≡ ∅ = cc in rw q
+all-size xs (k ∷ ks) ys e = let p = parted xs k ks ys e in ap size (p .is) ∙ ap suc (all-size xs ks (p .others) (p .others-known))
+
+-- where each is small, they all are
+pub all-small : (xs : List (Option Expression)) (ks : List ℕ) (ys : Expressions) → allProject xs ks ≡ some ys
+    → ((j : ℕ) → j < length ks → (y : Expression) → getD xs (getD ks j 0) none ≡ some y → Small y) → AllSmall ys
+unfolding allProject AllSmall
+all-small xs [] ys e h = let q : ∅ ≡ ys = cc in subst AllSmall q tt
+all-small xs (k ∷ ks) ys e h =
+    let p = parted xs k ks ys e in
+    subst AllSmall (sym (p .is)) (h 0 (omega arith) (p .one) (p .one-known), all-small xs ks (p .others) (p .others-known) (λ j l. h (suc j) (omega arith)))
+
+-- a node whose projection is made of its children's
+pub record OverChildren (xs : List (Option Expression)) (n : Node) (x : Expression) : Type 0 where
+  pub label : ℕ
+  pub children : List ℕ
+  pub projected : Expressions
+  pub node : n ≡ operation label children
+  pub known : allProject xs children ≡ some projected
+  pub is : x ≡ op label projected
+
+-- by the definition
+pub over-children : (xs : List (Option Expression)) (n : Node) (x : Expression) → byChildren xs n ≡ some x → OverChildren xs n x
+unfolding byChildren operationOf
+over-children xs (column name index) x e = absurd (none-some refl e)
+over-children xs (literal value) x e = absurd (none-some refl e)
+over-children xs (operation label []) x e = absurd (none-some refl e)
+over-children xs (operation label (k ∷ ks)) x e = go (allProject xs (k ∷ ks)) refl e
+  where
+    go : (o : Option Expressions) → allProject xs (k ∷ ks) ≡ o → operationOf label o ≡ some x → OverChildren xs (operation label (k ∷ ks)) x
+    go none q z = absurd (none-some refl z)
+    go (some ys) q z = record { label = label; children = k ∷ ks; projected = ys; node = refl; known = q; is = cc }
+
+-- where one child has none, they don't
+none-known : (xs : List (Option Expression)) (ks : List ℕ) (k : ℕ) → k < length ks → getD xs (getD ks k 0) none ≡ none → allProject xs ks ≡ none
+none-known xs ks k l e = go (allProject xs ks) refl
+  where
+    go : (o : Option Expressions) → allProject xs ks ≡ o → allProject xs ks ≡ none
+    go none q = q
+    go (some ys) q = absurd (none-some e (all-child xs ks ys q k l .known))
+
 -- ---- what becomes of a whole expression, as an entry
 
 -- an entry 0 is that of nothing
@@ -96,37 +184,12 @@ module _ (ns : List Node) (cs : List Class) (ps : List Mapped) (e own : ℕ) (q 
 
 -- ---- what an entry says
 
--- children that all have projections have them together
-pub all-project : (xs : List (Option Expression)) (ks : List ℕ) → ((k : ℕ) → k < length ks → (x : Expression) × (getD xs (getD ks k 0) none ≡ some x)) → (ys : Expressions) × (allProject xs ks ≡ some ys)
-unfolding allProject bothProject
-all-project xs [] h = (∅, refl)
-all-project xs (k ∷ ks) h =
-    let a = h 0 (omega arith) in
-    let r = all-project xs ks (λ j l. h (suc j) (omega arith)) in
-    (a .0 ▹ r .0, rw (a .1, r .1))
-
--- one that has none leaves all without
-pub none-projects : (xs : List (Option Expression)) (ks : List ℕ) (k : ℕ) → k < length ks → getD xs (getD ks k 0) none ≡ none → allProject xs ks ≡ none
-unfolding allProject bothProject
-none-projects xs [] k l e = absurd (omega arith)
-none-projects xs (j ∷ ks) zero l e = rw e
-none-projects xs (j ∷ ks) (suc k) l e = rw (none-projects xs ks k (omega arith) e) (both (getD xs j none))
-  where
-    both : (x : Option Expression) → bothProject x none ≡ none
-    both none = refl
-    both (some x) = refl
-
 -- an entry other than 0 is that of a node with a projection
-pub says-some : (os : List Node) (xs : List (Option Expression)) (ns : List Node) (e entry : ℕ) → Says os xs ns e entry → (entry ≡ 0 → ⊥) → (x : Expression) × (getD xs e none ≡ some x)
+pub says-some : (os : List Node) (xs : List (Option Expression)) (ns : List Node) (e entry : ℕ) → Says os xs ns e entry → (entry ≡ 0 → ⊥) → Projects xs e
 unfolding Says
 says-some os xs ns e zero h z = absurd (z refl)
-says-some os xs ns e (suc zero) h z = (h .0, h .1 .0)
-says-some os xs ns e (suc (suc i)) h z = (expressionAt ns i, h .1)
-
--- and 0 is that of a node with none
-pub says-none : (os : List Node) (xs : List (Option Expression)) (ns : List Node) (e : ℕ) → Says os xs ns e 0 → getD xs e none ≡ none
-unfolding Says
-says-none os xs ns e h = h
+says-some os xs ns e (suc zero) h z = record { expression = h .0; known = h .1 .0 }
+says-some os xs ns e (suc (suc i)) h z = record { expression = expressionAt ns i; known = h .1 }
 
 -- a node without children gets nothing from them
 leaf-none : (xs : List (Option Expression)) (n : Node) → length (childNumbers n) ≡ 0 → byChildren xs n ≡ none
@@ -142,16 +205,15 @@ unfolding byChildren childNumbers operationOf
 children-none xs (column name index) k l e = refl
 children-none xs (literal value) k l e = refl
 children-none xs (operation label []) k l e = refl
-children-none xs (operation label (j ∷ ks)) k l e = ap (operationOf label) (none-projects xs (j ∷ ks) k l e)
+children-none xs (operation label (j ∷ ks)) k l e = ap (operationOf label) (none-known xs (j ∷ ks) k l e)
 
 -- one whose children all have projections is an operation over them
-children-some : (xs : List (Option Expression)) (n : Node) → (length (childNumbers n) ≡ 0 → ⊥) → ((k : ℕ) → k < length (childNumbers n) → (x : Expression) × (getD xs (getD (childNumbers n) k 0) none ≡ some x))
-    → (x : Expression) × (byChildren xs n ≡ some x)
+children-some : (xs : List (Option Expression)) (n : Node) → (length (childNumbers n) ≡ 0 → ⊥) → ((k : ℕ) → k < length (childNumbers n) → Projects xs (getD (childNumbers n) k 0)) → (x : Expression) × (byChildren xs n ≡ some x)
 unfolding byChildren childNumbers operationOf
 children-some xs (column name index) z h = absurd (z refl)
 children-some xs (literal value) z h = absurd (z refl)
 children-some xs (operation label []) z h = absurd (z refl)
-children-some xs (operation label (k ∷ ks)) z h = let a = all-project xs (k ∷ ks) h in (op label (a .0), ap (operationOf label) (a .1))
+children-some xs (operation label (k ∷ ks)) z h = let a = all-known xs (k ∷ ks) h in (op label (a .0), ap (operationOf label) (a .1))
 
 -- "for all" that fails, fails somewhere
 fails-at : (p : ℕ → Bool) (n : ℕ) → each p n ≡ false → (k : ℕ) × ((k < n) × (p k ≡ false))
@@ -241,7 +303,7 @@ module _ (ns : List Node) (cs : List Class) (m : Mapping) (s : Sound ns) (e : �
       says-fails all t f =
           let a = fails-at projects (length (childNumbers (nodeAt ns e))) (sym t ∙ f) in
           let y : getD table (child (a .0)) 0 ≡ 0 = entry-is-0 (getD table (child (a .0)) 0) (a .1 .1) in
-          by-children ∙ children-none All (nodeAt ns e) (a .0) (a .1 .0) (says-none ns All ns (child (a .0)) (subst (Says ns All ns (child (a .0))) y (below (a .0) (a .1 .0))))
+          by-children ∙ children-none All (nodeAt ns e) (a .0) (a .1 .0) (subst (Says ns All ns (child (a .0))) y (below (a .0) (a .1 .0)))
 
       -- all have one
       pub says-open : (length (childNumbers (nodeAt ns e)) ≡ 0 → ⊥) → (all : Bool) → all ≡ each projects (length (childNumbers (nodeAt ns e))) → all ≡ true → Says ns All ns e 1

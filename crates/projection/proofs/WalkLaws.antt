@@ -9,9 +9,9 @@ use native.Mathlib.Numerals.{add-one, add-two}
 use native.Mathlib.Omega.{arith}
 use lib.ListN.{length, getD, set, take, drop, length-set, length-drop, drop-of-length-le, List·getD-eq-default}
 use lib.Seq.{getD-set-other, getD-set-same, set-out, drop-cons, getD-drop, getD-take, take-take, take-set-le, drop-set-lt}
-use Rattle.arena.specs.Node.{Node, column, literal, operation, nodeAt}
-use Rattle.arena.specs.Expression.{Expression, Expressions, op, ∅, _▹_, size, expressionAt}
-use Rattle.arena.specs.Arena.{Allowed, Sound, Extends, Small, AllSmall, placed, full, andThen, add, addExpression, addExpressions}
+use Rattle.arena.specs.Node.{Node, operation, nodeAt}
+use Rattle.arena.specs.Expression.{Expression, Expressions, op, ∅, _▹_, expressionAt}
+use Rattle.arena.specs.Arena.{Allowed, Sound, Extends, Small, placed, full, andThen, add, addExpression, addExpressions}
 use Rattle.arena.specs.Layout.{row, count, rowOf, nodeOf, childrenOf, decode as nodes}
 use Rattle.arena.specs.Calls.{inCells}
 use Rattle.arena.specs.Inner.{Holds, Placeable, told, operationRow}
@@ -24,93 +24,13 @@ use Rattle.arena.proofs.Growing.{AddedExpression, add-expression, add-expressio
 use Rattle.arena.proofs.Layouts.{length-decode, coded-cells}
 use Rattle.arena.proofs.Walking.{PlacedRow, children-row}
 use Rattle.normal.proofs.Rewriting.{sound-before}
-use Rattle.projection.proofs.TableLaws.{says-some as entry-some}
-use Rattle.projection.specs.Projecting.{bothProject, allProject, operationOf, byChildren}
+use Rattle.projection.specs.Projecting.{bothProject, allProject}
 use Rattle.projection.specs.Calls.{placedAnswer, projectedAnswer}
 use Rattle.projection.specs.Inner.{Says, Tabled, Fits, Ready, Settling, Walked, ReadyFrom, toldFrom, WalkedFrom, settledAs, restoredAs}
 use Rattle.projection.specs.declared.Projected.{Projected}
 use Rattle.projection.specs.declared.Projected.the-variants.{Nothing}
+use Rattle.projection.proofs.TableLaws.{Projects, none-some, all-known, all-child, all-size, all-small, over-children, says-some}
 use Rattle.projection.proofs.RowLaws.{operation-row, row-label, row-child, children-set, label-set, row-set}
-
--- ---- projections of children
-
--- node e has a projection
-pub record Projects (xs : List (Option Expression)) (e : ℕ) : Type 0 where
-  pub expression : Expression
-  pub known : getD xs e none ≡ some expression
-
--- no projection is one
-pub none-some : {A : Type 0} {o : Option A} {x : A} → o ≡ none → o ≡ some x → ⊥
-none-some p q = let z : _≡_ {A = ℕ} 0 1 = cc in omega arith
-
--- the first of several children, and the others
-record Parted (xs : List (Option Expression)) (k : ℕ) (ks : List ℕ) (ys : Expressions) : Type 0 where
-  one : Expression
-  others : Expressions
-  one-known : getD xs k none ≡ some one
-  others-known : allProject xs ks ≡ some others
-  is : ys ≡ one ▹ others
-
--- they are such where all have projections
-parted : (xs : List (Option Expression)) (k : ℕ) (ks : List ℕ) (ys : Expressions) → allProject xs (k ∷ ks) ≡ some ys → Parted xs k ks ys
-unfolding allProject bothProject
-parted xs k ks ys e = go (getD xs k none) (allProject xs ks) refl refl e
-  where
-    go : (a : Option Expression) (b : Option Expressions) → getD xs k none ≡ a → allProject xs ks ≡ b → bothProject a b ≡ some ys → Parted xs k ks ys
-    go none b p q z = absurd (none-some refl z)
-    go (some x) none p q z = absurd (none-some refl z)
-    go (some x) (some zs) p q z = record { one = x; others = zs; one-known = p; others-known = q; is = cc }
-
--- where each child has a projection, they all do
-pub all-known : (xs : List (Option Expression)) (ks : List ℕ) → ((j : ℕ) → j < length ks → Projects xs (getD ks j 0)) → (ys : Expressions) × (allProject xs ks ≡ some ys)
-unfolding allProject bothProject
-all-known xs [] h = (∅, refl)
-all-known xs (k ∷ ks) h =
-    let p = h 0 (omega arith) in
-    let q = all-known xs ks (λ j l. h (suc j) (omega arith)) in
-    (p .expression ▹ q .0, rw (p .known, q .1))
-
--- where they all do, each does
-pub all-child : (xs : List (Option Expression)) (ks : List ℕ) (ys : Expressions) → allProject xs ks ≡ some ys → (j : ℕ) → j < length ks → Projects xs (getD ks j 0)
-all-child xs [] ys e j l = absurd (omega arith)
-all-child xs (k ∷ ks) ys e zero l = let p = parted xs k ks ys e in record { expression = p .one; known = p .one-known }
-all-child xs (k ∷ ks) ys e (suc j) l = let p = parted xs k ks ys e in all-child xs ks (p .others) (p .others-known) j (omega arith)
-
--- as many as children
-all-size : (xs : List (Option Expression)) (ks : List ℕ) (ys : Expressions) → allProject xs ks ≡ some ys → size ys ≡ length ks
-unfolding allProject size
-all-size xs [] ys e = let q : ys ≡ ∅ = cc in rw q
-all-size xs (k ∷ ks) ys e = let p = parted xs k ks ys e in ap size (p .is) ∙ ap suc (all-size xs ks (p .others) (p .others-known))
-
--- where each is small, they all are
-all-small : (xs : List (Option Expression)) (ks : List ℕ) (ys : Expressions) → allProject xs ks ≡ some ys
-    → ((j : ℕ) → j < length ks → (y : Expression) → getD xs (getD ks j 0) none ≡ some y → Small y) → AllSmall ys
-unfolding allProject AllSmall
-all-small xs [] ys e h = let q : ∅ ≡ ys = cc in subst AllSmall q tt
-all-small xs (k ∷ ks) ys e h =
-    let p = parted xs k ks ys e in
-    subst AllSmall (sym (p .is)) (h 0 (omega arith) (p .one) (p .one-known), all-small xs ks (p .others) (p .others-known) (λ j l. h (suc j) (omega arith)))
-
--- a node whose projection is made of its children's
-pub record OverChildren (xs : List (Option Expression)) (n : Node) (x : Expression) : Type 0 where
-  pub label : ℕ
-  pub children : List ℕ
-  pub projected : Expressions
-  pub node : n ≡ operation label children
-  pub known : allProject xs children ≡ some projected
-  pub is : x ≡ op label projected
-
--- by the definition
-pub over-children : (xs : List (Option Expression)) (n : Node) (x : Expression) → byChildren xs n ≡ some x → OverChildren xs n x
-unfolding byChildren operationOf
-over-children xs (column name index) x e = absurd (none-some refl e)
-over-children xs (literal value) x e = absurd (none-some refl e)
-over-children xs (operation label []) x e = absurd (none-some refl e)
-over-children xs (operation label (k ∷ ks)) x e = go (allProject xs (k ∷ ks)) refl e
-  where
-    go : (o : Option Expressions) → allProject xs (k ∷ ks) ≡ o → operationOf label o ≡ some x → OverChildren xs (operation label (k ∷ ks)) x
-    go none q z = absurd (none-some refl z)
-    go (some ys) q z = record { label = label; children = k ∷ ks; projected = ys; node = refl; known = q; is = cc }
 
 -- ---- what the table says
 
@@ -120,10 +40,6 @@ unfolding Says
 says-kept os xs x e zero h = h
 says-kept os xs x e (suc zero) h = h
 says-kept os xs x e (suc (suc i)) h = (omega (arith, extends-longer x, h .0), h .1 ∙ ap (λ (y : Expression). some y) (sym (expression-kept x i (h .0))))
-
--- another entry than 0 says that there is a projection
-pub says-some : (os : List Node) (xs : List (Option Expression)) (ns : List Node) (e k : ℕ) → Says os xs ns e k → (k ≡ 0 → ⊥) → Projects xs e
-says-some os xs ns e k h z = let p = entry-some os xs ns e k h z in record { expression = p .0; known = p .1 }
 
 -- where there is one, the entry is not 0
 pub says-not-none : (os : List Node) (xs : List (Option Expression)) (ns : List Node) (e k : ℕ) → Says os xs ns e k → Projects xs e → k ≡ 0 → ⊥

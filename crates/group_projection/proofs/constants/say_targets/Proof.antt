@@ -7,7 +7,7 @@ use Rattle.arena.specs.Layout.{decode as nodes}
 use Rattle.arena.proofs.Layouts.{length-decode}
 use Rattle.classes.specs.Layout.{constantFrom, decode}
 use Rattle.mappings.specs.Layout.{mappedOf}
-use Rattle.group_projection.proofs.SourcePlaces.{length-targets, target-at}
+use Rattle.mappings.proofs.Targets.{mapped-length, mapped-target}
 use Rattle.group_projection.proofs.ConstantLaws.{saidOf, SaidTo, said-begins, said-ends, target-over, target-more}
 use borrow.Author.Needs.{needs}
 use Rattle.group_projection.proofs.constants.say_targets.Statement.{statement}
@@ -44,7 +44,7 @@ returns c =
     let b = c .before .before .before .before .before .before .before in
     let o = c .before .before .before .before .before .before .loop in
     let t = b .args .t3 in
-    target-over (nodes (b .args .cells .now)) (constantFrom (b .args .mark .flavour) (b .args .mark .value)) (mappedOf (b .args .t3) .targets) (decode (b .args .out)) (o .group) (o .k) (o .inv .1) (getD (t .targets) (o .k) 0) (omega (arith, length-targets t, c .before .before .before .before .before .loop-test .taken)) (sym (target-at t (o .k) 0 (c .before .before .before .before .before .loop-test .taken))) (c .before .before .before .add-constant-in .result) (c .before .before .before .add-constant-in .ensures) (c .before .if1 .taken) (c .no-group .result) (c .no-group .ensures)
+    target-over (nodes (b .args .cells .now)) (constantFrom (b .args .mark .flavour) (b .args .mark .value)) (mappedOf (b .args .t3) .targets) (decode (b .args .out)) (o .group) (o .k) (o .inv .1) (getD (t .targets) (o .k) 0) (omega (arith, mapped-length t, c .before .before .before .before .before .loop-test .taken)) (sym (mapped-target t (o .k) (c .before .before .before .before .before .loop-test .taken))) (c .before .before .before .add-constant-in .result) (c .before .before .before .add-constant-in .ensures) (c .before .if1 .taken) (c .no-group .result) (c .no-group .ensures)
 
 add-k : tie.Need-add-k Inv-loop μ-loop
 add-k c = search needs
@@ -60,7 +60,7 @@ loop-again c =
     let o = c .before .before .before .before .before .before .loop in
     let t = b .args .t3 in
     let l = c .before .before .before .before .before .loop-test .taken in
-    (omega arith, target-more (nodes (b .args .cells .now)) (constantFrom (b .args .mark .flavour) (b .args .mark .value)) (mappedOf (b .args .t3) .targets) (decode (b .args .out)) (o .group) (o .k) (o .inv .1) (getD (t .targets) (o .k) 0) (omega (arith, length-targets t, l)) (sym (target-at t (o .k) 0 l)) (c .before .before .before .add-constant-in .result) (c .before .before .before .add-constant-in .ensures) (omega (arith, b .pre .1 .1 (o .k) l, length-decode (b .args .cells .now))) (c .before .if1 .left))
+    (omega arith, target-more (nodes (b .args .cells .now)) (constantFrom (b .args .mark .flavour) (b .args .mark .value)) (mappedOf (b .args .t3) .targets) (decode (b .args .out)) (o .group) (o .k) (o .inv .1) (getD (t .targets) (o .k) 0) (omega (arith, mapped-length t, l)) (sym (mapped-target t (o .k) l)) (c .before .before .before .add-constant-in .result) (c .before .before .before .add-constant-in .ensures) (omega (arith, b .pre .1 .1 (o .k) l, length-decode (b .args .cells .now))) (c .before .if1 .left))
 
 made-requires : tie.Need-made-requires Inv-loop μ-loop
 made-requires c κs = c .before .loop .inv .1 .made .held .coded
@@ -69,7 +69,7 @@ returns-2 : tie.Need-returns-2 Inv-loop μ-loop
 returns-2 c =
     let b = c .before .before .before in
     let o = c .before .before .loop in
-    said-ends (nodes (b .args .cells .now)) (constantFrom (b .args .mark .flavour) (b .args .mark .value)) (mappedOf (b .args .t3) .targets) (decode (b .args .out)) (o .group) (o .k) (o .inv .1) (omega (arith, length-targets (b .args .t3), c .before .loop-test .left)) (c .made .result) (c .made .ensures)
+    said-ends (nodes (b .args .cells .now)) (constantFrom (b .args .mark .flavour) (b .args .mark .value)) (mappedOf (b .args .t3) .targets) (decode (b .args .out)) (o .group) (o .k) (o .inv .1) (omega (arith, mapped-length (b .args .t3), c .before .loop-test .left)) (c .made .result) (c .made .ensures)
 
 pub say-targets-spec : {M : Type 1} → statement M
 say-targets-spec =

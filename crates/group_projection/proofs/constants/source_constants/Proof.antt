@@ -7,7 +7,8 @@ use Rattle.arena.proofs.Layouts.{length-decode}
 use Rattle.classes.specs.Layout.{decode}
 use Rattle.merging.specs.Inner.{AllBelow}
 use Rattle.mappings.specs.Layout.{mappedOf, decode as mapping}
-use Rattle.group_projection.proofs.SourcePlaces.{readIn, read-below, read-few, read-targets, length-mapping, mapping-rest, targets-below}
+use Rattle.mappings.proofs.Targets.{decode-length, targets-below}
+use Rattle.mappings.proofs.PlaceReads.{readIn, read-rest, read-below, read-few, read-targets}
 use Rattle.group_projection.proofs.ConstantLaws.{SourcesSaid, sources-begin, sources-end, source-over, source-more}
 use borrow.Author.Needs.{needs}
 use Rattle.group_projection.proofs.constants.source_constants.Statement.{statement}
@@ -37,7 +38,7 @@ say-source-requires c κs =
     let m = b .args .t3 in
     let o = c .before .before .loop in
     let l = c .before .loop-test .taken in
-    (((b .pre .0 .0, o .inv .1 .made), (b .pre .1 .0, read-below (count (b .args .cells .now)) m (b .pre .1 .1) (o .i) l)), (read-few (count (b .args .cells .now)) m (b .pre .1 .1) (o .i) l, read-targets (count (b .args .cells .now)) m (b .pre .1 .1) (o .i) l))
+    (((b .pre .0 .0, o .inv .1 .made), (b .pre .1 .0, read-below m (o .i) l (count (b .args .cells .now)) (b .pre .1 .1))), (read-few m (o .i) l (count (b .args .cells .now)) (b .pre .1 .1), read-targets m (o .i) l (count (b .args .cells .now)) (b .pre .1 .1)))
 
 no-group-requires : tie.Need-no-group-requires Inv-loop μ-loop
 no-group-requires c κs = search needs
@@ -47,7 +48,7 @@ returns c =
     let b = c .before .before .before .before .before .before .before in
     let m = b .args .t3 in
     let o = c .before .before .before .before .before .before .loop in
-    source-over (nodes (b .args .cells .now)) (decode (b .args .g)) (mapping m) (decode (b .args .out)) (o .group) (o .i) (o .inv .1) (mappedOf (readIn m (o .i))) (mapping-rest m (o .i) (c .before .before .before .before .before .loop-test .taken)) (c .before .before .before .say-source .result) (c .before .before .before .say-source .ensures) (c .before .if1 .taken) (c .no-group .result) (c .no-group .ensures)
+    source-over (nodes (b .args .cells .now)) (decode (b .args .g)) (mapping m) (decode (b .args .out)) (o .group) (o .i) (o .inv .1) (mappedOf (readIn m (o .i))) (read-rest m (o .i) (c .before .before .before .before .before .loop-test .taken)) (c .before .before .before .say-source .result) (c .before .before .before .say-source .ensures) (c .before .if1 .taken) (c .no-group .result) (c .no-group .ensures)
 
 add-i : tie.Need-add-i Inv-loop μ-loop
 add-i c = search needs
@@ -63,7 +64,7 @@ loop-again c =
     let m = b .args .t3 in
     let o = c .before .before .before .before .before .before .loop in
     let l = c .before .before .before .before .before .loop-test .taken in
-    (omega arith, source-more (nodes (b .args .cells .now)) (decode (b .args .g)) (mapping m) (decode (b .args .out)) (o .group) (o .i) (o .inv .1) (mappedOf (readIn m (o .i))) (mapping-rest m (o .i) l) (c .before .before .before .say-source .result) (c .before .before .before .say-source .ensures) (subst (λ (n : ℕ). AllBelow n (mappedOf (readIn m (o .i)) .targets)) (sym (length-decode (b .args .cells .now))) (targets-below (readIn m (o .i)) (count (b .args .cells .now)) (read-targets (count (b .args .cells .now)) m (b .pre .1 .1) (o .i) l))) (c .before .if1 .left))
+    (omega arith, source-more (nodes (b .args .cells .now)) (decode (b .args .g)) (mapping m) (decode (b .args .out)) (o .group) (o .i) (o .inv .1) (mappedOf (readIn m (o .i))) (read-rest m (o .i) l) (c .before .before .before .say-source .result) (c .before .before .before .say-source .ensures) (subst (λ (n : ℕ). AllBelow n (mappedOf (readIn m (o .i)) .targets)) (sym (length-decode (b .args .cells .now))) (targets-below (readIn m (o .i)) (count (b .args .cells .now)) (read-targets m (o .i) l (count (b .args .cells .now)) (b .pre .1 .1)))) (c .before .if1 .left))
 
 made-requires : tie.Need-made-requires Inv-loop μ-loop
 made-requires c κs = c .before .loop .inv .1 .made .held .coded
@@ -73,7 +74,7 @@ returns-2 c =
     let b = c .before .before .before in
     let m = b .args .t3 in
     let o = c .before .before .loop in
-    sources-end (nodes (b .args .cells .now)) (decode (b .args .g)) (mapping m) (decode (b .args .out)) (o .group) (o .i) (o .inv .1) (omega (arith, length-mapping m, c .before .loop-test .left)) (c .made .result) (c .made .ensures)
+    sources-end (nodes (b .args .cells .now)) (decode (b .args .g)) (mapping m) (decode (b .args .out)) (o .group) (o .i) (o .inv .1) (omega (arith, decode-length m, c .before .loop-test .left)) (c .made .result) (c .made .ensures)
 
 pub source-constants-spec : {M : Type 1} → statement M
 source-constants-spec =

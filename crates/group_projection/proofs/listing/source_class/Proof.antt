@@ -7,8 +7,9 @@ use lib.Dec.{eqb}
 use lib.ListN.{length, take}
 use lib.Seq.{length-take-le, getD-take}
 use Rattle.arena.specs.Layout.{count, decode as nodes}
+use Rattle.mappings.proofs.PlaceReads.{read-few, read-targets}
 use Rattle.group_projection.proofs.ListedLaws.{Lists, lists-coded, lists-one, lists-made}
-use Rattle.group_projection.proofs.SourceLaws.{classOfForm, classOfSources, sources-begin, sources-more, sources-over, sources-end, place-asks}
+use Rattle.group_projection.proofs.SourceLaws.{classOfForm, classOfSources, sources-begin, sources-more, sources-over, sources-end}
 use borrow.Author.Needs.{needs}
 use Rattle.group_projection.proofs.listing.source_class.Statement.{statement}
 use Rattle.group_projection.proofs.listing.source_class.Tie as tie
@@ -48,7 +49,7 @@ push-source-requires c κs =
     let s = c .before .before .before .before in
     let o = c .before .before .loop in (
       (lists-one (o .one) (classOfSources (nodes (s .args .cells .now)) (s .args .t2) (take (s .args .t2 .count) (s .args .t3)) (s .args .form) (o .i)) (o .inv .2), s .pre .0),
-      place-asks (count (s .args .cells .now)) (s .args .t2) (s .pre .1) (o .i) (c .before .loop-test .taken) _,
+      (read-few (s .args .t2) (o .i) (c .before .loop-test .taken) (count (s .args .cells .now)) (s .pre .1), read-targets (s .args .t2) (o .i) (c .before .loop-test .taken) (count (s .args .cells .now)) (s .pre .1)),
     )
 
 no-group-requires : tie.Need-no-group-requires Inv-loop μ-loop
@@ -60,7 +61,7 @@ returns c =
     let o = c .before .before .before .before .before .before .loop in
     let mm : length (s .args .t3) ≡ 64 = search needs in
     let len = length-take-le (s .args .t2 .count) (s .args .t3) (omega (arith, s .pre .1 .bounded .few)) in
-    sources-over (nodes (s .args .cells .now)) (s .args .t2) (take (s .args .t2 .count) (s .args .t3)) (s .args .form) (count (s .args .cells .now)) (s .pre .1) len (o .i) (c .before .before .before .before .before .loop-test .taken) (o .one) (o .inv .2) _ _ (ap (λ (x : ℕ). eqb x (s .args .form)) (sym (getD-take (s .args .t2 .count) (s .args .t3) (o .i) 0 (c .before .before .before .before .before .loop-test .taken))))
+    sources-over (nodes (s .args .cells .now)) (s .args .t2) (take (s .args .t2 .count) (s .args .t3)) (s .args .form) len (o .i) (c .before .before .before .before .before .loop-test .taken) (o .one) (o .inv .2) _ (ap (λ (x : ℕ). eqb x (s .args .form)) (sym (getD-take (s .args .t2 .count) (s .args .t3) (o .i) 0 (c .before .before .before .before .before .loop-test .taken))))
     (c .before .before .before .push-source .result) (c .before .before .before .push-source .ensures) (c .before .if1 .taken) (c .no-group .result) (c .no-group .ensures)
 
 add-i : tie.Need-add-i Inv-loop μ-loop
@@ -79,7 +80,7 @@ loop-again c =
     let len = length-take-le (s .args .t2 .count) (s .args .t3) (omega (arith, s .pre .1 .bounded .few)) in (
       refl,
       search needs,
-      sources-more (nodes (s .args .cells .now)) (s .args .t2) (take (s .args .t2 .count) (s .args .t3)) (s .args .form) (count (s .args .cells .now)) (s .pre .1) len (o .i) (c .before .before .before .before .before .loop-test .taken) (o .one) (o .inv .2) _ _ (ap (λ (x : ℕ). eqb x (s .args .form)) (sym (getD-take (s .args .t2 .count) (s .args .t3) (o .i) 0 (c .before .before .before .before .before .loop-test .taken))))
+      sources-more (nodes (s .args .cells .now)) (s .args .t2) (take (s .args .t2 .count) (s .args .t3)) (s .args .form) len (o .i) (c .before .before .before .before .before .loop-test .taken) (o .one) (o .inv .2) _ (ap (λ (x : ℕ). eqb x (s .args .form)) (sym (getD-take (s .args .t2 .count) (s .args .t3) (o .i) 0 (c .before .before .before .before .before .loop-test .taken))))
           (c .before .before .before .push-source .result) (c .before .before .before .push-source .ensures) (c .before .if1 .left),
     )
 

@@ -2,11 +2,12 @@
 use Prim.Native.Nat.{_-_, _≤_}
 use mathlib.Core.Bool.{true, false}
 use mathlib.Core.Path.{_≡_, sym, _∙_}
+use native.Mathlib.Omega.{arith}
 use borrow.Author.Tests.{not-true, not-false}
 use Rattle.laws.specs.Tests.{each}
 use Rattle.laws.proofs.Each.{each-none, each-more, each-stops, each-ends}
-use Rattle.mappings.proofs.PlaceReads.{sized}
-use Rattle.mappings.proofs.StructTests.{SourceBelow, below-read, few-read, mapping-below-of}
+use Rattle.mappings.proofs.PlaceReads.{read-size}
+use Rattle.mappings.proofs.StructTests.{SourceBelow, below-read, mapping-below-of}
 use borrow.Author.Needs.{needs}
 use Rattle.mappings.proofs.lent.mapping_below.Statement.{statement}
 use Rattle.mappings.proofs.lent.mapping_below.Tie as tie
@@ -30,13 +31,14 @@ element-copy-out-source-below c = search needs
 source-below-requires : tie.Need-source-below-requires Inv-loop μ-loop
 source-below-requires c κs =
     let m = c .before .before .before .args .t1 in
-    few-read m (sized m _ (c .before .before .before .good .0)) (c .before .before .loop .i) (search needs) (c .before .before .before .pre .1 (c .before .before .loop .i) (search needs))
+    let i = c .before .before .loop .i in
+    omega (arith, read-size m i, c .before .before .before .pre .1 i (search needs))
 
 returns : tie.Need-returns Inv-loop μ-loop
 returns c =
     let n = c .before .before .before .before .before .args .n in
     let m = c .before .before .before .before .before .args .t1 in
-    each-stops (SourceBelow n m) (m .count) (c .before .before .before .before .loop .i) (search needs) (below-read m (sized m _ (c .before .before .before .before .before .good .0)) n (c .before .before .before .before .loop .i) (search needs) false (sym (c .before .source-below .ensures) ∙ not-true _ (c .if1 .taken))) ∙ sym (mapping-below-of m n)
+    each-stops (SourceBelow n m) (m .count) (c .before .before .before .before .loop .i) (search needs) (below-read m n (c .before .before .before .before .loop .i) false (sym (c .before .source-below .ensures) ∙ not-true _ (c .if1 .taken))) ∙ sym (mapping-below-of m n)
 
 add-i : tie.Need-add-i Inv-loop μ-loop
 add-i c = search needs
@@ -48,7 +50,7 @@ loop-again : tie.Need-loop-again Inv-loop μ-loop
 loop-again c =
     let n = c .before .before .before .before .before .args .n in
     let m = c .before .before .before .before .before .args .t1 in
-    (search needs, (search needs, each-more (SourceBelow n m) (c .before .before .before .before .loop .i) (c .before .before .before .before .loop .inv .1 .1) (below-read m (sized m _ (c .before .before .before .before .before .good .0)) n (c .before .before .before .before .loop .i) (search needs) true (sym (c .before .source-below .ensures) ∙ not-false _ (c .if1 .left)))))
+    (search needs, (search needs, each-more (SourceBelow n m) (c .before .before .before .before .loop .i) (c .before .before .before .before .loop .inv .1 .1) (below-read m n (c .before .before .before .before .loop .i) true (sym (c .before .source-below .ensures) ∙ not-false _ (c .if1 .left)))))
 
 returns-2 : tie.Need-returns-2 Inv-loop μ-loop
 returns-2 c =

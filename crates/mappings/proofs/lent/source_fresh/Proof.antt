@@ -4,7 +4,6 @@ use mathlib.Core.Bool.{true}
 use mathlib.Core.Path.{_≡_, sym, _∙_}
 use Rattle.laws.specs.Tests.{each}
 use Rattle.laws.proofs.Each.{each-none, each-more, each-stops, each-ends}
-use Rattle.mappings.proofs.PlaceReads.{sized}
 use Rattle.mappings.proofs.StructTests.{Unlike, unlike-read, like-read, fresh-of}
 use borrow.Author.Needs.{needs}
 use Rattle.mappings.proofs.lent.source_fresh.Statement.{statement}
@@ -37,7 +36,7 @@ returns c =
     let m = c .before .before .before .args .t1 in
     let k = c .before .before .before .args .k in
     let i = c .before .before .loop .i in
-    each-stops (Unlike m k) k i (search needs) (like-read m (sized m _ (c .before .before .before .good .0)) k i (search needs) (search needs) (c .if1 .taken)) ∙ sym (fresh-of m k (c .before .before .before .pre .1))
+    each-stops (Unlike m k) k i (search needs) (like-read m k i (c .if1 .taken)) ∙ sym (fresh-of m k (c .before .before .before .pre .1))
 
 add-i : tie.Need-add-i Inv-loop μ-loop
 add-i c = search needs
@@ -50,7 +49,7 @@ loop-again c =
     let m = c .before .before .before .args .t1 in
     let k = c .before .before .before .args .k in
     let i = c .before .before .loop .i in
-    (search needs, each-more (Unlike m k) i (c .before .before .loop .inv .1) (unlike-read m (sized m _ (c .before .before .before .good .0)) k i (search needs) (search needs) (c .if1 .left)))
+    (search needs, each-more (Unlike m k) i (c .before .before .loop .inv .1) (unlike-read m k i (c .if1 .left)))
 
 returns-2 : tie.Need-returns-2 Inv-loop μ-loop
 returns-2 c =

@@ -4,7 +4,8 @@ use mathlib.Core.Path.{sym, _∙_}
 use native.Mathlib.Omega.{arith}
 use borrow.Author.Needs.{needs}
 use Rattle.questions.specs.Inner.{samePlace}
-use Rattle.projection.proofs.Sources.{Searching, source-under, target-under, searching-begins, searching-found, searching-on, searching-ends}
+use Rattle.mappings.proofs.PlaceReads.{read-below}
+use Rattle.projection.proofs.Sources.{Searching, target-under, searching-begins, searching-found, searching-on, searching-ends}
 use Rattle.projection.proofs.table.class_entry.Statement.{statement}
 use Rattle.projection.proofs.table.class_entry.Tie as tie
 
@@ -36,7 +37,7 @@ wide-requires-2 c κs = search needs
 same-place-requires : tie.Need-same-place-requires Inv-loop μ-loop
 same-place-requires c κs =
     let s = c .before .before .before .before .before in
-    let u = source-under 1024 (s .args .t1) (s .pre .0) (c .before .before .before .before .loop .i) (omega arith) in
+    let u = read-below (s .args .t1) (c .before .before .before .before .loop .i) (omega arith) 1024 (s .pre .0) in
     (omega (arith, u, c .before .wide .ensures), omega (arith, s .pre .1, c .wide2 .ensures))
 
 element-copy-out-result : tie.Need-element-copy-out-result Inv-loop μ-loop

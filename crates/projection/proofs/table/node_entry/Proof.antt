@@ -2,7 +2,6 @@
 use Prim.Native.Nat.{ℕ}
 use mathlib.Core.Path.{sym, _∙_, subst}
 use native.Mathlib.Omega.{arith}
-use borrow.Author.Tests.{not-true, not-false}
 use Rattle.arena.specs.Layout.{decode as nodes}
 use Rattle.arena.proofs.Layouts.{length-decode}
 use Rattle.classes.specs.Layout.{decode as classes}
