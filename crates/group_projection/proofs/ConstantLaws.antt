@@ -2,7 +2,7 @@
 use Prim.Native.Nat.{ℕ, zero, suc, _+_, _<_, _≤_}
 use mathlib.Core.Bool.{Bool, true, false}
 use mathlib.Core.List.{List, [], _∷_, _++_, map, append-nil}
-use mathlib.Core.Option.{Option, none, some}
+use mathlib.Core.Option.{none, some}
 use mathlib.Core.Path.{_≡_, refl, sym, ap, _∙_, subst}
 use native.Mathlib.Numerals.{add-one}
 use native.Mathlib.Omega.{arith}
@@ -25,6 +25,7 @@ use Rattle.questions.specs.Questions.{exprConstant}
 use Rattle.merging.specs.Calls.{madeGroup}
 use Rattle.merging.specs.Inner.{AllBelow}
 use Rattle.mappings.specs.Mapping.{Mapped}
+use Rattle.projection.proofs.TableLaws.{none-some}
 use Rattle.group_projection.specs.Group.{newConstants, constantsSaid}
 use Rattle.group_projection.specs.Inner.{madeOrNone, Made}
 use Rattle.group_projection.proofs.MadeGroups.{Within, within-made, made-within, made-done, made-refused}
@@ -50,22 +51,26 @@ module _ (two : Bool) (ns : List Node) where
     unfolding constantsSaid
     said-over f = rw f
 
+    -- where all are said, the first fits, and the others are said after it
+    pub said-first : (ds : List Class) → constantsSaid two ns (q ∷ qs) cs ≡ some ds → (fits 256 (withConstant two ns cs (q .0) (q .1)) ≡ true) × (constantsSaid two ns qs (withConstant two ns cs (q .0) (q .1)) ≡ some ds)
+    said-first ds e = go (fits 256 (withConstant two ns cs (q .0) (q .1))) refl
+      where
+        go : (b : Bool) → fits 256 (withConstant two ns cs (q .0) (q .1)) ≡ b → (fits 256 (withConstant two ns cs (q .0) (q .1)) ≡ true) × (constantsSaid two ns qs (withConstant two ns cs (q .0) (q .1)) ≡ some ds)
+        go true f = (f, sym (said-next f) ∙ e)
+        go false f = absurd (none-some (said-over f) e)
+
   -- two lists, one after the other: the second where the first fits
-  pub said-both : (qs rs : List (ℕ × Constant)) (cs ds : List Class) → constantsSaid two ns qs cs ≡ some ds → constantsSaid two ns (qs ++ rs) cs ≡ constantsSaid two ns rs ds
+  said-both : (qs rs : List (ℕ × Constant)) (cs ds : List Class) → constantsSaid two ns qs cs ≡ some ds → constantsSaid two ns (qs ++ rs) cs ≡ constantsSaid two ns rs ds
   unfolding constantsSaid
   said-both [] rs cs ds e = let y : cs ≡ ds = cc e in ap (constantsSaid two ns rs) y
-  said-both (q ∷ qs) rs cs ds e = go (fits 256 (withConstant two ns cs (q .0) (q .1))) refl (said-both qs rs (withConstant two ns cs (q .0) (q .1)) ds)
-    where
-      go : (b : Bool) → fits 256 (withConstant two ns cs (q .0) (q .1)) ≡ b
-          → (constantsSaid two ns qs (withConstant two ns cs (q .0) (q .1)) ≡ some ds → constantsSaid two ns (qs ++ rs) (withConstant two ns cs (q .0) (q .1)) ≡ constantsSaid two ns rs ds)
-          → constantsSaid two ns (q ∷ (qs ++ rs)) cs ≡ constantsSaid two ns rs ds
-      go true f r = said-next q (qs ++ rs) cs f ∙ r (sym (said-next q qs cs f) ∙ e)
-      go false f r = absurd (let y : _≡_ {A = Option (List Class)} none (some ds) = sym (said-over q qs cs f) ∙ e in let z : _≡_ {A = ℕ} 0 1 = cc in omega arith)
+  said-both (q ∷ qs) rs cs ds e =
+      let f = said-first q qs cs ds e in
+      said-next q (qs ++ rs) cs (f .0) ∙ said-both qs rs (withConstant two ns cs (q .0) (q .1)) ds (f .1)
 
   -- nothing where it doesn't
-  pub said-neither : (qs rs : List (ℕ × Constant)) (cs : List Class) → constantsSaid two ns qs cs ≡ none → constantsSaid two ns (qs ++ rs) cs ≡ none
+  said-neither : (qs rs : List (ℕ × Constant)) (cs : List Class) → constantsSaid two ns qs cs ≡ none → constantsSaid two ns (qs ++ rs) cs ≡ none
   unfolding constantsSaid
-  said-neither [] rs cs e = absurd (let y : _≡_ {A = Option (List Class)} (some cs) none = e in let z : _≡_ {A = ℕ} 0 1 = cc in omega arith)
+  said-neither [] rs cs e = absurd (none-some e refl)
   said-neither (q ∷ qs) rs cs e = go (fits 256 (withConstant two ns cs (q .0) (q .1))) refl (said-neither qs rs (withConstant two ns cs (q .0) (q .1)))
     where
       go : (b : Bool) → fits 256 (withConstant two ns cs (q .0) (q .1)) ≡ b
@@ -75,7 +80,7 @@ module _ (two : Bool) (ns : List Node) where
       go false f r = said-over q (qs ++ rs) cs f
 
   -- one that fits makes a group of a group
-  pub within-next : (cs : List Class) (e : ℕ) (c : Constant) → e < length ns → Within ns cs → fits 256 (withConstant two ns cs e c) ≡ true → Within ns (withConstant two ns cs e c)
+  within-next : (cs : List Class) (e : ℕ) (c : Constant) → e < length ns → Within ns cs → fits 256 (withConstant two ns cs e c) ≡ true → Within ns (withConstant two ns cs e c)
   within-next cs e c l w f = record { room = f; good = constant-good two ns cs e (w .good) l c }
 
   -- and so do all of them
@@ -83,13 +88,8 @@ module _ (two : Bool) (ns : List Node) where
   unfolding constantsSaid
   said-within [] cs ds b w e = let y : cs ≡ ds = cc e in subst (Within ns) y w
   said-within (q ∷ qs) cs ds b w e =
-      go (fits 256 (withConstant two ns cs (q .0) (q .1))) refl (said-within qs (withConstant two ns cs (q .0) (q .1)) ds (λ k l. b (suc k) (omega arith)))
-    where
-      go : (b : Bool) → fits 256 (withConstant two ns cs (q .0) (q .1)) ≡ b
-          → (Within ns (withConstant two ns cs (q .0) (q .1)) → constantsSaid two ns qs (withConstant two ns cs (q .0) (q .1)) ≡ some ds → Within ns ds)
-          → Within ns ds
-      go true f r = r (within-next cs (q .0) (q .1) (b 0 (omega arith)) w f) (sym (said-next q qs cs f) ∙ e)
-      go false f r = absurd (let y : _≡_ {A = Option (List Class)} none (some ds) = sym (said-over q qs cs f) ∙ e in let z : _≡_ {A = ℕ} 0 1 = cc in omega arith)
+      let f = said-first q qs cs ds e in
+      said-within qs (withConstant two ns cs (q .0) (q .1)) ds (λ k l. b (suc k) (omega arith)) (within-next cs (q .0) (q .1) (b 0 (omega arith)) w (f .0)) (f .1)
 
 -- ---- the walk over the targets
 

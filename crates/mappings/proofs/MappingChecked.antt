@@ -1,12 +1,12 @@
 -- What is lent and passes the check: its mapping is whole and small, its group passes, and its struct is checked.
 use Prim.Native.Nat.{ℕ, _+_, _<_, _≤_}
 use mathlib.Core.Bool.{Bool, true, false, not, _&&_}
-use mathlib.Core.List.{List}
+use mathlib.Core.List.{List, []}
 use mathlib.Core.Path.{_≡_, refl, sym, ap, _∙_}
 use native.Mathlib.Omega.{arith}
 use borrow.Author.Tests.{leb-true, lt-ltb, eqb-true, eqb-false, not-true}
 use lib.Dec.{eqb, ltb, leb}
-use lib.ListN.{length, getD}
+use lib.ListN.{length}
 use Rattle.laws.specs.Tests.{if_then_else_}
 use Rattle.laws.proofs.Booleans.{true-not-false, and-left, and-right, and-both}
 use Rattle.laws.proofs.Each.{each-holds}
@@ -15,7 +15,7 @@ use Rattle.arena.specs.Layout.{decode as nodes}
 use Rattle.classes.specs.Layout.{inSet}
 use Rattle.classes.specs.Calls.{groupNumber}
 use Rattle.classes.specs.declared.Group.{Group}
-use Rattle.mappings.specs.Mapping.{Mapped, sourcesApart, mappedBelow, mappingBelow}
+use Rattle.mappings.specs.Mapping.{Mapped, mappedAt, sourcesApart, mappedBelow, mappingBelow}
 use Rattle.mappings.specs.Lent.{targetCount, targetLent, nextSource, next-after, emptyAt, targetsGiven, wholeAt, whole, mappedLent, mappingLent, lawfulMapping}
 use Rattle.mappings.specs.Layout.{placeIn, mappedOf, decode, Checked}
 use Rattle.mappings.specs.Calls.{projectNumber}
@@ -87,34 +87,43 @@ given-some numbers at w h = go (eqb (targetCount numbers at) 0) refl
     go true q = absurd (true-not-false (and-both inside q) (not-true (ltb (at + 1) (length numbers) && eqb (targetCount numbers at) 0) h))
     go false q = let n : targetCount numbers at ≡ 0 → ⊥ = eqb-false (targetCount numbers at) 0 q in omega arith
 
--- the struct of a mapping that is whole
-module _ (numbers : List ℕ) (m : Mapping) (e : decode m ≡ mappingLent numbers) where
-  -- source i stands at a place of the list
-  place-of : (i : ℕ) → i < m .count → Reached (mappedLent numbers) (nextSource numbers) (length numbers) 0 i (mappedOf (placeIn m i))
+-- source i of a list
+module _ (numbers : List ℕ) (i : ℕ) (l : i < length (mappingLent numbers)) where
+  -- it stands at a place of the list
+  place-of : Reached (mappedLent numbers) (nextSource numbers) (length numbers) 0 i (record { source = 0; targets = [] })
   unfolding mappingLent
-  place-of i l =
-      reached (mappedLent numbers) (nextSource numbers) (length numbers) (next-after numbers) (mappedOf (placeIn m i)) 0 i
-      (omega (arith, decode-length m, ap (λ (ps : List Mapped). length ps) e))
+  place-of = reached (mappedLent numbers) (nextSource numbers) (length numbers) (next-after numbers) (record { source = 0; targets = [] }) 0 i l
 
-  -- and has as many targets as the list says
-  size-of : (i : ℕ) (l : i < m .count) → placeIn m i .size ≡ targetCount numbers (place-of i l .place)
+  -- and has as many targets as the list says there
+  size-of : length (mappedAt (mappingLent numbers) i .targets) ≡ targetCount numbers (place-of .place)
   unfolding mappingLent
-  size-of i l =
-      let r = place-of i l in
-      let d : Mapped = mappedOf (placeIn m i) in
+  size-of = ap (λ (p : Mapped). length (p .targets)) (place-of .is) ∙ lent-length numbers (place-of .place)
+
+  -- at most 8 of a list that is whole
+  lent-few : whole numbers ≡ true → length (mappedAt (mappingLent numbers) i .targets) ≤ 8
+  unfolding whole
+  lent-few w = omega (arith, size-of, whole-few numbers (place-of .place) (place-of .passes (wholeAt numbers) w))
+
+  -- and at least one, where no source says that it has none
+  pub lent-some : whole numbers ≡ true → targetsGiven numbers ≡ true → 0 < length (mappedAt (mappingLent numbers) i .targets)
+  unfolding whole targetsGiven
+  lent-some w t = omega (arith, size-of, given-some numbers (place-of .place) (place-of .passes (wholeAt numbers) w) (place-of .passes (λ at. not (emptyAt numbers at)) t))
+
+-- the struct of a list
+module _ (numbers : List ℕ) (m : Mapping) (e : decode m ≡ mappingLent numbers) where
+  lent-place : (i : ℕ) → i < m .count → i < length (mappingLent numbers)
+  lent-place i l = omega (arith, decode-length m, ap (λ (ps : List Mapped). length ps) e)
+
+  lent-size : (i : ℕ) → i < m .count → placeIn m i .size ≡ length (mappedAt (mappingLent numbers) i .targets)
+  lent-size i l =
       sym (mapped-length (placeIn m i))
-      ∙ ap (λ (p : Mapped). length (p .targets)) (sym (decode-at m i d l) ∙ ap (λ (ps : List Mapped). getD ps i d) e ∙ r .is)
-      ∙ lent-length numbers (r .place)
+      ∙ ap (λ (p : Mapped). length (p .targets)) (sym (decode-at m i (record { source = 0; targets = [] }) l) ∙ ap (λ (ps : List Mapped). mappedAt ps i) e)
 
   pub sizes-few : whole numbers ≡ true → (i : ℕ) → i < m .count → placeIn m i .size ≤ 8
-  unfolding whole
-  sizes-few w i l = let r = place-of i l in omega (arith, size-of i l, whole-few numbers (r .place) (r .passes (wholeAt numbers) w))
+  sizes-few w i l = omega (arith, lent-size i l, lent-few numbers i (lent-place i l) w)
 
   sizes-some : whole numbers ≡ true → targetsGiven numbers ≡ true → (i : ℕ) → i < m .count → 0 < placeIn m i .size
-  unfolding whole targetsGiven
-  sizes-some w t i l =
-      let r = place-of i l in
-      omega (arith, size-of i l, given-some numbers (r .place) (r .passes (wholeAt numbers) w) (r .passes (λ at. not (emptyAt numbers at)) t))
+  sizes-some w t i l = omega (arith, lent-size i l, lent-some numbers i (lent-place i l) w t)
 
 -- the struct of what passes is checked
 pub mapping-checked : (cells numbers : List ℕ) (g : Group) (m : Mapping) → projectNumber cells g numbers ≡ 0 → decode m ≡ mappingLent numbers → m .count ≤ 64 → Checked (length (nodes cells)) m

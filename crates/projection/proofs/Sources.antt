@@ -1,9 +1,9 @@
--- The search over the sources of a mapping in its struct: its turns, what it finds, and for another test that agrees.
+-- The search over the sources of a mapping in its struct: its turns, and for another test that agrees.
 use Prim.Native.Nat.{ℕ, suc, _+_, _<_, _≤_}
 use mathlib.Core.Bool.{Bool, true, false}
 use mathlib.Core.List.{List, [], _∷_}
 use mathlib.Core.Option.{some}
-use mathlib.Core.Path.{_≡_, refl, sym, ap, _∙_, subst}
+use mathlib.Core.Path.{_≡_, refl, sym, ap, _∙_}
 use native.Mathlib.Omega.{arith}
 use lib.ListN.{length, getD, drop, drop-of-length-le}
 use Rattle.laws.specs.Tests.{if_then_else_}
@@ -54,8 +54,7 @@ module _ (test : ℕ → Bool) (m : Mapping) where
       pub searching-on : test (readIn m i .expr) ≡ false → Searching test m (i + 1)
       searching-on e = record { within = omega arith; goes = turn false e }
 
--- ---- what is found
-
+-- ---- another test
 -- tests that agree on the sources find the same
 target-cong : (test other : ℕ → Bool) (ps : List Mapped) → ((k : ℕ) → k < length ps → test (mappedAt ps k .source) ≡ other (mappedAt ps k .source)) → targetFor test ps ≡ targetFor other ps
 unfolding targetFor
@@ -68,29 +67,3 @@ target-same test other n m c h =
     (λ k l.
     let b : k < m .count = omega (arith, decode-length m) in
     rw (decode-at m k (record { source = 0; targets = [] }) b, mapped-source (placeIn m k)) (h (placeIn m k .expr) (c .source-below k b)))
-
--- number i is the first target of a source that passes a test
-pub record Found (test : ℕ → Bool) (ps : List Mapped) (i : ℕ) : Type 0 where
-  pub place : ℕ
-  pub below : place < length ps
-  pub passes : test (mappedAt ps place .source) ≡ true
-  pub is : firstTarget (mappedAt ps place) ≡ i
-
--- so is a target that is found
-pub target-found : (test : ℕ → Bool) (ps : List Mapped) (i : ℕ) → targetFor test ps ≡ some i → Found test ps i
-unfolding targetFor
-target-found test [] i e = absurd (let z : _≡_ {A = ℕ} 0 1 = cc in omega arith)
-target-found test (p ∷ ps) i e = go (test (p .source)) refl (target-found test ps i)
-  where
-    go : (b : Bool) → test (p .source) ≡ b → (targetFor test ps ≡ some i → Found test ps i) → Found test (p ∷ ps) i
-    go true q r = let z : some (firstTarget p) ≡ some i = sym (rw q) ∙ e in record { place = 0; below = omega arith; passes = q; is = cc }
-    go false q r = let f = r (sym (rw q) ∙ e) in record { place = suc (f .place); below = omega (arith, f .below); passes = f .passes; is = f .is }
-
--- of a checked mapping it is among the first n
-pub found-below : (test : ℕ → Bool) (n : ℕ) (m : Mapping) → Checked n m → (i : ℕ) → targetFor test (decode m) ≡ some i → i < n
-found-below test n m c i e =
-    let f = target-found test (decode m) i e in
-    let k = f .place in
-    let b : k < m .count = omega (arith, f .below, decode-length m) in
-    subst (λ (x : ℕ). x < n) (f .is)
-    (rw (decode-at m k (record { source = 0; targets = [] }) b, mapped-target (placeIn m k) 0 (c .bounded .some-target k b)) (c .target-below k 0 b (c .bounded .some-target k b)))

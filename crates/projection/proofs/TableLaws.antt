@@ -1,4 +1,4 @@
--- The table of the projections: what becomes of a whole expression as an entry, the projection of a node by those of its children, and what an entry says.
+-- The table of the projections: the projection of a node by those of its children, and what an entry says.
 use Prim.Native.Nat.{ℕ, zero, suc, _+_, _<_}
 use mathlib.Core.Bool.{Bool, true, false, not, _&&_, and-true}
 use mathlib.Core.List.{List, [], _∷_}
@@ -10,7 +10,7 @@ use borrow.Author.Tests.{eq-eqb, ne-eqb}
 use lib.Dec.{eqb}
 use lib.ListN.{length, getD, set}
 use lib.Seq.{getD-set-same, getD-set-other}
-use Rattle.laws.specs.Tests.{if_then_else_, each}
+use Rattle.laws.specs.Tests.{each}
 use Rattle.laws.proofs.Booleans.{true-not-false}
 use Rattle.laws.proofs.Each.{each-holds}
 use Rattle.arena.specs.Node.{Node, column, literal, operation, nodeAt, childNumbers}
@@ -18,15 +18,13 @@ use Rattle.arena.specs.Expression.{Expression, Expressions, op, ∅, _▹_, siz
 use Rattle.arena.specs.Arena.{Allowed, Sound, Small, AllSmall}
 use Rattle.arena.proofs.Made.{made-is}
 use Rattle.classes.specs.Class.{Class}
-use Rattle.classes.specs.Group.{sameClass}
-use Rattle.classes.specs.Layout.{isLiteral}
 use Rattle.questions.proofs.Asking.{child-under}
-use Rattle.mappings.specs.Mapping.{Mapped, targetFor}
+use Rattle.mappings.specs.Mapping.{Mapped}
 use Rattle.mappings.specs.Layout.{decode, Checked}
 use Rattle.mappings.specs.declared.Mapping.{Mapping}
-use Rattle.projection.specs.Projecting.{orElse, becomes, bothProject, allProject, operationOf, byChildren, wholeOr, projectionsBy, projections}
+use Rattle.projection.specs.Projecting.{becomes, bothProject, allProject, operationOf, byChildren, wholeOr, projectionsBy, projections}
 use Rattle.projection.specs.Inner.{entryOf, Says}
-use Rattle.projection.proofs.Sources.{found-below}
+use Rattle.projection.proofs.Becoming.{becomes-is, becomes-below, entry-none}
 
 -- ---- the projection of a node
 
@@ -101,20 +99,30 @@ all-child xs [] ys e j l = absurd (omega arith)
 all-child xs (k ∷ ks) ys e zero l = let p = parted xs k ks ys e in record { expression = p .one; known = p .one-known }
 all-child xs (k ∷ ks) ys e (suc j) l = let p = parted xs k ks ys e in all-child xs ks (p .others) (p .others-known) j (omega arith)
 
--- as many as children
-pub all-size : (xs : List (Option Expression)) (ks : List ℕ) (ys : Expressions) → allProject xs ks ≡ some ys → size ys ≡ length ks
-unfolding allProject size
-all-size xs [] ys e = let q : ys ≡ ∅ = cc in rw q
-all-size xs (k ∷ ks) ys e = let p = parted xs k ks ys e in ap size (p .is) ∙ ap suc (all-size xs ks (p .others) (p .others-known))
+-- numbers and expressions, equally many, each pair in a relation
+unfoldable pub Pairwise : (ℕ → Expression → Type 0) → List ℕ → Expressions → Type 0
+Pairwise P [] ∅ = Unit {0}
+Pairwise P [] (x ▹ xs) = ⊥
+Pairwise P (k ∷ ks) ∅ = ⊥
+Pairwise P (k ∷ ks) (x ▹ xs) = P k x × Pairwise P ks xs
 
--- where each is small, they all are
-pub all-small : (xs : List (Option Expression)) (ks : List ℕ) (ys : Expressions) → allProject xs ks ≡ some ys
-    → ((j : ℕ) → j < length ks → (y : Expression) → getD xs (getD ks j 0) none ≡ some y → Small y) → AllSmall ys
-unfolding allProject AllSmall
-all-small xs [] ys e h = let q : ∅ ≡ ys = cc in subst AllSmall q tt
-all-small xs (k ∷ ks) ys e h =
+-- children and their projections, where each child's projection is in the relation
+pub all-pairwise : (P : ℕ → Expression → Type 0) (xs : List (Option Expression)) (ks : List ℕ)
+    → ((k : ℕ) → k < length ks → (x : Expression) → getD xs (getD ks k 0) none ≡ some x → P (getD ks k 0) x)
+    → (ys : Expressions) → allProject xs ks ≡ some ys → Pairwise P ks ys
+unfolding allProject Pairwise
+all-pairwise P xs [] h ys e = let z : ∅ ≡ ys = cc in subst (Pairwise P []) z tt
+all-pairwise P xs (k ∷ ks) h ys e =
     let p = parted xs k ks ys e in
-    subst AllSmall (sym (p .is)) (h 0 (omega arith) (p .one) (p .one-known), all-small xs ks (p .others) (p .others-known) (λ j l. h (suc j) (omega arith)))
+    subst (Pairwise P (k ∷ ks)) (sym (p .is)) (h 0 (omega arith) (p .one) (p .one-known), all-pairwise P xs ks (λ j l. h (suc j) (omega arith)) (p .others) (p .others-known))
+
+-- small expressions in a row are as many as their numbers
+pub pairwise-small : (ks : List ℕ) (ys : Expressions) → Pairwise (λ k y. Small y) ks ys → (size ys ≡ length ks) × AllSmall ys
+unfolding Pairwise size AllSmall
+pairwise-small [] ∅ h = (refl, tt)
+pairwise-small [] (y ▹ ys) h = absurd h
+pairwise-small (k ∷ ks) ∅ h = absurd h
+pairwise-small (k ∷ ks) (y ▹ ys) h = let r = pairwise-small ks ys (h .1) in (ap suc (r .0), (h .0, r .1))
 
 -- a node whose projection is made of its children's
 pub record OverChildren (xs : List (Option Expression)) (n : Node) (x : Expression) : Type 0 where
@@ -144,43 +152,6 @@ none-known xs ks k l e = go (allProject xs ks) refl
     go : (o : Option Expressions) → allProject xs ks ≡ o → allProject xs ks ≡ none
     go none q = q
     go (some ys) q = absurd (none-some e (all-child xs ks ys q k l .known))
-
--- ---- what becomes of a whole expression, as an entry
-
--- an entry 0 is that of nothing
-entry-none : (o : Option ℕ) → 0 ≡ entryOf o → o ≡ none
-unfolding entryOf
-entry-none none e = refl
-entry-none (some i) e = absurd (omega arith)
-
--- the first of two findings
-first-found : (o p : Option ℕ) → (entryOf o ≡ 0 → ⊥) → orElse o p ≡ o
-unfolding entryOf orElse
-first-found none p h = absurd (h refl)
-first-found (some i) p h = refl
-
-module _ (ns : List Node) (cs : List Class) (ps : List Mapped) (e own : ℕ) (q : own ≡ entryOf (targetFor (λ s. eqb s e) ps)) where
-  -- a mapped source
-  pub becomes-own : (own ≡ 0 → ⊥) → own ≡ entryOf (becomes ns cs ps e)
-  unfolding becomes
-  becomes-own h =
-      q
-      ∙ ap entryOf (sym (first-found (targetFor (λ s. eqb s e) ps)
-      (orElse (if isLiteral (nodeAt ns e) then some e else none) (targetFor (λ s. sameClass cs s e) ps)) (λ z. h (q ∙ z))))
-
-  module _ (z : own ≡ 0) where
-    no-source : targetFor (λ s. eqb s e) ps ≡ none
-    no-source = entry-none (targetFor (λ s. eqb s e) ps) (sym z ∙ q)
-
-    -- a literal
-    pub becomes-literal : isLiteral (nodeAt ns e) ≡ true → e + 2 ≡ entryOf (becomes ns cs ps e)
-    unfolding becomes orElse entryOf
-    becomes-literal t = rw (no-source, t)
-
-    -- what the class gives
-    pub becomes-class : isLiteral (nodeAt ns e) ≡ false → (r : ℕ) → r ≡ entryOf (targetFor (λ s. sameClass cs s e) ps) → r ≡ entryOf (becomes ns cs ps e)
-    unfolding becomes orElse
-    becomes-class t r h = h ∙ rw (no-source, t)
 
 -- ---- what an entry says
 
@@ -235,27 +206,6 @@ entry-not-0 entry e z = true-not-false e (ap not (eq-eqb entry 0 z))
 
 -- ---- the table
 
--- what is found is among the first n if both findings are
-or-below : (n : ℕ) (o p : Option ℕ) → ((i : ℕ) → o ≡ some i → i < n) → ((i : ℕ) → p ≡ some i → i < n) → (i : ℕ) → orElse o p ≡ some i → i < n
-unfolding orElse
-or-below n none p a b i e = b i e
-or-below n (some j) p a b i e = a i e
-
--- what becomes of a whole expression of the first n is among them
-becomes-below : (ns : List Node) (cs : List Class) (n : ℕ) (m : Mapping) (e : ℕ) → Checked n m → e < n → (i : ℕ) → becomes ns cs (decode m) e ≡ some i → i < n
-unfolding becomes
-becomes-below ns cs n m e c l =
-    or-below n (targetFor (λ s. eqb s e) (decode m)) (orElse (stays (isLiteral (nodeAt ns e))) (targetFor (λ s. sameClass cs s e) (decode m)))
-    (found-below (λ s. eqb s e) n m c)
-    (or-below n (stays (isLiteral (nodeAt ns e))) (targetFor (λ s. sameClass cs s e) (decode m)) (itself (isLiteral (nodeAt ns e))) (found-below (λ s. sameClass cs s e) n m c))
-  where
-    stays : Bool → Option ℕ
-    stays b = if b then some e else none
-
-    itself : (b : Bool) (i : ℕ) → stays b ≡ some i → i < n
-    itself true i q = let z : e ≡ i = cc in omega arith
-    itself false i q = absurd (let z : _≡_ {A = ℕ} 0 1 = cc in omega arith)
-
 module _ (ns : List Node) (cs : List Class) (m : Mapping) (s : Sound ns) (e : ℕ) (l : e < length ns) (whole : ℕ) (q : whole ≡ entryOf (becomes ns cs (decode m) e)) where
   abbrev All : List (Option Expression)
   All = projections ns cs (decode m)
@@ -270,7 +220,7 @@ module _ (ns : List Node) (cs : List Class) (m : Mapping) (s : Sound ns) (e : �
       go (some i) t =
           let y : whole ≡ i + 2 = q ∙ ap entryOf t in
           let w : suc (suc i) ≡ whole = omega arith in
-          subst (Says ns All ns e) w (becomes-below ns cs (length ns) m e c l i t, projection-at ns cs (decode m) s e l ∙ rw t)
+          subst (Says ns All ns e) w (becomes-below ns cs (length ns) m e c l i (becomes-is ns cs (decode m) e i t), projection-at ns cs (decode m) s e l ∙ rw t)
 
   module _ (z : whole ≡ 0) where
     -- nothing does: what the children give

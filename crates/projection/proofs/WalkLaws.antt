@@ -29,7 +29,7 @@ use Rattle.projection.specs.Calls.{placedAnswer, projectedAnswer}
 use Rattle.projection.specs.Inner.{Says, Tabled, Fits, Ready, Settling, Walked, ReadyFrom, toldFrom, WalkedFrom, settledAs, restoredAs}
 use Rattle.projection.specs.declared.Projected.{Projected}
 use Rattle.projection.specs.declared.Projected.the-variants.{Nothing}
-use Rattle.projection.proofs.TableLaws.{Projects, none-some, all-known, all-child, all-size, all-small, over-children, says-some}
+use Rattle.projection.proofs.TableLaws.{Projects, none-some, all-known, all-child, all-pairwise, pairwise-small, over-children, says-some}
 use Rattle.projection.proofs.RowLaws.{operation-row, row-label, row-child, children-set, label-set, row-set}
 
 -- ---- what the table says
@@ -93,7 +93,8 @@ module _ (os : List Node) (xs : List (Option Expression)) (ns : List Node) (tabl
         let y : p .0 ≡ x = cc (q, p .1 .0) in
         let o = over-children xs (nodeAt os e) (p .0) (p .1 .1) in
         let a = subst (Allowed e) (o .node) (sound-before (f .extends) s .allowed e l) in
-        subst Small (sym (o .is) ∙ y) (omega (arith, a .0, all-size xs (o .children) (o .projected) (o .known)), all-small xs (o .children) (o .projected) (o .known) (λ j b. h (getD (o .children) j 0) (a .1 j b)))
+        let r = pairwise-small (o .children) (o .projected) (all-pairwise (λ k z. Small z) xs (o .children) (λ j b. h (getD (o .children) j 0) (a .1 j b)) (o .projected) (o .known)) in
+        subst Small (sym (o .is) ∙ y) (omega (arith, a .0, r .0), r .1)
     small-one e l h x q (suc (suc i)) p =
         let y : expressionAt ns i ≡ x = cc (q, p .1) in
         subst Small y (expression-small ns s i (p .0))

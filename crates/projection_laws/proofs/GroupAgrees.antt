@@ -19,7 +19,6 @@ use Rattle.arena.proofs.Values.{value-kept}
 use Rattle.classes.specs.Class.{Class}
 use Rattle.classes.specs.Group.{among, classAt}
 use Rattle.classes.specs.Good.{flat, Good}
-use Rattle.classes.specs.Layout.{fresh}
 use Rattle.classes.specs.Agree.{Same, MembersAgree}
 use Rattle.classes.proofs.Places.{All, getD-among, class-flat}
 use Rattle.normal.proofs.NormalValue.{normal-value}
@@ -31,11 +30,12 @@ use Rattle.merging_laws.proofs.JoinLaws.{from-place}
 use Rattle.mappings.specs.Mapping.{Mapped, mappedAt}
 use Rattle.mappings.specs.Agree.{TargetsAgree, Over}
 use Rattle.group_projection.specs.Group.{projectedNumbers, there, projectedClasses, targetsOf, sourceClasses, projectedList, beforeConstants}
-use Rattle.group_projection.proofs.FairProjected.{all-telling}
+use Rattle.group_projection.proofs.FairProjected.{all-sources, all-telling}
 use Rattle.projection.specs.Projecting.{projection}
+use Rattle.projection_laws.proofs.LentOver.{target-inside}
 use Rattle.projection_laws.proofs.ProjectedValue.{projection-value}
 use Rattle.projection_laws.proofs.ProjectedList.{answers-some, answers-kept}
-use Rattle.projection_laws.proofs.GroupNumbers.{target-inside, NumbersPlaced, numbers-placed}
+use Rattle.projection_laws.proofs.GroupNumbers.{NumbersPlaced, numbers-placed}
 
 -- ---- where the members come from
 
@@ -110,18 +110,6 @@ targets-place j (i ∷ js) (p ∷ ps) k l = go (eqb i j) refl l (targets-place j
         → TargetOf j (i ∷ js) (p ∷ ps) (getD (own b ++ targetsOf j js ps) k 0)
     go true q m r = here q r (decLt k (length (p .targets))) m
     go false q m r = after (getD (targetsOf j js ps) k 0) (r k m)
-
--- what holds of the class of the targets with any normal form holds of each class of sources
-pub all-sources : (Q : Class → Type 0) (os : List Node) (js : List ℕ) (ps : List Mapped) → ((j : ℕ) → Q (classFrom os (targetsOf j js ps))) → (n : ℕ) → All Q (sourceClasses os js ps n)
-unfolding sourceClasses
-all-sources Q os js ps h zero = λ i l. absurd (omega arith)
-all-sources Q os js ps h (suc n) =
-    all-append Q (sourceClasses os js ps n) (if fresh js n then classFrom os (targetsOf (getD js n 0) js ps) ∷ [] else []) (all-sources Q os js ps h n) (go (fresh js n))
-  where
-    go : (b : Bool) → All Q (if b then classFrom os (targetsOf (getD js n 0) js ps) ∷ [] else [])
-    go true zero l = h (getD js n 0)
-    go true (suc i) l = absurd (omega arith)
-    go false i l = absurd (omega arith)
 
 -- ---- rows
 

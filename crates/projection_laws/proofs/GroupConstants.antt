@@ -17,14 +17,13 @@ use Rattle.arena.proofs.Made.{made-kept}
 use Rattle.classes.specs.Class.{Constant, noConstant, heterogeneous, unknown, known, Class, isConstant, isUniform, taken, carried, merged, sameConstant}
 use Rattle.classes.specs.Group.{among, classAt, classOf, given, constantAt, classLike, constantFor, constantIn, withConstant}
 use Rattle.classes.specs.Good.{Good}
-use Rattle.classes.specs.Steps.{fits}
 use Rattle.classes.proofs.Places.{nothing, among-left, among-right, one-among, classOf-some, classOf-only, length-mergedAt, mergedAt-same, mergedAt-other, more-old, more-new, length-more}
 use Rattle.questions.specs.Questions.{classConstant, constantOfNode, constantBy, exprConstant}
 use Rattle.demands.proofs.GoodKept.{taken-keeps, taken-uniform}
 use Rattle.mappings.specs.Mapping.{Mapped, mappedAt}
 use Rattle.mappings.specs.Agree.{Over}
 use Rattle.group_projection.specs.Group.{projectedNumbers, newConstants, constantsSaid, beforeConstants, projectedGroup}
-use Rattle.group_projection.proofs.ConstantLaws.{nothingSaid, said-next, said-over, saidOf}
+use Rattle.group_projection.proofs.ConstantLaws.{nothingSaid, said-first, saidOf}
 use Rattle.projection_laws.proofs.ProjectedList.{mapped-at}
 use Rattle.projection_laws.proofs.GroupHanded.{group-steps, group-within}
 
@@ -242,27 +241,19 @@ module _ (test : Constant → Bool) (t : Kept test) where
 
     -- ---- one after the other
 
-    -- what the first of them leaves, where they were all said
-    said-first : (q : ℕ × Constant) (qs : List (ℕ × Constant)) (cs ds : List Class) → constantsSaid two ns (q ∷ qs) cs ≡ some ds → constantsSaid two ns qs (withConstant two ns cs (q .0) (q .1)) ≡ some ds
-    said-first q qs cs ds e = go (fits 256 (withConstant two ns cs (q .0) (q .1))) refl
-      where
-        go : (b : Bool) → fits 256 (withConstant two ns cs (q .0) (q .1)) ≡ b → constantsSaid two ns qs (withConstant two ns cs (q .0) (q .1)) ≡ some ds
-        go true f = sym (said-next two ns q qs cs f) ∙ e
-        go false f = absurd (let y : none ≡ some ds = sym (said-over two ns q qs cs f) ∙ e in let z : _≡_ {A = ℕ} 0 1 = cc in omega arith)
-
     -- all of them leave a class one that passes
     has-after : (qs : List (ℕ × Constant)) (cs ds : List Class) → constantsSaid two ns qs cs ≡ some ds → (x : ℕ) → Has cs x → Has ds x
     unfolding constantsSaid
     has-after [] cs ds e x h = let y : cs ≡ ds = cc in subst (λ (l : List Class). Has l x) y h
-    has-after (q ∷ qs) cs ds e x h = has-after qs (withConstant two ns cs (q .0) (q .1)) ds (said-first q qs cs ds e) x (has-kept cs (q .0) (q .1) x h)
+    has-after (q ∷ qs) cs ds e x h = has-after qs (withConstant two ns cs (q .0) (q .1)) ds (said-first two ns q qs cs ds e .1) x (has-kept cs (q .0) (q .1) x h)
 
     -- and whatever is said that passes, its expression is in such a class in the end
     has-all : (qs : List (ℕ × Constant)) (cs ds : List Class) → constantsSaid two ns qs cs ≡ some ds
         → (k : ℕ) → k < length qs → test (getD qs k nothingSaid .1) ≡ true → Has ds (getD qs k nothingSaid .0)
     has-all [] cs ds e k l p = absurd (omega arith)
     has-all (q ∷ qs) cs ds e zero l p =
-        has-after qs (withConstant two ns cs (q .0) (q .1)) ds (said-first q qs cs ds e) (q .0) (has-said cs (q .0) (q .1) p)
-    has-all (q ∷ qs) cs ds e (suc k) l p = has-all qs (withConstant two ns cs (q .0) (q .1)) ds (said-first q qs cs ds e) k (omega arith) p
+        has-after qs (withConstant two ns cs (q .0) (q .1)) ds (said-first two ns q qs cs ds e .1) (q .0) (has-said cs (q .0) (q .1) p)
+    has-all (q ∷ qs) cs ds e (suc k) l p = has-all qs (withConstant two ns cs (q .0) (q .1)) ds (said-first two ns q qs cs ds e .1) k (omega arith) p
 
 -- ---- of sources
 

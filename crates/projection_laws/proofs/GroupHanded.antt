@@ -24,20 +24,24 @@ use Rattle.classes.specs.declared.Changed.{Changed}
 use Rattle.classes.proofs.HeldLaws.{number-fit, held-number}
 use Rattle.normal.specs.Calls.{onChecked}
 use Rattle.merging.specs.Calls.{madeGroup}
+use Rattle.merging.proofs.ListCounts.{fits-few, fits-small}
 use Rattle.mappings.specs.Mapping.{Mapped}
 use Rattle.mappings.specs.Lent.{mappingLent}
 use Rattle.mappings.specs.Calls.{projectNumber}
 use Rattle.mappings.specs.Agree.{Over}
+use Rattle.mappings.proofs.MappingChecked.{group-passes}
 use Rattle.projection.specs.Projecting.{projection}
+use Rattle.projection.proofs.TableLaws.{none-some}
+use Rattle.projection.proofs.CallLaws.{lent-holds}
 use Rattle.group_projection.specs.Group.{projectedNumbers, newConstants, constantsSaid, beforeConstants, projectedList, projectedGroup}
 use Rattle.group_projection.specs.Calls.{projectRefused, projectMade, projectPlaced, projectBy, projectAnswer}
-use Rattle.group_projection.proofs.MadeGroups.{Within, fits-few, fits-small}
+use Rattle.group_projection.proofs.MadeGroups.{Within}
 use Rattle.group_projection.proofs.ConstantLaws.{SaidBelow, said-within, new-source, source-below}
 use Rattle.group_projection.proofs.FairProjected.{ThereBelow, TargetsBelow, list-fair-projected, from-within}
 use Rattle.projection_laws.proofs.ProjectedList.{answers-some, answers-kept}
-use Rattle.projection_laws.proofs.LentOver.{project-checked, number-over}
-use Rattle.projection_laws.proofs.ProjectedCalls.{checked-by, number-holds}
-use Rattle.projection_laws.proofs.GroupNumbers.{target-inside, NumbersPlaced, numbers-placed}
+use Rattle.projection_laws.proofs.LentOver.{target-inside, number-over}
+use Rattle.projection_laws.proofs.ProjectedCalls.{checked-by}
+use Rattle.projection_laws.proofs.GroupNumbers.{NumbersPlaced, numbers-placed}
 
 -- ---- the projected group is one
 
@@ -69,9 +73,7 @@ module _ (ns : List Node) (cs : List Class) (ps : List Mapped) (s : Sound ns) (g
       go (yes l) =
           let x = projection ns cs ps (getD (flat cs) k 0) in
           answers-some os x (getD ks k none) (answers-kept (numbers .later) x (getD ks k none) (numbers .projected .answers k l)) i e .0
-      go (no l) =
-          let z : none ≡ some i = sym (List·getD-eq-default ks none {n = k} (omega (arith, numbers .projected .counted))) ∙ e in
-          absurd (let y : _≡_ {A = ℕ} 0 1 = cc in omega arith)
+      go (no l) = absurd (none-some (List·getD-eq-default ks none {n = k} (omega (arith, numbers .projected .counted))) e)
 
   -- and so are the targets
   pub targets-inside : TargetsBelow (length os) ps
@@ -159,17 +161,17 @@ module _ (cells numbers : List ℕ) (g : Group) where
   module _ (z : projectNumber cells g numbers ≡ 0) where
     -- the lent group's classes are a group
     pub lent-good : Good (nodes cells) (decode g)
-    lent-good = number-fit cells g (project-checked cells g numbers z .group-valid) .good
+    lent-good = number-fit cells g (group-passes cells numbers g z) .good
 
     module _ (d : GroupMade (mappingLent numbers) g (nodes cells) (over .0) (over .1)) where
       -- what was placed
       pub made-numbers : NumbersPlaced (nodes cells) (decode g) (mappingLent numbers) (d .members) (d .forms) (over .1)
-      made-numbers = numbers-placed (nodes cells) (decode g) (mappingLent numbers) (number-holds cells g numbers z .sound) lent-good (number-over cells g numbers z) (d .members) (d .forms) (over .1) (d .places)
+      made-numbers = numbers-placed (nodes cells) (decode g) (mappingLent numbers) (lent-holds cells numbers g z .sound) lent-good (number-over cells g numbers z) (d .members) (d .forms) (over .1) (d .places)
 
       -- what was made
       pub made-within : Within (over .1) (d .classes)
       made-within =
-          group-within (nodes cells) (decode g) (mappingLent numbers) (number-holds cells g numbers z .sound) lent-good (number-over cells g numbers z) (d .members) (d .forms) (over .1) (d .places) (d .classes) (d .makes)
+          group-within (nodes cells) (decode g) (mappingLent numbers) (lent-holds cells numbers g z .sound) lent-good (number-over cells g numbers z) (d .members) (d .forms) (over .1) (d .places) (d .classes) (d .makes)
 
     -- the arena stays sound
     over-sound : Sound (over .1)
@@ -177,7 +179,7 @@ module _ (cells numbers : List ℕ) (g : Group) where
       where
         go : Dec (over .0 .number ≡ 0) → Sound (over .1)
         go (yes e) = made-numbers (project-over (mappingLent numbers) g (nodes cells) .done e) .sound
-        go (no e) = subst Sound (sym (project-over (mappingLent numbers) g (nodes cells) .refused e .1)) (number-holds cells g numbers z .sound)
+        go (no e) = subst Sound (sym (project-over (mappingLent numbers) g (nodes cells) .refused e .1)) (lent-holds cells numbers g z .sound)
 
   -- a projected group is valid beside the cells as they are left
   pub project-valid : projectAnswer cells g numbers .0 .number ≡ 0 → groupNumber (projectAnswer cells g numbers .1) (projectAnswer cells g numbers .0 .group) ≡ 0
@@ -194,7 +196,7 @@ module _ (cells numbers : List ℕ) (g : Group) where
   pub refusal-keeps-project : (projectAnswer cells g numbers .0 .number ≡ 0 → ⊥) → (projectAnswer cells g numbers .0 .group ≡ g) × (projectAnswer cells g numbers .1 ≡ cells)
   refusal-keeps-project =
       project-by (λ (r : Changed × List ℕ). (r .0 .number ≡ 0 → ⊥) → (r .0 .group ≡ g) × (r .1 ≡ cells))
-      (λ z n. let h = project-over (mappingLent numbers) g (nodes cells) .refused n in (h .0, ap cellsOf (h .1) ∙ coded-cells cells (number-holds cells g numbers z)))
+      (λ z n. let h = project-over (mappingLent numbers) g (nodes cells) .refused n in (h .0, ap cellsOf (h .1) ∙ coded-cells cells (lent-holds cells numbers g z)))
       (λ z n. (refl, refl))
 
   -- cells that are an arena stay one

@@ -1,16 +1,10 @@
 -- The numbers that projecting a group places: for each member that there is no projection or the number of one, then for each source the number of its normal form.
 use Prim.Native.Nat.{ℕ, zero, suc, _<_}
-use mathlib.Core.Bool.{true}
 use mathlib.Core.List.{List, [], _∷_}
 use mathlib.Core.Option.{Option}
 use mathlib.Core.Path.{_≡_, refl, ap, _∙_, subst}
 use native.Mathlib.Omega.{arith}
-use borrow.Author.Tests.{ltb-true}
-use lib.Dec.{ltb}
-use lib.ListN.{length, getD, length-map}
-use Rattle.laws.specs.Tests.{each}
-use Rattle.laws.proofs.Booleans.{and-left, and-right}
-use Rattle.laws.proofs.Each.{each-holds}
+use lib.ListN.{length, getD}
 use Rattle.arena.specs.Node.{Node}
 use Rattle.arena.specs.Expression.{Expression, Expressions, lit, ∅, _▹_, size, those, expressions, expressionAt}
 use Rattle.arena.specs.Arena.{Sound, Extends, placed, andThen, addExpressions}
@@ -22,44 +16,13 @@ use Rattle.classes.specs.Good.{flat, Good}
 use Rattle.normal.specs.Normal.{firstOf, normalBy, normalsBy, normal, normals}
 use Rattle.normal.proofs.NormalValue.{normal-forms-small}
 use Rattle.merging.proofs.Reaching.{flat-below}
-use Rattle.mappings.specs.Mapping.{Mapped, sources, mappedAt, mappedBelow, mappingBelow}
+use Rattle.mappings.specs.Mapping.{Mapped, sources, mappedAt}
 use Rattle.mappings.specs.Agree.{Over}
+use Rattle.mappings.proofs.Targets.{length-sources, source-at}
 use Rattle.projection.specs.Projecting.{projectAll}
 use Rattle.group_projection.specs.Group.{projectedNumbers}
-use Rattle.projection_laws.proofs.ProjectedList.{ProjectedAt, project-all-is, mapped-at}
-
--- ---- a mapping over an arena
-
-module _ (ns : List Node) (ps : List Mapped) (o : Over ns ps) where
-  -- a place passes the check
-  place-below : (i : ℕ) → i < length ps → mappedBelow (length ns) (mappedAt ps i) ≡ true
-  unfolding mappingBelow
-  place-below i l = each-holds (λ (i : ℕ). mappedBelow (length ns) (mappedAt ps i)) (length ps) i (o .inside) l
-
-  -- its source is in the arena
-  pub source-inside : (i : ℕ) → i < length ps → mappedAt ps i .source < length ns
-  unfolding mappedBelow
-  source-inside i l =
-      let p = mappedAt ps i in
-      ltb-true (p .source) (length ns) (and-left (ltb (p .source) (length ns)) (each (λ (k : ℕ). ltb (getD (p .targets) k 0) (length ns)) (length (p .targets))) (place-below i l))
-
-  -- and so are its targets
-  pub target-inside : (i : ℕ) → i < length ps → (k : ℕ) → k < length (mappedAt ps i .targets) → getD (mappedAt ps i .targets) k 0 < length ns
-  unfolding mappedBelow
-  target-inside i l k b =
-      let p = mappedAt ps i in
-      let t = and-right (ltb (p .source) (length ns)) (each (λ (k : ℕ). ltb (getD (p .targets) k 0) (length ns)) (length (p .targets))) (place-below i l) in
-      ltb-true (getD (p .targets) k 0) (length ns) (each-holds (λ (k : ℕ). ltb (getD (p .targets) k 0) (length ns)) (length (p .targets)) k t b)
-
--- as many sources as places
-pub length-sources : (ps : List Mapped) → length (sources ps) ≡ length ps
-unfolding sources
-length-sources ps = length-map ps (λ (p : Mapped). p .source)
-
--- the source at a place
-pub source-at : (ps : List Mapped) (i : ℕ) → i < length ps → getD (sources ps) i 0 ≡ mappedAt ps i .source
-unfolding sources
-source-at ps i l = mapped-at (λ (p : Mapped). p .source) ps i (record { source = 0; targets = [] }) 0 l
+use Rattle.projection_laws.proofs.LentOver.{source-inside}
+use Rattle.projection_laws.proofs.ProjectedList.{ProjectedAt, project-all-is}
 
 -- ---- the numbers
 
@@ -109,7 +72,7 @@ numbers-placed ns cs ps s g o ks js os e =
     let p = project-all-is ns cs ps (flat cs) s o (flat-below ns cs g) (b .answer) (b .arena) (b .first) in
     let n = length-sources ps in
     let a = add-expressions xs (b .arena) (p .sound)
-    (normal-forms-small es ns cs s g (λ k l. let h : k < length ps = omega arith in rw (source-at ps k h) (source-inside ns ps o k h))) (c .answer) (c .arena) (c .first) in
+    (normal-forms-small es ns cs s g (λ k l. let h : k < length ps = omega arith in rw (source-at ps k) (source-inside ns ps o k h))) (c .answer) (c .arena) (c .first) in
     let t : length (c .answer) ≡ length ps = a .counted ∙ size-normals ns (firstOf cs) (those (expressions ns) es) ∙ size-those (expressions ns) es ∙ n in
     numbers-same ns cs ps (b .answer, c .answer) (ks, js) (c .arena) os (c .then) (record {
       between = b .arena;
@@ -120,6 +83,6 @@ numbers-placed ns cs ps s g o ks js os e =
       counted = t;
       below = λ i l. a .below i (omega arith);
       is = λ i l.
-          subst (λ (k : ℕ). expressionAt (c .arena) (getD (c .answer) i 0) ≡ normal ns cs (expressionAt ns k)) (source-at ps i l)
+          subst (λ (k : ℕ). expressionAt (c .arena) (getD (c .answer) i 0) ≡ normal ns cs (expressionAt ns k)) (source-at ps i)
           (normal-at ns (firstOf cs) (expressions (c .arena)) (expressions ns) (c .answer) es (a .is) i (omega arith));
     })

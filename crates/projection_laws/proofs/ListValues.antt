@@ -20,10 +20,11 @@ use Rattle.mappings.specs.Calls.{projectNumber}
 use Rattle.mappings.specs.Agree.{TargetsAgree}
 use Rattle.projection.specs.Projecting.{projection}
 use Rattle.projection.specs.Calls.{outputOf, projectExpressions, projectedExpressions}
+use Rattle.projection.proofs.CallLaws.{lent-holds}
 use Rattle.projection_laws.proofs.ProjectedValue.{projection-value}
 use Rattle.projection_laws.proofs.ProjectedList.{Answers, mapped-at}
 use Rattle.projection_laws.proofs.LentOver.{number-over}
-use Rattle.projection_laws.proofs.ProjectedCalls.{checked-by, number-holds, all, all-projected}
+use Rattle.projection_laws.proofs.ProjectedCalls.{checked-by, all, all-projected}
 
 -- what an entry of the output says of a projection: that there is none, or its number
 pub record Written (ms : List Node) (x : Option Expression) (entry : ℕ) : Type 0 where
@@ -85,7 +86,7 @@ module _ (cells : List ℕ) (g : Group) (numbers es out : List ℕ) where
       → (j : ℕ) → j < length es → (getD out′ j 0 ≡ 4294967295 → ⊥) → value (expressionAt (nodes cells′) (getD out′ j 0)) m outrow ≡ value (expressionAt (nodes cells) (getD es j 0)) m row
   expressions-value out′ cells′ q m row outrow agree targets j l z =
       let d = expressions-done out′ cells′ q in
-      projection-value (nodes cells) (decode g) (mappingLent numbers) (number-holds cells g numbers (d .passed) .sound) (number-over cells g numbers (d .passed)) m row outrow agree targets
+      projection-value (nodes cells) (decode g) (mappingLent numbers) (lent-holds cells numbers g (d .passed) .sound) (number-over cells g numbers (d .passed)) m row outrow agree targets
       (getD es j 0) (d .known j l) (expressionAt (nodes cells′) (getD out′ j 0)) (d .written j l .number z .1)
 
   -- an entry that says so is that of an expression without a projection

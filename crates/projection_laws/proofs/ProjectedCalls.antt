@@ -10,7 +10,6 @@ use borrow.Author.Tests.{ltb-true, lt-ltb}
 use lib.Dec.{ltb, leb}
 use lib.ListN.{length, getD, drop}
 use Rattle.laws.specs.Tests.{if_then_else_, each}
-use Rattle.laws.proofs.Each.{each-holds}
 use Rattle.arena.specs.Node.{Node}
 use Rattle.arena.specs.Expression.{Expression, expressionAt}
 use Rattle.arena.specs.Value.{Meaning, Row, value}
@@ -20,12 +19,11 @@ use Rattle.arena.specs.Calls.{inCells}
 use Rattle.arena.specs.Inner.{Holds}
 use Rattle.arena.proofs.Nodes.{extends-none}
 use Rattle.arena.proofs.Growing.{add-expression}
-use Rattle.arena.proofs.Layouts.{decode-encode, encode-holds, coded-cells, holds-lawful, lawful-holds}
+use Rattle.arena.proofs.Layouts.{decode-encode, encode-holds, coded-cells, holds-lawful}
 use Rattle.classes.specs.Class.{Class}
 use Rattle.classes.specs.Layout.{decode}
 use Rattle.classes.specs.Agree.{MembersAgree}
 use Rattle.classes.specs.declared.Group.{Group}
-use Rattle.classes.proofs.HeldLaws.{number-lawful}
 use Rattle.normal.specs.Calls.{onChecked}
 use Rattle.normal.proofs.Calling.{checked-done, checked-refused}
 use Rattle.mappings.specs.Mapping.{Mapped}
@@ -36,9 +34,10 @@ use Rattle.projection.specs.Projecting.{projection, projectAll}
 use Rattle.projection.specs.Calls.{placedAnswer, projectedAnswer, projectExpr, projectedExpr, outputOf, writtenAnswer, projectExpressions, projectedExpressions}
 use Rattle.projection.specs.declared.Projected.{Projected}
 use Rattle.projection.specs.declared.Projected.the-variants.{Number, Nothing, Refused}
+use Rattle.projection.proofs.CallLaws.{each-below, lent-holds}
 use Rattle.projection_laws.proofs.ProjectedValue.{projection-value, projection-small}
 use Rattle.projection_laws.proofs.ProjectedList.{ProjectedAt, project-all-is}
-use Rattle.projection_laws.proofs.LentOver.{project-checked, number-over}
+use Rattle.projection_laws.proofs.LentOver.{number-over}
 
 -- ---- the projection of one expression
 
@@ -80,22 +79,10 @@ module _ (ns : List Node) (cs : List Class) (ps : List Mapped) (e : ℕ) where
         go true t x q = known (ltb-true e (length ns) t) x q
         go false t x q = refl
 
-    -- a number is that of the projection
-    pub project-expr-is : (k : ℕ) (ms : List Node) → projectExpr e ps ns cs ≡ (Number k, ms) → ProjectedTo ns cs ps e k ms
-    unfolding Answered
-    project-expr-is k ms q = subst (λ (r : Projected × List Node). Answered (r .0) (r .1)) q project-expr-answered
-
   -- a projection that fails adds nothing
   pub failed-adds-nothing : projection ns cs ps e ≡ none → e < length ns → projectExpr e ps ns cs ≡ (Nothing, ns)
   unfolding projectExpr projectedAnswer
   failed-adds-nothing q l = rw (lt-ltb e (length ns) l, q)
-
--- the number that is answered has on the output row the value that the expression has on the input row
-pub project-expr-value : {A : Type 0} (ns : List Node) (cs : List Class) (ps : List Mapped) (e : ℕ) → Sound ns → Over ns ps → (k : ℕ) (ms : List Node) → projectExpr e ps ns cs ≡ (Number k, ms)
-    → (m : Meaning A) (row out : Row A) → MembersAgree ns cs m row → TargetsAgree ns ps m row out → value (expressionAt ms k) m out ≡ value (expressionAt ns e) m row
-project-expr-value ns cs ps e s o k ms q m row out agree targets =
-    let t = project-expr-is ns cs ps e s o k ms q in
-    projection-value ns cs ps s o m row out agree targets e (t .known) (expressionAt ms k) (t .is)
 
 -- ---- the projections of a list of expressions
 
@@ -125,7 +112,7 @@ module _ (ns : List Node) (cs : List Class) (ps : List Mapped) (es out : List �
       go : (b : Bool) → each (λ k. ltb (getD es k 0) (length ns)) (length es) ≡ b → (p : Placed (List (Option ℕ))) → projectAll ns cs ps es ≡ p
           → ListProjected ns cs ps es out (if b then writtenAnswer out ns p else ((1, out), ns))
       go true t (placed ks ms) q =
-          let below : (j : ℕ) → j < length es → getD es j 0 < length ns = λ j l. ltb-true (getD es j 0) (length ns) (each-holds (λ k. ltb (getD es k 0) (length ns)) (length es) j t l) in
+          let below = each-below es (length ns) t in
           written below (leb (length ks) (length out)) ks ms (project-all-is ns cs ps es s o below ks ms q)
       go true t full q = list-refused 3 (λ z. omega arith)
       go false t p q = list-refused 1 (λ z. omega arith)
@@ -142,10 +129,6 @@ checked-by number refusedBy call cells g P passed not-passed = go (ℕ-discrete 
     go (no z) = subst P (checked-refused number refusedBy call cells g z) (not-passed z)
 
 module _ (cells : List ℕ) (g : Group) (numbers : List ℕ) where
-  -- the arena in cells that pass
-  pub number-holds : projectNumber cells g numbers ≡ 0 → Holds cells
-  number-holds z = lawful-holds cells (number-lawful cells g (project-checked cells g numbers z .group-valid))
-
   module _ (e : ℕ) where
     -- the call over nodes
     abbrev one : Projected × List Node
@@ -153,7 +136,7 @@ module _ (cells : List ℕ) (g : Group) (numbers : List ℕ) where
 
     -- what its answer says
     one-answered : projectNumber cells g numbers ≡ 0 → Answered (nodes cells) (decode g) (mappingLent numbers) e (one .0) (one .1)
-    one-answered z = project-expr-answered (nodes cells) (decode g) (mappingLent numbers) e (number-holds z .sound) (number-over cells g numbers z)
+    one-answered z = project-expr-answered (nodes cells) (decode g) (mappingLent numbers) e (lent-holds cells numbers g z .sound) (number-over cells g numbers z)
 
     -- what every answer says of the cells afterwards: where it is a number, all that is lent passed and the number is the projection's; else they are as they were
     unfoldable CellsAnswered : Projected → List ℕ → Type 0
@@ -170,15 +153,10 @@ module _ (cells : List ℕ) (g : Group) (numbers : List ℕ) where
       where
         go : projectNumber cells g numbers ≡ 0 → (a : Projected) (ms : List Node) → Answered (nodes cells) (decode g) (mappingLent numbers) e a ms → CellsAnswered a (encode ms)
         go z (Number k) ms h = (z, (encode-holds ms (h .sound), subst (ProjectedTo (nodes cells) (decode g) (mappingLent numbers) e k) (sym (decode-encode ms (h .sound))) h))
-        go z Nothing ms h = ap encode (h .0) ∙ coded-cells cells (number-holds z)
-        go z (Refused k) ms h = ap encode h ∙ coded-cells cells (number-holds z)
+        go z Nothing ms h = ap encode (h .0) ∙ coded-cells cells (lent-holds cells numbers g z)
+        go z (Refused k) ms h = ap encode h ∙ coded-cells cells (lent-holds cells numbers g z)
 
-    -- where the call answers a number, it is the projection's
-    pub expr-is : (k : ℕ) (cells′ : List ℕ) → projectedExpr e numbers cells g ≡ (Number k, cells′) → ProjectedTo (nodes cells) (decode g) (mappingLent numbers) e k (nodes cells′)
-    unfolding CellsAnswered
-    expr-is k cells′ q = subst (λ (r : Projected × List ℕ). CellsAnswered (r .0) (r .1)) q cells-answered .1 .1
-
-    -- and has on the output row the value that the expression has on the input row
+    -- a number that the call answers has on the output row the value that the expression has on the input row
     pub expr-value : {A : Type 0} (k : ℕ) (cells′ : List ℕ) → projectedExpr e numbers cells g ≡ (Number k, cells′) → (m : Meaning A) (row out : Row A)
         → MembersAgree (nodes cells) (decode g) m row → TargetsAgree (nodes cells) (mappingLent numbers) m row out
         → value (expressionAt (nodes cells′) k) m out ≡ value (expressionAt (nodes cells) e) m row
@@ -186,7 +164,7 @@ module _ (cells : List ℕ) (g : Group) (numbers : List ℕ) where
     expr-value k cells′ q m row out agree targets =
         let c = subst (λ (r : Projected × List ℕ). CellsAnswered (r .0) (r .1)) q cells-answered in
         let t = c .1 .1 in
-        projection-value (nodes cells) (decode g) (mappingLent numbers) (number-holds (c .0) .sound) (number-over cells g numbers (c .0)) m row out agree targets
+        projection-value (nodes cells) (decode g) (mappingLent numbers) (lent-holds cells numbers g (c .0) .sound) (number-over cells g numbers (c .0)) m row out agree targets
         e (t .known) (expressionAt (nodes cells′) k) (t .is)
 
     -- an answer that there is no projection leaves every cell as it was
@@ -216,7 +194,7 @@ module _ (cells : List ℕ) (g : Group) (numbers : List ℕ) where
 
     -- what it comes to
     pub all-projected : projectNumber cells g numbers ≡ 0 → ListProjected (nodes cells) (decode g) (mappingLent numbers) es out all
-    all-projected z = project-expressions-is (nodes cells) (decode g) (mappingLent numbers) es out (number-holds z .sound) (number-over cells g numbers z)
+    all-projected z = project-expressions-is (nodes cells) (decode g) (mappingLent numbers) es out (lent-holds cells numbers g z .sound) (number-over cells g numbers z)
 
     -- a refusal leaves the output and every cell as they were
     pub expressions-refused : (projectedExpressions es out numbers cells g .0 .0 ≡ 0 → ⊥) → (projectedExpressions es out numbers cells g .0 .1 ≡ out) × (projectedExpressions es out numbers cells g .1 ≡ cells)
@@ -224,7 +202,7 @@ module _ (cells : List ℕ) (g : Group) (numbers : List ℕ) where
     expressions-refused =
         checked-by (projectNumber cells g numbers) (λ k. (k, out)) (projectExpressions es out (mappingLent numbers)) cells g
         (λ (r : (ℕ × List ℕ) × List ℕ). (r .0 .0 ≡ 0 → ⊥) → (r .0 .1 ≡ out) × (r .1 ≡ cells))
-        (λ z q. let h = all-projected z .refused q in (h .0, ap encode (h .1) ∙ coded-cells cells (number-holds z))) (λ z q. (refl, refl))
+        (λ z q. let h = all-projected z .refused q in (h .0, ap encode (h .1) ∙ coded-cells cells (lent-holds cells numbers g z))) (λ z q. (refl, refl))
 
     -- cells that are an arena stay one
     pub expressions-lawful : lawful cells ≡ true → lawful (projectedExpressions es out numbers cells g .1) ≡ true

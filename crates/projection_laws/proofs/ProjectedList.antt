@@ -22,16 +22,10 @@ unfoldable pub Answers : List Node → Option Expression → Option ℕ → Type
 Answers ms x none = x ≡ none
 Answers ms x (some k) = (k < length ms) × (x ≡ some (expressionAt ms k))
 
-module _ (ms : List Node) (x : Option Expression) (answer : Option ℕ) (h : Answers ms x answer) where
-  -- an answer that there is none
-  pub answers-none : answer ≡ none → x ≡ none
-  unfolding Answers
-  answers-none e = subst (Answers ms x) e h
-
-  -- an answer that is a number
-  pub answers-some : (k : ℕ) → answer ≡ some k → (k < length ms) × (x ≡ some (expressionAt ms k))
-  unfolding Answers
-  answers-some k e = subst (Answers ms x) e h
+-- an answer that is a number
+pub answers-some : (ms : List Node) (x : Option Expression) (answer : Option ℕ) → Answers ms x answer → (k : ℕ) → answer ≡ some k → (k < length ms) × (x ≡ some (expressionAt ms k))
+unfolding Answers
+answers-some ms x answer h k e = subst (Answers ms x) e h
 
 -- an answer stays one when the arena grows
 pub answers-kept : {ns ms : List Node} → Extends ns ms → (x : Option Expression) (answer : Option ℕ) → Answers ns x answer → Answers ms x answer

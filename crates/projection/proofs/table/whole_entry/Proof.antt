@@ -12,7 +12,7 @@ use Rattle.questions.proofs.PlaceNumbers.{same-placed}
 use Rattle.mappings.specs.Layout.{decode}
 use Rattle.projection.specs.Inner.{entryOf}
 use Rattle.projection.proofs.Sources.{checked-wider, target-same}
-use Rattle.projection.proofs.TableLaws.{becomes-own, becomes-literal, becomes-class}
+use Rattle.projection.proofs.Becoming.{becomes-own, becomes-literal, becomes-class}
 use Rattle.projection.proofs.table.whole_entry.Statement.{statement}
 use Rattle.projection.proofs.table.whole_entry.Tie as tie
 
