@@ -1,14 +1,15 @@
 -- The list of classes of a projection is fair, so what becomes of it is a group.
-use Prim.Native.Nat.{ℕ, zero, suc, _+_, _<_}
+use Prim.Native.Nat.{ℕ, zero, suc, _+_, _-_, _<_}
 use mathlib.Core.Bool.{Bool, true, false}
 use mathlib.Core.List.{List, [], _∷_, _++_}
 use mathlib.Core.Option.{Option, none, some}
 use mathlib.Core.Path.{_≡_, refl, sym, ap, _∙_, subst}
 use native.Mathlib.Decide.{decLt}
 use native.Mathlib.Omega.{arith}
+use borrow.Author.Tests.{eqb-true}
 use lib.Dec.{eqb}
-use lib.ListN.{length, getD, take, drop, length-take, List·getD-eq-default}
-use lib.Seq.{getD-take, getD-drop}
+use lib.ListN.{length, getD, take, drop, length-append, length-take, List·getD-append, List·getD-eq-default}
+use lib.Seq.{getD-take, getD-drop, getD-append-add}
 use Rattle.laws.specs.Tests.{if_then_else_}
 use Rattle.arena.specs.Node.{Node}
 use Rattle.classes.specs.Class.{Class}
@@ -49,19 +50,17 @@ ThereBelow n ks = (k i : ℕ) → getD ks k none ≡ some i → i < n
 abbrev pub TargetsBelow : ℕ → List Mapped → Type 0
 TargetsBelow n ps = (i : ℕ) → i < length ps → AllBelow n (mappedAt ps i .targets)
 
--- two lists of such numbers, one after the other
-below-both : (n : ℕ) (xs ys : List ℕ) → AllBelow n xs → AllBelow n ys → AllBelow n (xs ++ ys)
-below-both n [] ys a b k l = b k l
-below-both n (x ∷ xs) ys a b zero l = a 0 (omega arith)
-below-both n (x ∷ xs) ys a b (suc k) l = below-both n xs ys (λ j m. a (suc j) (omega arith)) b k (omega arith)
-
--- those that there are
-there-below : (n : ℕ) (ks : List (Option ℕ)) → ThereBelow n ks → AllBelow n (there ks)
+-- a number that there is stands at some place
+pub there-place : (ks : List (Option ℕ)) (k : ℕ) → k < length (there ks) → (j : ℕ) × (j < length ks) × (getD ks j none ≡ some (getD (there ks) k 0))
 unfolding there
-there-below n [] h k l = absurd (omega arith)
-there-below n (none ∷ ks) h k l = there-below n ks (λ j i e. h (suc j) i e) k l
-there-below n (some x ∷ ks) h zero l = h 0 x refl
-there-below n (some x ∷ ks) h (suc k) l = there-below n ks (λ j i e. h (suc j) i e) k (omega arith)
+there-place [] k l = absurd (omega arith)
+there-place (none ∷ ks) k l = let p = there-place ks k l in (suc (p .0), omega (arith, p .1), p .2)
+there-place (some x ∷ ks) zero l = (0, omega arith, refl)
+there-place (some x ∷ ks) (suc k) l = let p = there-place ks k (omega arith) in (suc (p .0), omega (arith, p .1), p .2)
+
+-- so it is below n
+there-below : (n : ℕ) (ks : List (Option ℕ)) → ThereBelow n ks → AllBelow n (there ks)
+there-below n ks h k l = let p = there-place ks k l in h (p .0) (getD (there ks) k 0) (p .2)
 
 -- those of the first m
 there-take : (n m : ℕ) (ks : List (Option ℕ)) → ThereBelow n ks → ThereBelow n (take m ks)
@@ -75,17 +74,46 @@ there-take n m ks h k i e = go (decLt k m)
 there-drop : (n m : ℕ) (ks : List (Option ℕ)) → ThereBelow n ks → ThereBelow n (drop m ks)
 there-drop n m ks h k i e = h (m + k) i (sym (getD-drop m ks k none) ∙ e)
 
--- the targets of the sources with a normal form
-targets-of-below : (n j : ℕ) (js : List ℕ) (ps : List Mapped) → TargetsBelow n ps → AllBelow n (targetsOf j js ps)
+-- a target of a source with the normal form j
+pub record TargetOf (j : ℕ) (js : List ℕ) (ps : List Mapped) (x : ℕ) : Type 0 where
+  pub place : ℕ
+  pub below : place < length ps
+  pub form : getD js place 0 ≡ j
+  pub target : ℕ
+  pub inside : target < length (mappedAt ps place .targets)
+  pub is : getD (mappedAt ps place .targets) target 0 ≡ x
+
+-- so is each of those that are collected for j
+pub targets-place : (j : ℕ) (js : List ℕ) (ps : List Mapped) (k : ℕ) → k < length (targetsOf j js ps) → TargetOf j js ps (getD (targetsOf j js ps) k 0)
 unfolding targetsOf
-targets-of-below n j [] ps h = λ k l. absurd (omega arith)
-targets-of-below n j (i ∷ js) [] h = λ k l. absurd (omega arith)
-targets-of-below n j (i ∷ js) (p ∷ ps) h =
-    below-both n (if eqb i j then p .targets else []) (targetsOf j js ps) (go (eqb i j)) (targets-of-below n j js ps (λ a l. h (suc a) (omega arith)))
+targets-place j [] ps k l = absurd (omega arith)
+targets-place j (i ∷ js) [] k l = absurd (omega arith)
+targets-place j (i ∷ js) (p ∷ ps) k l = go (eqb i j) refl l (targets-place j js ps)
   where
-    go : (b : Bool) → AllBelow n (if b then p .targets else [])
-    go true = h 0 (omega arith)
-    go false = λ k l. absurd (omega arith)
+    own : Bool → List ℕ
+    own b = if b then p .targets else []
+
+    after : (x : ℕ) → TargetOf j js ps x → TargetOf j (i ∷ js) (p ∷ ps) x
+    after x t = record { place = suc (t .place); below = omega (arith, t .below); form = t .form; target = t .target; inside = t .inside; is = t .is }
+
+    here : eqb i j ≡ true → ((n : ℕ) → n < length (targetsOf j js ps) → TargetOf j js ps (getD (targetsOf j js ps) n 0)) → Dec (k < length (p .targets)) → k < length (p .targets ++ targetsOf j js ps)
+        → TargetOf j (i ∷ js) (p ∷ ps) (getD (p .targets ++ targetsOf j js ps) k 0)
+    here q r (yes b) m = record { place = 0; below = omega arith; form = eqb-true i j q; target = k; inside = b; is = sym (List·getD-append (p .targets) (targetsOf j js ps) 0 k b) }
+    here q r (no b) m =
+        let n = k - length (p .targets) in
+        let e : length (p .targets) + n ≡ k = omega arith in
+        let w : getD (targetsOf j js ps) n 0 ≡ getD (p .targets ++ targetsOf j js ps) k 0 =
+        sym (getD-append-add (p .targets) (targetsOf j js ps) n 0) ∙ ap (λ (a : ℕ). getD (p .targets ++ targetsOf j js ps) a 0) e in
+        subst (TargetOf j (i ∷ js) (p ∷ ps)) w (after (getD (targetsOf j js ps) n 0) (r n (omega (arith, length-append (p .targets) (targetsOf j js ps)))))
+
+    go : (b : Bool) → eqb i j ≡ b → k < length (own b ++ targetsOf j js ps) → ((n : ℕ) → n < length (targetsOf j js ps) → TargetOf j js ps (getD (targetsOf j js ps) n 0))
+        → TargetOf j (i ∷ js) (p ∷ ps) (getD (own b ++ targetsOf j js ps) k 0)
+    go true q m r = here q r (decLt k (length (p .targets))) m
+    go false q m r = after (getD (targetsOf j js ps) k 0) (r k m)
+
+-- they are below what every target is below
+targets-of-below : (n j : ℕ) (js : List ℕ) (ps : List Mapped) → TargetsBelow n ps → AllBelow n (targetsOf j js ps)
+targets-of-below n j js ps h k l = let t = targets-place j js ps k l in subst (λ (x : ℕ). x < n) (t .is) (h (t .place) (t .below) (t .target) (t .inside))
 
 -- what holds of the class of the targets with any normal form holds of each class of sources
 pub all-sources : (Q : Class → Type 0) (ns : List Node) (js : List ℕ) (ps : List Mapped) → ((j : ℕ) → Q (classFrom ns (targetsOf j js ps))) → (n : ℕ) → All Q (sourceClasses ns js ps n)

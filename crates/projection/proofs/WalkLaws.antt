@@ -41,11 +41,6 @@ says-kept os xs x e zero h = h
 says-kept os xs x e (suc zero) h = h
 says-kept os xs x e (suc (suc i)) h = (omega (arith, extends-longer x, h .0), h .1 ∙ ap (λ (y : Expression). some y) (sym (expression-kept x i (h .0))))
 
--- where there is one, the entry is not 0
-pub says-not-none : (os : List Node) (xs : List (Option Expression)) (ns : List Node) (e k : ℕ) → Says os xs ns e k → Projects xs e → k ≡ 0 → ⊥
-unfolding Says
-says-not-none os xs ns e k h p z = let q : getD xs e none ≡ none = subst (Says os xs ns e) z h in none-some q (p .known)
-
 -- the entry of an expression that is there
 pub says-number : (os : List Node) (xs : List (Option Expression)) (ns : List Node) (e i : ℕ) → i < length ns → getD xs e none ≡ some (expressionAt ns i) → Says os xs ns e (i + 2)
 unfolding Says
@@ -62,7 +57,8 @@ module _ (os : List Node) (xs : List (Option Expression)) (ns : List Node) (tabl
 
   -- and the other way round
   pub fits-not-none : (e : ℕ) → e < length os → Projects xs e → getD table e 0 ≡ 0 → ⊥
-  fits-not-none e l p = says-not-none os xs ns e (getD table e 0) (f .says e l) p
+  unfolding Says
+  fits-not-none e l p z = let q : getD xs e none ≡ none = subst (Says os xs ns e) z (f .says e l) in none-some q (p .known)
 
   -- an entry with a number
   pub fits-number : (e i : ℕ) → e < length os → getD table e 0 ≡ i + 2 → (i < length ns) × (getD xs e none ≡ some (expressionAt ns i))

@@ -1,16 +1,12 @@
 -- The classes of a projected group agree on the output row wherever the classes agree on the input row and each target has there its source's value.
 use Prim.Native.Nat.{ℕ, zero, suc, _+_, _-_, _<_}
-use mathlib.Core.Bool.{Bool, true, false}
+use mathlib.Core.Bool.{true}
 use mathlib.Core.List.{List, [], _∷_, _++_}
 use mathlib.Core.Option.{Option, none, some}
 use mathlib.Core.Path.{_≡_, refl, sym, ap, _∙_, subst}
-use native.Mathlib.Decide.{decLt}
 use native.Mathlib.Omega.{arith}
-use borrow.Author.Tests.{eqb-true}
-use lib.Dec.{eqb}
 use lib.ListN.{length, getD, take, drop, length-append, length-take, List·getD-append}
 use lib.Seq.{getD-take, getD-drop, getD-append-add}
-use Rattle.laws.specs.Tests.{if_then_else_}
 use Rattle.arena.specs.Node.{Node}
 use Rattle.arena.specs.Expression.{Expression, expressionAt}
 use Rattle.arena.specs.Value.{Meaning, Row, value}
@@ -30,7 +26,7 @@ use Rattle.merging_laws.proofs.JoinLaws.{from-place}
 use Rattle.mappings.specs.Mapping.{Mapped, mappedAt}
 use Rattle.mappings.specs.Agree.{TargetsAgree, Over}
 use Rattle.group_projection.specs.Group.{projectedNumbers, there, projectedClasses, targetsOf, sourceClasses, projectedList, beforeConstants}
-use Rattle.group_projection.proofs.FairProjected.{all-sources, all-telling}
+use Rattle.group_projection.proofs.FairProjected.{there-place, TargetOf, targets-place, all-sources, all-telling}
 use Rattle.projection.specs.Projecting.{projection}
 use Rattle.projection_laws.proofs.LentOver.{target-inside}
 use Rattle.projection_laws.proofs.ProjectedValue.{projection-value}
@@ -38,14 +34,6 @@ use Rattle.projection_laws.proofs.ProjectedList.{answers-some, answers-
 use Rattle.projection_laws.proofs.GroupNumbers.{NumbersPlaced, numbers-placed}
 
 -- ---- where the members come from
-
--- a number that there is stands at some place
-there-place : (ks : List (Option ℕ)) (k : ℕ) → k < length (there ks) → (j : ℕ) × (j < length ks) × (getD ks j none ≡ some (getD (there ks) k 0))
-unfolding there
-there-place [] k l = absurd (omega arith)
-there-place (none ∷ ks) k l = let p = there-place ks k l in (suc (p .0), omega (arith, p .1), p .2)
-there-place (some x ∷ ks) zero l = (0, omega arith, refl)
-there-place (some x ∷ ks) (suc k) l = let p = there-place ks k (omega arith) in (suc (p .0), omega (arith, p .1), p .2)
 
 -- as many classes as there were
 pub length-projected : (os : List Node) (cs : List Class) (ks : List (Option ℕ)) → length (projectedClasses os cs ks) ≡ length cs
@@ -73,43 +61,6 @@ projected-member T os (c ∷ cs) ks h (suc i) x l p =
     (λ j k b q. subst (λ (e : ℕ). T k e) (getD-append-add (c .members) (flat cs) j 0)
     (h (n + j) k (omega (arith, length-append (c .members) (flat cs))) (sym (getD-drop n ks j none) ∙ q)))
     i x (omega arith) p
-
--- a target of a source with the normal form j
-pub record TargetOf (j : ℕ) (js : List ℕ) (ps : List Mapped) (x : ℕ) : Type 0 where
-  pub place : ℕ
-  pub below : place < length ps
-  pub form : getD js place 0 ≡ j
-  pub target : ℕ
-  pub inside : target < length (mappedAt ps place .targets)
-  pub is : getD (mappedAt ps place .targets) target 0 ≡ x
-
--- so is each of those that are collected for j
-pub targets-place : (j : ℕ) (js : List ℕ) (ps : List Mapped) (k : ℕ) → k < length (targetsOf j js ps) → TargetOf j js ps (getD (targetsOf j js ps) k 0)
-unfolding targetsOf
-targets-place j [] ps k l = absurd (omega arith)
-targets-place j (i ∷ js) [] k l = absurd (omega arith)
-targets-place j (i ∷ js) (p ∷ ps) k l = go (eqb i j) refl l (targets-place j js ps)
-  where
-    own : Bool → List ℕ
-    own b = if b then p .targets else []
-
-    after : (x : ℕ) → TargetOf j js ps x → TargetOf j (i ∷ js) (p ∷ ps) x
-    after x t = record { place = suc (t .place); below = omega (arith, t .below); form = t .form; target = t .target; inside = t .inside; is = t .is }
-
-    here : eqb i j ≡ true → ((n : ℕ) → n < length (targetsOf j js ps) → TargetOf j js ps (getD (targetsOf j js ps) n 0)) → Dec (k < length (p .targets)) → k < length (p .targets ++ targetsOf j js ps)
-        → TargetOf j (i ∷ js) (p ∷ ps) (getD (p .targets ++ targetsOf j js ps) k 0)
-    here q r (yes b) m = record { place = 0; below = omega arith; form = eqb-true i j q; target = k; inside = b; is = sym (List·getD-append (p .targets) (targetsOf j js ps) 0 k b) }
-    here q r (no b) m =
-        let n = k - length (p .targets) in
-        let e : length (p .targets) + n ≡ k = omega arith in
-        let w : getD (targetsOf j js ps) n 0 ≡ getD (p .targets ++ targetsOf j js ps) k 0 =
-        sym (getD-append-add (p .targets) (targetsOf j js ps) n 0) ∙ ap (λ (a : ℕ). getD (p .targets ++ targetsOf j js ps) a 0) e in
-        subst (TargetOf j (i ∷ js) (p ∷ ps)) w (after (getD (targetsOf j js ps) n 0) (r n (omega (arith, length-append (p .targets) (targetsOf j js ps)))))
-
-    go : (b : Bool) → eqb i j ≡ b → k < length (own b ++ targetsOf j js ps) → ((n : ℕ) → n < length (targetsOf j js ps) → TargetOf j js ps (getD (targetsOf j js ps) n 0))
-        → TargetOf j (i ∷ js) (p ∷ ps) (getD (own b ++ targetsOf j js ps) k 0)
-    go true q m r = here q r (decLt k (length (p .targets))) m
-    go false q m r = after (getD (targetsOf j js ps) k 0) (r k m)
 
 -- ---- rows
 
