@@ -1,4 +1,4 @@
--- The list of classes of a projection is fair, so what becomes of it is a group.
+-- The list of classes of a projection: where its members come from, that it is fair, and so what becomes of it is a group.
 use Prim.Native.Nat.{ℕ, zero, suc, _+_, _-_, _<_}
 use mathlib.Core.Bool.{Bool, true, false}
 use mathlib.Core.List.{List, [], _∷_, _++_}
@@ -40,7 +40,7 @@ use Rattle.group_projection.specs.Inner.{listed, madeOrNone, Made, Entri
 use Rattle.group_projection.proofs.ListedLaws.{Lists, lists-coded, lists-classes, lists-list, answer-lists, answer-over}
 use Rattle.group_projection.proofs.MadeGroups.{Within, within-made}
 
--- ---- numbers below a bound
+-- ---- where the numbers come from, and that they are below a bound
 
 -- every number that there is is below n
 abbrev pub ThereBelow : ℕ → List (Option ℕ) → Type 0
@@ -58,11 +58,11 @@ there-place (none ∷ ks) k l = let p = there-place ks k l in (suc (p .0), omega
 there-place (some x ∷ ks) zero l = (0, omega arith, refl)
 there-place (some x ∷ ks) (suc k) l = let p = there-place ks k (omega arith) in (suc (p .0), omega (arith, p .1), p .2)
 
--- so it is below n
+-- so it is below n where all are
 there-below : (n : ℕ) (ks : List (Option ℕ)) → ThereBelow n ks → AllBelow n (there ks)
 there-below n ks h k l = let p = there-place ks k l in h (p .0) (getD (there ks) k 0) (p .2)
 
--- those of the first m
+-- so are those of the first m
 there-take : (n m : ℕ) (ks : List (Option ℕ)) → ThereBelow n ks → ThereBelow n (take m ks)
 there-take n m ks h k i e = go (decLt k m)
   where
@@ -70,7 +70,7 @@ there-take n m ks h k i e = go (decLt k m)
     go (yes l) = h k i (sym (getD-take m ks k none l) ∙ e)
     go (no l) = absurd (none-some (List·getD-eq-default (take m ks) none {n = k} (omega (arith, length-take m ks))) e)
 
--- those of the rest
+-- and those of the rest
 there-drop : (n m : ℕ) (ks : List (Option ℕ)) → ThereBelow n ks → ThereBelow n (drop m ks)
 there-drop n m ks h k i e = h (m + k) i (sym (getD-drop m ks k none) ∙ e)
 

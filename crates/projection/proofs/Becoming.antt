@@ -30,7 +30,7 @@ pub record Found (test : ℕ → Bool) (ps : List Mapped) (i : ℕ) : Type 0 whe
   pub is : firstTarget (mappedAt ps place) ≡ i
 
 -- so is a target that is found
-pub target-found : (test : ℕ → Bool) (ps : List Mapped) (i : ℕ) → targetFor test ps ≡ some i → Found test ps i
+target-found : (test : ℕ → Bool) (ps : List Mapped) (i : ℕ) → targetFor test ps ≡ some i → Found test ps i
 unfolding targetFor
 target-found test [] i e = absurd (let z : _≡_ {A = ℕ} 0 1 = cc in omega arith)
 target-found test (p ∷ ps) i e = go (test (p .source)) refl (target-found test ps i)
@@ -71,7 +71,7 @@ becomes-is ns cs ps e i q = go (or-some (targetFor (λ s. eqb s e) ps) (orElse (
     go (inl r) = by-source (target-found (λ s. eqb s e) ps i r)
     go (inr r) = later (or-some (stays (isLiteral (nodeAt ns e))) (targetFor (λ s. sameClass cs s e) ps) i r)
 
--- of a checked mapping it is among the first n
+-- a target that is found in a checked mapping is among the first n
 found-below : (test : ℕ → Bool) (n : ℕ) (m : Mapping) → Checked n m → (i : ℕ) → Found test (decode m) i → i < n
 found-below test n m c i f =
     let k = f .place in

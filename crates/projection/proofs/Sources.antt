@@ -55,6 +55,7 @@ module _ (test : ℕ → Bool) (m : Mapping) where
       searching-on e = record { within = omega arith; goes = turn false e }
 
 -- ---- another test
+
 -- tests that agree on the sources find the same
 target-cong : (test other : ℕ → Bool) (ps : List Mapped) → ((k : ℕ) → k < length ps → test (mappedAt ps k .source) ≡ other (mappedAt ps k .source)) → targetFor test ps ≡ targetFor other ps
 unfolding targetFor

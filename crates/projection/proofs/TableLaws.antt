@@ -99,6 +99,14 @@ all-child xs [] ys e j l = absurd (omega arith)
 all-child xs (k ∷ ks) ys e zero l = let p = parted xs k ks ys e in record { expression = p .one; known = p .one-known }
 all-child xs (k ∷ ks) ys e (suc j) l = let p = parted xs k ks ys e in all-child xs ks (p .others) (p .others-known) j (omega arith)
 
+-- where one has none, they don't
+none-known : (xs : List (Option Expression)) (ks : List ℕ) (k : ℕ) → k < length ks → getD xs (getD ks k 0) none ≡ none → allProject xs ks ≡ none
+none-known xs ks k l e = go (allProject xs ks) refl
+  where
+    go : (o : Option Expressions) → allProject xs ks ≡ o → allProject xs ks ≡ none
+    go none q = q
+    go (some ys) q = absurd (none-some e (all-child xs ks ys q k l .known))
+
 -- numbers and expressions, equally many, each pair in a relation
 unfoldable pub Pairwise : (ℕ → Expression → Type 0) → List ℕ → Expressions → Type 0
 Pairwise P [] ∅ = Unit {0}
@@ -116,7 +124,7 @@ all-pairwise P xs (k ∷ ks) h ys e =
     let p = parted xs k ks ys e in
     subst (Pairwise P (k ∷ ks)) (sym (p .is)) (h 0 (omega arith) (p .one) (p .one-known), all-pairwise P xs ks (λ j l. h (suc j) (omega arith)) (p .others) (p .others-known))
 
--- small expressions in a row are as many as their numbers
+-- small expressions, one for each number, are as many and all small
 pub pairwise-small : (ks : List ℕ) (ys : Expressions) → Pairwise (λ k y. Small y) ks ys → (size ys ≡ length ks) × AllSmall ys
 unfolding Pairwise size AllSmall
 pairwise-small [] ∅ h = (refl, tt)
@@ -133,7 +141,7 @@ pub record OverChildren (xs : List (Option Expression)) (n : Node) (x : Expressi
   pub known : allProject xs children ≡ some projected
   pub is : x ≡ op label projected
 
--- by the definition
+-- so is one whose children give it a projection
 pub over-children : (xs : List (Option Expression)) (n : Node) (x : Expression) → byChildren xs n ≡ some x → OverChildren xs n x
 unfolding byChildren operationOf
 over-children xs (column name index) x e = absurd (none-some refl e)
@@ -144,14 +152,6 @@ over-children xs (operation label (k ∷ ks)) x e = go (allProject xs (k ∷ ks)
     go : (o : Option Expressions) → allProject xs (k ∷ ks) ≡ o → operationOf label o ≡ some x → OverChildren xs (operation label (k ∷ ks)) x
     go none q z = absurd (none-some refl z)
     go (some ys) q z = record { label = label; children = k ∷ ks; projected = ys; node = refl; known = q; is = cc }
-
--- where one child has none, they don't
-none-known : (xs : List (Option Expression)) (ks : List ℕ) (k : ℕ) → k < length ks → getD xs (getD ks k 0) none ≡ none → allProject xs ks ≡ none
-none-known xs ks k l e = go (allProject xs ks) refl
-  where
-    go : (o : Option Expressions) → allProject xs ks ≡ o → allProject xs ks ≡ none
-    go none q = q
-    go (some ys) q = absurd (none-some e (all-child xs ks ys q k l .known))
 
 -- ---- what an entry says
 
