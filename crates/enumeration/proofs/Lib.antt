@@ -1,0 +1,2 @@
+-- The definitions, tried.
+pub mod Examples
