@@ -18,12 +18,13 @@ use Rattle.classes.specs.Group.{among}
 use Rattle.dependencies.specs.Map.{Dependent, entryAt, placeOf, withDependency, insertedAt, inserted, fits}
 use Rattle.dependencies.specs.Layout.{row, entryOf, encode, decode, placeIn}
 use Rattle.dependencies.specs.Calls.{judged}
-use Rattle.dependencies.specs.Inner.{placeAs, Coded, Held, extendedBy}
+use Rattle.dependencies.specs.Inner.{Coded, Held, extendedBy}
 use Rattle.dependencies.specs.declared.DependencyNode.{DependencyNode}
 use Rattle.dependencies.specs.declared.DependencyMap.{DependencyMap}
 use Rattle.dependencies.specs.declared.Extended.{Extended}
 use Rattle.dependencies.specs.declared.Inserted.{Inserted}
-use Rattle.dependencies.specs.declared.Place.the-variants.{At, Nowhere}
+use Rattle.classes.specs.Inner.{placeOf as placeAs}
+use Rattle.classes.specs.declared.Place.the-variants.{At, Nowhere}
 use Rattle.dependencies.proofs.MapCodec.{entry-row, size-is, length-decode, place-decode, place-set, place-more, row-more}
 
 -- the key at a place of a struct is the one that is looked for
@@ -54,15 +55,6 @@ module _ (m : DependencyMap) (key : ℕ) where
   -- a place that was found is one of the map
   pub key-inside : (i : ℕ) → placeOf (decode m) key ≡ some i → i < m .count
   key-inside i e = first-some (KeyAt m key) (m .count) i (sym key-first ∙ e) .below
-
--- what an answer of the search says
-pub place-at : (o : Option ℕ) (i : ℕ) → At i ≡ placeAs o → o ≡ some i
-place-at none i e = absurd (let z : _≡_ {A = ℕ} 0 1 = cc in omega arith)
-place-at (some j) i e = cc
-
-pub place-nowhere : (o : Option ℕ) → Nowhere ≡ placeAs o → o ≡ none
-place-nowhere none e = refl
-place-nowhere (some j) e = absurd (let z : _≡_ {A = ℕ} 0 1 = cc in omega arith)
 
 -- the answer of an insert by the place of its key; where the key is, its target and the key that is given make no difference
 module _ (m : DependencyMap) (k key : ℕ) (target dependency : Option ℕ) (r : Inserted) where

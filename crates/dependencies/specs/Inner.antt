@@ -12,13 +12,6 @@ use Rattle.dependencies.specs.Layout.{row, entryOf, encode, decode, plac
 use Rattle.dependencies.specs.declared.DependencyNode.{DependencyNode}
 use Rattle.dependencies.specs.declared.DependencyMap.{DependencyMap}
 use Rattle.dependencies.specs.declared.Extended.{Extended}
-use Rattle.dependencies.specs.declared.Place.{Place}
-use Rattle.dependencies.specs.declared.Place.the-variants.{At, Nowhere}
-
--- the answer of a search
-abbrev pub placeAs : Option ℕ → Place
-placeAs (some i) = At i
-placeAs none = Nowhere
 
 -- the struct is the layout of an entry of at most 16 dependencies
 pub record Coded (r : DependencyNode) : Type 0 where

@@ -4,8 +4,8 @@ use crate::DependencyNode;
 use crate::Extended;
 use crate::Given;
 use crate::Inserted;
-use crate::Place;
 use arena::cells::wide;
+use classes::Place;
 ghost use mathlib.Core.Bool.{true, _&&_};
 ghost use mathlib.Core.List.{List, []};
 ghost use mathlib.Core.Option.{Option, none, some};
@@ -13,10 +13,11 @@ ghost use mathlib.Core.Path.{_≡_};
 ghost use Prim.Native.Nat.{ℕ, _≤_, _<_, _+_, _*_};
 ghost use lib.ListN.{getD};
 ghost use Rattle.classes.specs.Group.{among};
+ghost use Rattle.classes.specs.Inner.{placeOf as placeAs};
 ghost use Rattle.dependencies.specs.Map.{placeOf, insertedAt, inserted};
 ghost use Rattle.dependencies.specs.Layout.{row, entryOf, unused, decode};
 ghost use Rattle.dependencies.specs.Calls.{optionsKnown, givenBelow, keyOf, judged};
-ghost use Rattle.dependencies.specs.Inner.{placeAs, Coded, Held, extendedBy};
+ghost use Rattle.dependencies.specs.Inner.{Coded, Held, extendedBy};
 
 // An unused place.
 pub fn nothing() -> DependencyNode

@@ -52,12 +52,6 @@ pub struct Extended {
     pub node: DependencyNode,
 }
 
-// Where a key stands.
-pub enum Place {
-    At(usize),
-    Nowhere,
-}
-
 // The empty map.
 pub fn open_map() -> DependencyMap
     ensures { λ r. ⌜ r ≡ encode [] ⌝ }

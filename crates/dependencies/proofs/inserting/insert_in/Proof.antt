@@ -2,7 +2,8 @@
 use mathlib.Core.Option.{none}
 use mathlib.Core.Path.{sym, _∙_}
 use Rattle.dependencies.specs.Calls.{keyOf}
-use Rattle.dependencies.proofs.MapInserts.{key-inside, place-at, place-nowhere, inserted-at, inserted-there}
+use Rattle.classes.proofs.ClassPlaces.{place-at, place-nowhere}
+use Rattle.dependencies.proofs.MapInserts.{key-inside, inserted-at, inserted-there}
 use borrow.Author.Needs.{needs}
 use Rattle.dependencies.proofs.inserting.insert_in.Statement.{statement}
 use Rattle.dependencies.proofs.inserting.insert_in.Tie as tie
