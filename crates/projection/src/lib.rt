@@ -11,10 +11,10 @@ pub mod listing;
 pub mod table;
 pub mod walking;
 
+use arena::adding::all_below;
 use arena::cells::node_count;
 use arena::cells::wide;
 use classes::Group;
-use listing::exprs_below;
 use listing::project_list;
 use mappings::lent::project_number;
 use mappings::lent::read_mapping;
@@ -60,7 +60,7 @@ pub fn project_expressions(
     if number != 0 {
         return number;
     }
-    if !exprs_below(exprs, node_count(cells)) {
+    if !all_below(exprs, node_count(cells)) {
         return 1;
     }
     project_list(cells, group, read_mapping(mapping), exprs, out)

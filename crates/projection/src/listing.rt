@@ -8,9 +8,7 @@ use mappings::Mapping;
 ghost use mathlib.Core.List.{map, _++_};
 ghost use mathlib.Core.Path.{_≡_};
 ghost use Prim.Native.Nat.{ℕ, _≤_, _<_};
-ghost use lib.Dec.{ltb};
 ghost use lib.ListN.{length, getD, drop};
-ghost use Rattle.laws.specs.Tests.{each};
 ghost use Rattle.arena.specs.Layout.{count, decode as nodes};
 ghost use Rattle.arena.specs.Calls.{inCells};
 ghost use Rattle.arena.specs.Inner.{Holds};
@@ -20,21 +18,6 @@ ghost use Rattle.mappings.specs.Layout.{decode, Checked};
 ghost use Rattle.projection.specs.Projecting.{projectAll};
 ghost use Rattle.projection.specs.Calls.{outputOf, writtenAnswer};
 ghost use Rattle.projection.specs.Inner.{answerOf, answersIn, ReadyOne, WalkedOne, ReadyAll, WalkedAll};
-
-// The expressions of a list are below n.
-pub fn exprs_below(exprs: &[u32], n: usize) -> bool
-    ensures { λ r. ⌜ r ≡ each (λ k. ltb (getD (now (exprs .entry)) k 0) n) (length (now (exprs .entry))) ⌝ }
-{
-    let m = exprs.len();
-    let mut k = 0;
-    while k < m {
-        if n <= wide(exprs[k]) {
-            return false;
-        }
-        k += 1;
-    }
-    true
-}
 
 // Adds the projection of an expression if it has one; false where the arena has no room.
 fn project_one(cells: &mut [u32; 11265], table: &mut [u32; 1024], expr: u32) -> bool

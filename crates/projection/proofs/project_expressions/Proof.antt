@@ -28,14 +28,14 @@ returns c =
 node-count-requires : tie.Need-node-count-requires
 node-count-requires c κs = search needs
 
-exprs-below-requires : tie.Need-exprs-below-requires
-exprs-below-requires c κs = search needs
+all-below-requires : tie.Need-all-below-requires
+all-below-requires c κs = search needs
 
 returns-2 : tie.Need-returns-2
 returns-2 c =
     let s = c .before .before .before .before .before .before .before .before .before .before in
     let z = sym (c .before .before .before .before .before .project-number .ensures) ∙ c .before .before .before .before .if1 .left in
-    let t : allBelow (s .args .exprs .now) (count (s .args .cells .now)) ≡ false = sym (rw (c .before .before .node-count .ensures) at (c .before .exprs-below .ensures)) ∙ not-true _ (c .if2 .taken) in
+    let t : allBelow (s .args .exprs .now) (count (s .args .cells .now)) ≡ false = sym (rw (c .before .before .node-count .ensures) at (c .before .all-below .ensures)) ∙ not-true _ (c .if2 .taken) in
     exprs-unknown (s .args .cells .now) (s .args .mapping .now) (s .args .group) z (s .args .exprs .now) (s .args .out .now) t
 
 read-mapping-requires : tie.Need-read-mapping-requires
@@ -51,7 +51,7 @@ project-list-requires c κs =
     let fl : length (s .args .group .flavours) ≡ 64 = search needs in
     let vl : length (s .args .group .values) ≡ 64 = search needs in
     let mm : length (s .args .group .members) ≡ 256 = search needs in
-    let t : allBelow (s .args .exprs .now) (count (s .args .cells .now)) ≡ true = sym (rw (c .before .before .before .before .before .node-count .ensures) at (c .before .before .before .before .exprs-below .ensures)) ∙ not-false _ (c .before .before .before .if2 .left) in
+    let t : allBelow (s .args .exprs .now) (count (s .args .cells .now)) ≡ true = sym (rw (c .before .before .before .before .before .node-count .ensures) at (c .before .before .before .before .all-below .ensures)) ∙ not-false _ (c .before .before .before .if2 .left) in
     let m = c .before .read-mapping in (
       ((lent-holds (s .args .cells .now) (s .args .mapping .now) (s .args .group) z, lent-checked (s .args .cells .now) (s .args .mapping .now) (s .args .group) z (m .result) (m .ensures .0) (m .ensures .1)), number-held (s .args .cells .now) (s .args .group) sz fl vl mm (group-passes (s .args .cells .now) (s .args .mapping .now) (s .args .group) z) .coded),
       each-below (s .args .exprs .now) (count (s .args .cells .now)) t,
@@ -64,7 +64,7 @@ returns-3 : tie.Need-returns-3
 returns-3 c =
     let s = c .before .before .before .before .before .before .before .before .before .before .before .before .before .before .before .before in
     let z = sym (c .before .before .before .before .before .before .before .before .before .before .before .project-number .ensures) ∙ c .before .before .before .before .before .before .before .before .before .before .if1 .left in
-    let t : allBelow (s .args .exprs .now) (count (s .args .cells .now)) ≡ true = sym (rw (c .before .before .before .before .before .before .before .before .node-count .ensures) at (c .before .before .before .before .before .before .before .exprs-below .ensures)) ∙ not-false _ (c .before .before .before .before .before .before .if2 .left) in
+    let t : allBelow (s .args .exprs .now) (count (s .args .cells .now)) ≡ true = sym (rw (c .before .before .before .before .before .before .before .before .node-count .ensures) at (c .before .before .before .before .before .before .before .all-below .ensures)) ∙ not-false _ (c .before .before .before .before .before .before .if2 .left) in
     let m = c .before .before .before .before .read-mapping in
     let w = c .before .before .project-list in
     exprs-known (s .args .cells .now) (s .args .mapping .now) (s .args .group) z (s .args .exprs .now) (s .args .out .now) t (m .result) (m .ensures .0) ((w .result, w .last .1 .1 .1 .1 .0), w .last .0) (w .ensures)
@@ -76,7 +76,7 @@ project-expressions-spec =
     project-number-requires
     returns
     node-count-requires
-    exprs-below-requires
+    all-below-requires
     returns-2
     read-mapping-requires
     project-list-requires
