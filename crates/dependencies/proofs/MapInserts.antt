@@ -68,11 +68,11 @@ module _ (m : DependencyMap) (k key : ℕ) (target dependency : Option ℕ) (r :
   inserted-there i e q p = inserted-at (some i) e q p
 
 -- a dependency is there, or it comes to the end
-with-there : (ks : List ℕ) (k : ℕ) → among k ks ≡ true → withDependency ks (some k) ≡ ks
+pub with-there : (ks : List ℕ) (k : ℕ) → among k ks ≡ true → withDependency ks (some k) ≡ ks
 unfolding withDependency
 with-there ks k e = rw e
 
-with-new : (ks : List ℕ) (k : ℕ) → among k ks ≡ false → withDependency ks (some k) ≡ ks ++ (k ∷ [])
+pub with-new : (ks : List ℕ) (k : ℕ) → among k ks ≡ false → withDependency ks (some k) ≡ ks ++ (k ∷ [])
 unfolding withDependency
 with-new ks k e = rw e
 

@@ -63,7 +63,7 @@ pub fn given_below(given: Given, n: usize) -> bool
 }
 
 // A key as one number.
-fn packed(expr: u32, options: u32) -> u16
+pub fn packed(expr: u32, options: u32) -> u16
     requires { ⌜ (expr < 1024) × (options ≤ 3) ⌝ }
     ensures { λ r. ⌜ r ≡ expr * 4 + options ⌝ }
 {

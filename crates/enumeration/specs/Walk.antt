@@ -46,7 +46,7 @@ unfoldable pub atPlace : (ℕ → List (ℕ × ℕ) → Walk) → List Dependent
 atPlace at m none seen = stopped 6
 atPlace at m (some i) seen = atEntry at (entryAt m i .target) (entryAt m i .dependencies) seen
 
--- the walk from a key, through at most n pairs one below the other. That it is never left without one, and so doesn't depend on n, is still to be proved here, before a contract cites it
+-- the walk from a key, through at most n pairs one below the other. Each pair is expanded once, so a map with fewer pairs never uses n up: every larger n gives the same (proofs/WalkLaws.antt, never-left and walk-from)
 unfoldable pub constructed : ℕ → List Dependent → ℕ → List (ℕ × ℕ) → Walk
 constructed zero m k seen = stopped 0
 constructed (suc n) m k seen = atPlace (constructed n m) m (placeOf m k) seen

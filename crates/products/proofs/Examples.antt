@@ -8,9 +8,9 @@ use Rattle.laws.specs.Tests.{first, firstFrom}
 use Rattle.orderings.specs.Ordering.{exprOf, hasExpr, pushed, extended}
 use Rattle.classes.specs.Group.{among}
 use Rattle.dependencies.specs.Map.{Dependent, placeOf, withDependency}
 use Rattle.enumeration.specs.Walk.{Walk, found, stopped, goOn, isSeen, overDependencies, atTarget, atEntry, atPlace, constructed, pairs, constructOrderings, overStart, prefixOrderings}
-use Rattle.enumeration.specs.Orders.{passing, beginning, orders, beforeEach, product}
-use Rattle.enumeration.specs.Generate.{onceEach, lists, withList, contributing, chained, inAllOrders, allOrders, generated}
+use Rattle.products.specs.Orders.{passing, beginning, orders, beforeEach, product}
+use Rattle.products.specs.Generate.{onceEach, lists, withList, contributing, chained, inAllOrders, allOrders, generated}
 
 -- P13: a key with itself as target and only dependency gives no ordering
 abbrev itself : List Dependent

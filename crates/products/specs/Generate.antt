@@ -5,8 +5,8 @@ use mathlib.Core.Option.{Option, none, some}
 use lib.ListN.{length, getD}
 use Rattle.orderings.specs.Ordering.{extended}
 use Rattle.dependencies.specs.Map.{Dependent, withDependency}
 use Rattle.enumeration.specs.Walk.{Walk, found, stopped, prefixOrderings}
-use Rattle.enumeration.specs.Orders.{orders, product}
+use Rattle.products.specs.Orders.{orders, product}
 
 -- the keys that are given, each once
 unfoldable pub onceEach : List ℕ → List ℕ → List ℕ
