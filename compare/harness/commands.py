@@ -1,4 +1,4 @@
-"""Calls on groups as commands. One list of commands is written in two forms: as text, a line a command, and as
+"""Calls as commands. One list of commands is written in two forms: as text, a line a command, and as
 words of 32 bits, little-endian, a command being its number, the count of the words after it, and these words."""
 
 import struct
@@ -6,6 +6,8 @@ from dataclasses import dataclass
 
 GROUPS = "ABC"
 MAPPINGS = "PQR"
+MAPS = "DEF"
+NONE = "-"
 LARGEST_LIMIT = 256
 
 
@@ -28,45 +30,47 @@ class Number:
         """A number has nothing to leave out."""
         return ()
 
-    @staticmethod
-    def read(word):
-        return Number(int(word))
+    @classmethod
+    def read(cls, word):
+        return cls(int(word))
 
 
-@dataclass(frozen=True)
 class Expression(Number):
     """The number of an expression."""
 
     def renumbered(self, new_number):
         return Expression(new_number(self.number))
 
-    @staticmethod
-    def read(word):
-        return Expression(int(word))
 
+class Name(Number):
+    """A state by its place: 0, 1 or 2, in the text a letter."""
 
-@dataclass(frozen=True)
-class GroupName(Number):
-    """A group: 0, 1 or 2, in the text A, B or C."""
+    letters = ""
 
     def text(self):
-        return GROUPS[self.number]
+        return self.letters[self.number]
 
-    @staticmethod
-    def read(word):
-        return GroupName(list(GROUPS).index(word))
+    @classmethod
+    def read(cls, word):
+        return cls(list(cls.letters).index(word))
 
 
-@dataclass(frozen=True)
-class MappingName(Number):
-    """A mapping: 0, 1 or 2, in the text P, Q or R."""
+class GroupName(Name):
+    """A group."""
 
-    def text(self):
-        return MAPPINGS[self.number]
+    letters = GROUPS
 
-    @staticmethod
-    def read(word):
-        return MappingName(list(MAPPINGS).index(word))
+
+class MappingName(Name):
+    """A projection mapping."""
+
+    letters = MAPPINGS
+
+
+class MapName(Name):
+    """A dependency map."""
+
+    letters = MAPS
 
 
 def joined(numbers):
@@ -162,6 +166,59 @@ class Pair:
         return Pair(*map(int, word.split("=")))
 
 
+@dataclass(frozen=True)
+class Keys:
+    """Sort keys as pairs of an expression and options, with commas between them, or `-` where there are none."""
+
+    keys: tuple
+
+    def text(self):
+        return ",".join(f"{expression}:{options}" for expression, options in self.keys) or NONE
+
+    def words(self):
+        return [number for key in self.keys for number in key]
+
+    def renumbered(self, new_number):
+        return type(self)(tuple((new_number(expression), options) for expression, options in self.keys))
+
+    def smaller(self):
+        """Without one of the keys."""
+        return map(type(self), each_left_out(self.keys))
+
+    @classmethod
+    def read(cls, word):
+        return cls(tuple(map(key_of, word.split(","))) if word != NONE else ())
+
+
+def key_of(word):
+    """The key of a text."""
+    expression, options = map(int, word.split(":"))
+    return expression, options
+
+
+class Key(Keys):
+    """One key."""
+
+    def smaller(self):
+        """A key has nothing to leave out."""
+        return ()
+
+    @classmethod
+    def read(cls, word):
+        return cls((key_of(word),))
+
+
+class KeyIfGiven(Keys):
+    """One key or none; in words 1 and the key, or three times 0."""
+
+    def words(self):
+        return [1, *super().words()] if self.keys else [0, 0, 0]
+
+    @classmethod
+    def read(cls, word):
+        return cls((key_of(word),) if word != NONE else ())
+
+
 # The commands in the order of their numbers, from 1 on: their fields, and the field that may follow any number of
 # times.
 FORMS = {
@@ -183,6 +240,11 @@ FORMS = {
     "projexpr": ([GroupName, MappingName, Expression], None),
     "projexprs": ([GroupName, MappingName], Expression),
     "project": ([GroupName, GroupName, MappingName], None),
+    "dmap": ([MapName], None),
+    "dins": ([MapName, Key, KeyIfGiven, KeyIfGiven], None),
+    "dshow": ([MapName], None),
+    "dprefix": ([MapName, Key], None),
+    "dgen": ([MapName, Keys], None),
 }
 NUMBERS = {name: number for number, name in enumerate(FORMS, 1)}
 NODES = ("col", "lit", "op")
@@ -246,6 +308,20 @@ def project_expressions(group, mapping, expressions):
     return Command("projexprs", (GroupName(group), MappingName(mapping)), tuple(map(Expression, expressions)))
 
 
+def insert(name, key, target, dependency):
+    """A key is a pair; a target and a dependency are pairs or none."""
+    given = (KeyIfGiven((one,) if one else ()) for one in (target, dependency))
+    return Command("dins", (MapName(name), Key((key,)), *given))
+
+
+def prefixes(name, key):
+    return Command("dprefix", (MapName(name), Key((key,))))
+
+
+def generate(name, keys):
+    return Command("dgen", (MapName(name), Keys(tuple(keys))))
+
+
 def read(line):
     """The command of a line of text, or none of an empty line."""
     name, *words = line.split("#")[0].split() or [None]
@@ -295,7 +371,10 @@ def moved_down(one, first, gone):
 
 
 def smaller(one):
-    """The command with one of the fields that follow left out, or with something within one of them left out."""
+    """The command with one of the fields that follow left out, or with something within a field left out."""
+    for place, field in enumerate(one.fields):
+        for fewer in field.smaller():
+            yield Command(one.name, (*one.fields[:place], fewer, *one.fields[place + 1 :]), one.rest)
     for place, field in enumerate(one.rest):
         before, after = one.rest[:place], one.rest[place + 1 :]
         yield Command(one.name, one.fields, before + after)

@@ -1,6 +1,6 @@
-"""The session of a seed, and the script of a seed."""
+"""The session of a seed, the script of a seed, and its script of dependencies."""
 
-from harness import call_themes, projection_themes, themes
+from harness import call_themes, dependency_themes, projection_themes, themes
 from harness.dice import Dice
 from harness.script import Script
 from harness.session import Session
@@ -30,4 +30,11 @@ def theme_and_script(seed):
     """The name of the seed's theme, and its script as commands. At the end all is shown."""
     theme, script = made(seed, Script, call_themes.THEMES + projection_themes.THEMES)
     script.show_all()
+    return theme, script.parts
+
+
+def theme_and_dependency_script(seed):
+    """The same for a script of dependencies, whose seeds are of their own. At the end the nodes and maps are shown."""
+    theme, script = made(seed, Script, dependency_themes.THEMES)
+    script.show_maps()
     return theme, script.parts

@@ -1,7 +1,7 @@
 """The sorts of inputs that are compared: sessions and scripts. Each is a list of parts."""
 
 from harness import commands, records
-from harness.generator import theme_and_script, theme_and_session
+from harness.generator import theme_and_dependency_script, theme_and_script, theme_and_session
 from harness.sides import OUTSIDE_DOMAIN, TOO_LARGE
 from harness.tally import ScriptTally, SessionTally
 
@@ -44,7 +44,7 @@ class Sessions:
 
 
 class Scripts(Sessions):
-    """Scripts of calls on groups: text for the Rust's side, words for ours."""
+    """Scripts of calls: text for the Rust's side, words for ours."""
 
     one, plural, parts = "script", "scripts", "commands"
     rust_program, our_program = "rust-calls", "group_calls"
@@ -68,3 +68,10 @@ class Scripts(Sessions):
 
     def shown(self, parts):
         return commands.as_text(parts).splitlines()
+
+
+class DependencyScripts(Scripts):
+    """Scripts of dependencies, in the same two forms."""
+
+    def made(self, seed):
+        return theme_and_dependency_script(seed)

@@ -8,7 +8,8 @@ LAST_INDEX = 65535
 
 class Script(Draft):
     """Beside the nodes, a script knows about which expressions stand in each of the three groups: those that it
-    put there, whether or not they stayed. It also knows the sources and targets of the three mappings."""
+    put there, whether or not they stayed. It also knows the sources and targets of the three mappings, and the keys
+    that were put into the three dependency maps."""
 
     most_beyond = 12
 
@@ -17,6 +18,7 @@ class Script(Draft):
         self.nodes = []
         self.members = [[] for _ in commands.GROUPS]
         self.mappings = [[] for _ in commands.MAPPINGS]
+        self.maps = [[] for _ in commands.MAPS]
 
     def node(self, node, size, part):
         number = super().node(node, size, part)
@@ -77,11 +79,33 @@ class Script(Draft):
         self.grown += len(self.members[group])
         self.members[made] = [target for _, targets in self.mappings[mapping] for target in targets]
 
+    def open_map(self, name):
+        self.call("dmap", name)
+        self.maps[name] = []
+
+    def insert(self, name, key, target, dependency):
+        """A key is a pair of an expression and options; a target and a dependency may be none."""
+        self.add(commands.insert(name, key, target, dependency))
+        if key not in self.maps[name]:
+            self.maps[name].append(key)
+
+    def prefixes(self, name, key):
+        self.add(commands.prefixes(name, key))
+
+    def generate(self, name, keys):
+        self.add(commands.generate(name, keys))
+
     def show_all(self):
         """The nodes, and all three groups."""
         self.call("arena")
         for group in range(len(commands.GROUPS)):
             self.call("show", group)
+
+    def show_maps(self):
+        """The nodes, and all three dependency maps."""
+        self.call("arena")
+        for name in range(len(commands.MAPS)):
+            self.call("dshow", name)
 
     def member(self, group):
         """The number of an expression that likely stands in the group, or now and then some other number."""

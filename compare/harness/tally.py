@@ -3,8 +3,11 @@
 from collections import Counter
 
 from harness import records
+from harness.commands import NONE
 
 GROUP_CALLS = ("group", "new", "eq", "const", "clear", "join", "show", "project")
+MAP_CALLS = ("dins", "dshow")
+ENUMERATIONS = ("dprefix", "dgen")
 
 
 class Tally:
@@ -94,6 +97,10 @@ class ScriptTally(Tally):
         sort, *numbers = words
         if sort == "r":
             self.refusals[f"{numbers[0]} of {command.name}"] += 1
+        elif command.name in MAP_CALLS:
+            self.count_map_line(command, numbers)
+        elif command.name in ENUMERATIONS:
+            self.count_ordering_line(command, sort, numbers)
         elif sort == "g":
             self.lines[f"g, of {named(command)}"] += 1
             self.count_sizes({"classes": numbers[0], "members": numbers[1], "nodes": numbers[3]})
@@ -105,6 +112,23 @@ class ScriptTally(Tally):
                 self.lines[f"p, {projected(expression, answer)}, of {command.name}"] += 1
         else:
             self.lines[f"{sort}, {numbers[0]}" if sort in "bckq" else sort] += 1
+
+    def count_map_line(self, command, words):
+        """Takes in the line of a map, which has one number, or of one of its keys."""
+        if len(words) == 1:
+            self.lines[f"d, of {command.name}"] += 1
+            self.count_sizes({"keys in a map": words[0]})
+        else:
+            self.lines["d, a key" if words[2] != NONE else "d, a key without target"] += 1
+            self.count_sizes({"dependencies of a key": len(words[4:])})
+
+    def count_ordering_line(self, command, sort, words):
+        """Takes in the line that counts orderings, or one of them."""
+        self.lines[f"{sort}, of {command.name}" if words[0] != "0" else f"o, none, of {command.name}"] += 1
+        if sort == "o":
+            self.count_sizes({f"orderings of {command.name}": words[0]})
+        else:
+            self.count_sizes({f"keys in an ordering of {command.name}": len(words)})
 
 
 def asked_of(command):
@@ -128,7 +152,7 @@ def lines_of(name, lines):
     """How many of the lines, from the first on, answer a command of this name."""
     if name == "arena":
         return next((place for place, line in enumerate(lines) if not line.startswith("node")), len(lines))
-    if lines[0].startswith("r ") or name not in GROUP_CALLS:
+    if lines[0].startswith("r ") or name not in GROUP_CALLS + MAP_CALLS + ENUMERATIONS:
         return 1
     head = 1 if lines[0].startswith("b ") else 0
     return head + 1 + int(lines[head].split()[1])

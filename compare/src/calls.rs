@@ -3,24 +3,30 @@
 
 use std::collections::HashMap;
 
+use datafusion_physical_expr::LexOrdering;
 use datafusion_physical_expr::equivalence::AcrossPartitions;
-use datafusion_physical_expr::equivalence::class_parts::constant_of;
+use datafusion_physical_expr::equivalence::properties::DependencyMap;
 
 use crate::arena::{Arena, Node};
 use crate::commands::{self, Command};
 use crate::constants::{constant, flavour_and_value};
+use crate::dependencies::{Insert, dependency_orderings, inserted, prefix_orderings};
 use crate::group::Group;
 use crate::joining::{JoinRule, joined_group};
 use crate::lines::Lines;
 use crate::lists::{Made, new_group};
 use crate::projecting::{MappedSource, projected_expr, projected_expressions, projected_group};
 use crate::refusal::Refusal;
+use crate::showing::{after_blanks, number_or_none, print_classes, print_map, print_nodes, print_orderings};
 
 /// The groups that are there from the start, empty.
 const FIRST_GROUPS: [&str; 3] = ["A", "B", "C"];
 
 /// The mappings that are there from the start, without a source.
 const FIRST_MAPPINGS: [&str; 3] = ["P", "Q", "R"];
+
+/// The dependency maps that are there from the start, without a key.
+const FIRST_MAPS: [&str; 3] = ["D", "E", "F"];
 
 /// Why a line does nothing.
 enum Fault {
@@ -34,19 +40,21 @@ impl From<Refusal> for Fault {
     }
 }
 
-/// The nodes, and the groups and the mappings by their names. A mapping is kept as it was given; what is wrong with
-/// it is refused when it is used.
+/// The nodes, and the groups, the mappings and the dependency maps by their names. A mapping is kept as it was given;
+/// what is wrong with it is refused when it is used.
 struct State {
     arena: Arena,
     groups: HashMap<String, Group>,
     mappings: HashMap<String, Vec<MappedSource>>,
+    maps: HashMap<String, DependencyMap>,
 }
 
 impl Default for State {
     fn default() -> Self {
         let groups = FIRST_GROUPS.map(|name| (name.to_string(), Group::default()));
         let mappings = FIRST_MAPPINGS.map(|name| (name.to_string(), Vec::new()));
-        State { arena: Arena::default(), groups: HashMap::from(groups), mappings: HashMap::from(mappings) }
+        let maps = FIRST_MAPS.map(|name| (name.to_string(), DependencyMap::default()));
+        State { arena: Arena::default(), groups: groups.into(), mappings: mappings.into(), maps: maps.into() }
     }
 }
 
@@ -58,6 +66,11 @@ impl State {
 
     fn group_mut(&mut self, name: &str) -> Result<&mut Group, Fault> {
         self.groups.get_mut(name).ok_or(Fault::NoCommand)
+    }
+
+    /// The dependency map of this name.
+    fn map(&self, name: &str) -> Result<&DependencyMap, Fault> {
+        self.maps.get(name).ok_or(Fault::NoCommand)
     }
 
     /// The nodes, the group and the mapping of a projection.
@@ -125,6 +138,17 @@ impl Calls {
                 self.print_projections(group, mapping, &expressions)?
             }
             Command::Project { made, group, mapping } => self.project(made, group, mapping)?,
+            Command::OpenMap { map } => self.open_map(map),
+            Command::Insert { map, insert } => self.insert(map, &insert)?,
+            Command::ShowMap { map } => self.print_map(map)?,
+            Command::Prefixes { map, key } => {
+                let found = prefix_orderings(&self.state.arena, self.state.map(map)?, key)?;
+                self.print_orderings(&found);
+            }
+            Command::Generate { map, keys } => {
+                let found = dependency_orderings(&self.state.arena, self.state.map(map)?, &keys)?;
+                self.print_orderings(&found);
+            }
         }
         Ok(())
     }
@@ -203,7 +227,7 @@ impl Calls {
     fn print_projections(&mut self, group: &str, mapping: &str, expressions: &[usize]) -> Result<(), Fault> {
         let (arena, group, mapping) = self.state.to_project(group, mapping)?;
         let numbers = projected_expressions(arena, group, mapping, expressions)?;
-        let shown: String = numbers.into_iter().map(|number| format!(" {}", number_or_none(number))).collect();
+        let shown = after_blanks(numbers.into_iter().map(number_or_none));
         self.lines.print(format_args!("p{shown} nodes {}", arena.count()));
         Ok(())
     }
@@ -213,6 +237,26 @@ impl Calls {
         let projected = projected_group(arena, group, mapping)?;
         self.keep(made, projected);
         Ok(())
+    }
+
+    fn open_map(&mut self, name: &str) {
+        self.state.maps.insert(name.to_string(), DependencyMap::default());
+        self.lines.print(format_args!("ok"));
+    }
+
+    fn insert(&mut self, name: &str, insert: &Insert) -> Result<(), Fault> {
+        let changed = inserted(&self.state.arena, self.state.map(name)?, insert)?;
+        self.state.maps.insert(name.to_string(), changed);
+        self.print_map(name)
+    }
+
+    fn print_map(&mut self, name: &str) -> Result<(), Fault> {
+        print_map(&self.state.arena, self.state.map(name)?, &mut self.lines);
+        Ok(())
+    }
+
+    fn print_orderings(&mut self, orderings: &[LexOrdering]) {
+        print_orderings(&self.state.arena, orderings, &mut self.lines);
     }
 
     /// Keeps a group made of a list, and says so where the list is outside the domain.
@@ -239,37 +283,4 @@ impl Calls {
         print_classes(&self.state.arena, self.state.group(name)?, &mut self.lines);
         Ok(())
     }
-}
-
-/// A line a node.
-fn print_nodes(arena: &Arena, lines: &mut Lines) {
-    for (number, node) in arena.nodes().iter().enumerate() {
-        match node {
-            Node::Column { name, index } => lines.print(format_args!("node {number} col {name} {index}")),
-            Node::Literal { value } => lines.print(format_args!("node {number} lit {value}")),
-            Node::Operation { label, children } => {
-                lines.print(format_args!("node {number} op {label}{}", after_blanks(children)))
-            }
-        }
-    }
-}
-
-/// A line for the group, then a line a class.
-fn print_classes(arena: &Arena, group: &Group, lines: &mut Lines) {
-    lines.print(format_args!("g {} {} nodes {}", group.len(), group.members(), arena.count()));
-    for class in group.iter() {
-        let (flavour, value) = flavour_and_value(constant_of(class));
-        let members: Vec<usize> = class.iter().map(|member| arena.number_of(member)).collect();
-        lines.print(format_args!("c {flavour} {value}{}", after_blanks(&members)));
-    }
-}
-
-/// A number, or `-` where there is none.
-fn number_or_none(number: Option<usize>) -> String {
-    number.map_or("-".to_string(), |number| number.to_string())
-}
-
-/// The numbers, each after a blank.
-fn after_blanks(numbers: &[usize]) -> String {
-    numbers.iter().map(|number| format!(" {number}")).collect()
 }

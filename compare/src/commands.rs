@@ -3,12 +3,15 @@
 use std::str::FromStr;
 
 use crate::arena::Node;
+use crate::dependencies::Insert;
 use crate::group::MOST_MEMBERS;
 use crate::joining::JoinRule;
+use crate::keys::Key;
 use crate::lists::ListedClass;
 use crate::projecting::MappedSource;
+use crate::showing::NONE;
 
-/// What a line asks for. Expressions are numbers of nodes; groups and mappings are named.
+/// What a line asks for. Expressions are numbers of nodes; groups, mappings and dependency maps are named.
 #[derive(Debug)]
 pub enum Command<'a> {
     Reset,
@@ -28,6 +31,11 @@ pub enum Command<'a> {
     ProjectExpr { group: &'a str, mapping: &'a str, expression: usize },
     ProjectExpressions { group: &'a str, mapping: &'a str, expressions: Vec<usize> },
     Project { made: &'a str, group: &'a str, mapping: &'a str },
+    OpenMap { map: &'a str },
+    Insert { map: &'a str, insert: Insert },
+    ShowMap { map: &'a str },
+    Prefixes { map: &'a str, key: Key },
+    Generate { map: &'a str, keys: Vec<Key> },
 }
 
 /// The command of a line without its comment, or none where the line is no command.
@@ -80,6 +88,14 @@ pub fn parse(line: &str) -> Option<Command<'_>> {
         ["project", made, group, mapping] => {
             Command::Project { made: name(made)?, group: name(group)?, mapping: name(mapping)? }
         }
+        ["dmap", map] => Command::OpenMap { map: name(map)? },
+        ["dins", map, given, target, dependency] => Command::Insert {
+            map: name(map)?,
+            insert: Insert { key: key(given)?, target: key_or_none(target)?, dependency: key_or_none(dependency)? },
+        },
+        ["dshow", map] => Command::ShowMap { map: name(map)? },
+        ["dprefix", map, asked] => Command::Prefixes { map: name(map)?, key: key(asked)? },
+        ["dgen", map, asked] => Command::Generate { map: name(map)?, keys: keys(asked)? },
         _ => return None,
     };
     Some(command)
@@ -127,6 +143,22 @@ fn joined_expressions(word: &str) -> Option<Vec<usize>> {
 fn equal_pair(word: &str) -> Option<(usize, usize)> {
     let (left, right) = word.split_once('=')?;
     Some((expression(left)?, expression(right)?))
+}
+
+/// A sort key, `E:O`.
+fn key(word: &str) -> Option<Key> {
+    let (asked, options) = word.split_once(':')?;
+    Some(Key { expression: expression(asked)?, options: number(options)? })
+}
+
+/// A sort key, or none of `-`.
+fn key_or_none(word: &str) -> Option<Option<Key>> {
+    if word == NONE { Some(None) } else { key(word).map(Some) }
+}
+
+/// Sort keys, `KEY,KEY,..`, or none of `-`.
+fn keys(word: &str) -> Option<Vec<Key>> {
+    if word == NONE { Some(Vec::new()) } else { word.split(',').map(key).collect() }
 }
 
 /// What each word says, if all say something.

@@ -1,6 +1,7 @@
 //! Reading records: a body length, a kind, the body; little-endian.
 
 use crate::arena::Node;
+use crate::keys::Key;
 use crate::refusal::Refusal;
 
 const HEADER: usize = 4;
@@ -14,7 +15,7 @@ pub enum Record {
     Constant { expression: usize, flavour: u16, value: u32 },
     NormalForm(usize),
     Equality(usize, usize),
-    Ordering(Vec<(usize, u16)>),
+    Ordering(Vec<Key>),
 }
 
 /// The record at the start of `bytes`, and the bytes after it.
@@ -65,6 +66,9 @@ fn expressions(bytes: &[u8]) -> Vec<usize> {
 }
 
 /// A key is an expression and its options.
-fn keys(bytes: &[u8]) -> Vec<(usize, u16)> {
-    bytes.chunks(4).map(|key| (expression(&key[..2]), number16(&key[2..]))).collect()
+fn keys(bytes: &[u8]) -> Vec<Key> {
+    bytes
+        .chunks(4)
+        .map(|key| Key { expression: expression(&key[..2]), options: number16(&key[2..]).into() })
+        .collect()
 }

@@ -1,4 +1,4 @@
-//! The refusals of document 01 that a session or a call on groups can give, in the order in which they are
+//! The refusals of document 01 that a session or a script can give, in the order in which they are
 //! tested.
 
 #[derive(Clone, Copy, Debug, PartialEq, Eq)]
@@ -15,10 +15,14 @@ pub enum Refusal {
     TooManyChildren = 2,
     /// A shifted column index leaves 0..65,535.
     ColumnOutside = 10,
+    /// A key that the walk refers to is not in the dependency map.
+    NotInMap = 6,
+    /// A key that the walk expands has no target.
+    NoTarget = 7,
     /// The nodes to be added don't fit the arena.
     ArenaFull = 3,
     /// Members or classes exceed the limit.
     GroupFull = 4,
-    /// The list of orderings exceeds its bound.
-    TooManyOrderings = 5,
+    /// A list of orderings, a dependency map or an enumeration exceeds its bound.
+    BeyondBound = 5,
 }

@@ -1,13 +1,12 @@
 //! A session: records one after the other, and the lines that they print. The calls are those of the Rust
 //! text; the refusals, which the Rust doesn't have, are document 01's.
 
-use arrow::compute::SortOptions;
-use datafusion_physical_expr::PhysicalSortExpr;
 use datafusion_physical_expr::equivalence::OrderingEquivalenceClass;
 
 use crate::arena::Arena;
 use crate::constants::constant;
 use crate::group::Group;
+use crate::keys::{Key, sort_keys};
 use crate::lines::Lines;
 use crate::records::{self, Record};
 use crate::refusal::Refusal;
@@ -86,14 +85,12 @@ impl Session {
         Ok(())
     }
 
-    fn add_ordering(&mut self, keys: &[(usize, u16)]) -> Result<(), Refusal> {
-        let options = keys.iter().map(|key| sort_options(key.1)).collect::<Result<Vec<_>, _>>()?;
-        let exprs = keys.iter().map(|key| self.arena.expr(key.0)).collect::<Result<Vec<_>, _>>()?;
+    fn add_ordering(&mut self, keys: &[Key]) -> Result<(), Refusal> {
+        let keys = sort_keys(&self.arena, keys)?;
         if self.orderings.len() == MOST_ORDERINGS {
-            return Err(Refusal::TooManyOrderings);
+            return Err(Refusal::BeyondBound);
         }
-        let keys = exprs.into_iter().zip(options);
-        self.orderings.add_orderings([keys.map(|(expr, options)| PhysicalSortExpr { expr, options })]);
+        self.orderings.add_orderings([keys]);
         Ok(())
     }
 
@@ -105,13 +102,5 @@ impl Session {
         let (classes, members) = (self.group.len(), self.group.members());
         let orderings = self.orderings.len();
         self.lines.print(format_args!("end {classes} {members} {orderings}"));
-    }
-}
-
-/// Options in the Rust's form: 1 for descending plus 2 for nulls first.
-fn sort_options(options: u16) -> Result<SortOptions, Refusal> {
-    match options {
-        0..=3 => Ok(SortOptions { descending: options & 1 != 0, nulls_first: options & 2 != 0 }),
-        _ => Err(Refusal::OutsideSet),
     }
 }

@@ -1,4 +1,4 @@
-//! Runs scripts of calls on groups with the Rust text; `driver` says how it is called.
+//! Runs scripts of calls with the Rust text; `driver` says how it is called.
 
 fn main() -> std::io::Result<()> {
     compare::driver::run(compare::calls::run)

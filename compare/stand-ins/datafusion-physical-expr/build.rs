@@ -4,7 +4,8 @@ use std::env;
 use std::path::PathBuf;
 
 const VARIABLE: &str = "GALTHUMIR_RUST_TEXT";
-const FILES: [&str; 2] = ["src/equivalence/class.rs", "src/equivalence/ordering.rs"];
+const FILES: [&str; 3] =
+    ["src/equivalence/class.rs", "src/equivalence/ordering.rs", "src/equivalence/properties/dependency.rs"];
 
 /// The folder named by the variable, or else compare/text.
 fn text_folder() -> PathBuf {

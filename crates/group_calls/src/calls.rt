@@ -1,9 +1,11 @@
 // The commands, a function each: the call, and what it prints.
+use crate::dependency_calls;
 use crate::maps::Mappings;
 use crate::maps::no_sources;
 use crate::projections;
 use arena::cells::wide;
 use classes::Changed;
+use showing_calls::dependency_maps::no_keys;
 use showing_calls::groups::Groups;
 use showing_calls::groups::group_of;
 use showing_calls::groups::no_classes;
@@ -21,20 +23,33 @@ pub fn run(words: &[u32]) {
     let mut cells = [0u32; 11265];
     let mut all = no_classes();
     let mut maps = no_sources();
+    let mut tables = no_keys();
     let n = words.len();
     let mut at = 0;
     while at < n {
         maps = projections::kept(maps, words, at);
+        tables = dependency_calls::step(&cells, tables, words, at);
         all = step(&mut cells, all, maps, words, at);
-        at += 2 + size_at(words, at);
+        at = next(words, at);
     }
 }
 
-// The command at a place: over mappings, or over nodes and groups alone.
+// The place after the command at a place.
+fn next(words: &[u32], at: usize) -> usize
+    requires { ⌜ at < length (now words) ⌝ }
+    ensures { λ r. ⌜ at < r ⌝ }
+{
+    at + 2 + size_at(words, at)
+}
+
+// The command at a place: over mappings, or over nodes and groups alone. Those over dependency maps change no group.
 fn step(cells: &mut [u32; 11265], all: Groups, maps: Mappings, words: &[u32], at: usize) -> Groups
     requires { ⌜ at < length (now words) ⌝ }
 {
     let op = word(words, at);
+    if 18 < op {
+        return all;
+    }
     let args = args_at(words, at);
     if 14 < op {
         return projections::step(cells, all, maps, words, op, args);

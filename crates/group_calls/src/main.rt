@@ -1,6 +1,6 @@
-// Runs calls on groups that are written as words of 32 bits, little-endian, from the file that its argument names or
-// from standard input, and prints the lines of each. A command is its number, the count of the words after it, and these
-// words:
+// Runs calls on groups and dependency maps that are written as words of 32 bits, little-endian, from the file that its
+// argument names or from standard input, and prints the lines of each. A command is its number, the count of the words
+// after it, and these words:
 //
 //     1 col NAME INDEX          7 eq G A B                   13 join NEW L R KIND LEFTSIZE, then A B of each pair
 //     2 lit V                   8 const G E F V              14 show G
@@ -9,11 +9,16 @@
 //     5 group G LIMIT          11 equal G A B                17 projexprs G M E..
 //     6 new G, then F V        12 nf G E                     18 project NEW G M
 //       COUNT E.. of each class
+//    19 dmap D                 21 dshow D                   23 dgen D, then E O of each key
+//    20 dins D KE KO           22 dprefix D E O
+//       TG TE TO DG DE DO
 //
-// There are three groups, 0 to 2, empty at the beginning with limit 256, and three mappings, 0 to 2, without sources at
-// the beginning. Another group or mapping, another command or a column with a number over 65,535 prints `!` and the
-// command's number. Input over 65,536 bytes is said on standard error.
+// TG and DG are 1 where a target and a dependency are given; else 0, and then 0 0. There are three groups, 0 to 2, empty
+// at the beginning with limit 256, three mappings, 0 to 2, without sources at the beginning, and three dependency maps, 0
+// to 2, without keys at the beginning. Another group, mapping or map, another command or a column with a number over
+// 65,535 prints `!` and the command's number. Input over 65,536 bytes is said on standard error.
 mod calls;
+mod dependency_calls;
 mod input;
 mod maps;
 mod projections;

@@ -35,11 +35,8 @@ fn sources_at(words: &[u32], at: usize) -> &[u32] {
     rest(args_at(words, at), 1)
 }
 
-// The command is one of those over mappings, and its groups and mappings are there.
+// The groups and mappings of a command are there.
 fn all_known(op: u32, args: &[u32]) -> bool {
-    if 18 < op {
-        return false;
-    }
     if 2 < word(args, 0) {
         return false;
     }

@@ -28,7 +28,7 @@ pub fn refused(k: u32) {
     numbered(b"r ", k);
 }
 
-// A mapping that was taken.
+// A mapping or a map that was taken.
 pub fn done() {
     print::line(b"ok");
 }

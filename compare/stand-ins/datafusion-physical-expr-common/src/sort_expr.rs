@@ -83,6 +83,13 @@ impl LexOrdering {
     }
 }
 
+/// The ordering of an array of at least one key.
+impl<const COUNT: usize> From<[PhysicalSortExpr; COUNT]> for LexOrdering {
+    fn from(keys: [PhysicalSortExpr; COUNT]) -> Self {
+        LexOrdering::new(keys).expect("an ordering has a key")
+    }
+}
+
 impl Deref for LexOrdering {
     type Target = [PhysicalSortExpr];
 

@@ -1,5 +1,5 @@
-//! The Rust text. Each module but `class_parts` is a file of the text, taken in whole from the folder that
-//! build.rs found. Another file of the text is added here and in build.rs.
+//! The Rust text. The modules `class` and `ordering`, and `dependency` of `properties`, are files of the text, taken in
+//! whole from the folder that build.rs found. Another file of the text is added here and in build.rs.
 
 #[allow(dead_code)]
 mod class {
@@ -12,6 +12,8 @@ pub mod class_parts;
 mod ordering {
     include!(concat!(env!("GALTHUMIR_RUST_TEXT"), "/src/equivalence/ordering.rs"));
 }
+
+pub mod properties;
 
 pub use crate::projection::ProjectionMapping;
 pub use class::{AcrossPartitions, ConstExpr, EquivalenceClass, EquivalenceGroup};

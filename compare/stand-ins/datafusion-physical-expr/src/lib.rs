@@ -1,5 +1,5 @@
-//! The place of the crate datafusion-physical-expr: what its files class.rs and ordering.rs ask of the crate
-//! around them, and under `equivalence` those files themselves, unchanged.
+//! The place of the crate datafusion-physical-expr: what its files class.rs, ordering.rs and dependency.rs ask of the
+//! crate around them, and under `equivalence` those files themselves, unchanged.
 
 pub mod equivalence;
 pub mod expressions;

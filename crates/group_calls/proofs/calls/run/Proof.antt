@@ -7,16 +7,19 @@ use Rattle.group_calls.proofs.calls.run.Statement.{statement}
 use Rattle.group_calls.proofs.calls.run.Tie as tie
 
 abbrev Inv-loop : tie.InvT-loop
-Inv-loop words cells₀ all₀ maps₀ n at₀ cells all maps at = n ≡ length words
+Inv-loop words cells₀ all₀ maps₀ tables₀ n at₀ cells all maps tables at = n ≡ length words
 
 abbrev μ-loop : tie.MeasureT-loop
-μ-loop words cells₀ all₀ maps₀ n at₀ cells all maps at = n - at
+μ-loop words cells₀ all₀ maps₀ tables₀ n at₀ cells all maps tables at = n - at
 
 no-classes-requires : tie.Need-no-classes-requires Inv-loop μ-loop
 no-classes-requires c κs = search needs
 
 no-sources-requires : tie.Need-no-sources-requires Inv-loop μ-loop
 no-sources-requires c κs = search needs
+
+no-keys-requires : tie.Need-no-keys-requires Inv-loop μ-loop
+no-keys-requires c κs = search needs
 
 loop-holds : tie.Need-loop-holds Inv-loop μ-loop
 loop-holds c = search needs
@@ -27,14 +30,11 @@ kept-requires c κs = search needs
 step-requires : tie.Need-step-requires Inv-loop μ-loop
 step-requires c κs = search needs
 
-size-at-requires : tie.Need-size-at-requires Inv-loop μ-loop
-size-at-requires c κs = search needs
+step-requires-2 : tie.Need-step-requires-2 Inv-loop μ-loop
+step-requires-2 c κs = search needs
 
-add-at : tie.Need-add-at Inv-loop μ-loop
-add-at c = search needs
-
-add-at-2 : tie.Need-add-at-2 Inv-loop μ-loop
-add-at-2 c = search needs
+next-requires : tie.Need-next-requires Inv-loop μ-loop
+next-requires c κs = search needs
 
 loop-less : tie.Need-loop-less Inv-loop μ-loop
 loop-less c = search needs
@@ -53,12 +53,12 @@ run-spec =
     μ-loop
     no-classes-requires
     no-sources-requires
+    no-keys-requires
     loop-holds
     kept-requires
     step-requires
-    size-at-requires
-    add-at
-    add-at-2
+    step-requires-2
+    next-requires
     loop-less
     loop-again
     returns)

@@ -1,0 +1,2 @@
+-- Laws that the proofs cite.
+mod Compared

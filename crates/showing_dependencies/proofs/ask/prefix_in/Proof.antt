@@ -1,0 +1,43 @@
+-- `prefix_in` is safe: the part that is lent has as many places as asked.
+use mathlib.Core.Path.{sym}
+use native.Mathlib.Omega.{arith}
+use lib.Seq.{length-take-le}
+use borrow.Author.Needs.{needs}
+use Rattle.showing_dependencies.proofs.ask.prefix_in.Statement.{statement}
+use Rattle.showing_dependencies.proofs.ask.prefix_in.Tie as tie
+
+returns : tie.Need-returns
+returns c = search needs
+
+slice-relend-prefix-construct-prefix-orderings :
+    tie.Need-slice-relend-prefix-construct-prefix-orderings
+slice-relend-prefix-construct-prefix-orderings c = search needs
+
+slice-aggregate-construct-prefix-orderings : tie.Need-slice-aggregate-construct-prefix-orderings
+slice-aggregate-construct-prefix-orderings c =
+    let s = c .before .before .before in
+    sym (length-take-le (s .args .room) (s .args .out .now) (omega (arith, c .before .if1 .left)))
+
+construct-prefix-orderings-requires : tie.Need-construct-prefix-orderings-requires
+construct-prefix-orderings-requires c κs = search needs
+
+told-requires : tie.Need-told-requires
+told-requires c κs = search needs
+
+same-length : tie.Need-same-length
+same-length c = search needs
+
+returns-2 : tie.Need-returns-2
+returns-2 c = search needs
+
+pub prefix-in-spec : {M : Type 1} → statement M
+prefix-in-spec =
+    tie.close
+    (tie.spec
+    returns
+    slice-relend-prefix-construct-prefix-orderings
+    slice-aggregate-construct-prefix-orderings
+    construct-prefix-orderings-requires
+    told-requires
+    same-length
+    returns-2)
