@@ -33,7 +33,7 @@ use Rattle.normal.specs.Inner.{Firsts, rewriting}
 use Rattle.normal.proofs.Calling.{table-inside, rewriting-normals}
 use Rattle.normal.proofs.Steps.{same-rewriting}
 use Rattle.normal.proofs.NormalValue.{good-extended}
-use Rattle.merging.specs.Calls.{madeGroup}
+use Rattle.merging.specs.Calls.{madeGroup, refusedGroup, madeOrRefused}
 use Rattle.mappings.specs.Mapping.{Mapped, sources}
 use Rattle.mappings.specs.Lent.{mappingLent}
 use Rattle.mappings.specs.Layout.{decode as mapping, Checked}
@@ -45,7 +45,7 @@ use Rattle.projection.specs.Inner.{Says, Tabled, answersIn, toldAnswers, AddedA
 use Rattle.projection.proofs.Sources.{checked-wider}
 use Rattle.projection.proofs.Written.{list-ready}
 use Rattle.group_projection.specs.Group.{projectedNumbers, projectedGroup}
-use Rattle.group_projection.specs.Calls.{projectRefused, projectMade, projectPlaced, projectBy, projectAnswer}
+use Rattle.group_projection.specs.Calls.{projectPlaced, projectBy, projectAnswer}
 use Rattle.group_projection.specs.Inner.{madeOrNone, Entries, FormsReady, Formed, ProjectedOver}
 use Rattle.group_projection.proofs.FairProjected.{member-at}
 
@@ -77,8 +77,8 @@ says-below os xs ns e (suc (suc i)) h = omega (arith, h .0)
 -- ---- what the caller is told
 
 -- the group that was made, or 4
-told-made : (s u : List ℕ) (g : Group) (ps : List Mapped) (r : Changed) → Holds u → (o : Option (List Class)) → r ≡ madeOrNone o → projectBy ps g (nodes s) ≡ projectMade g (nodes s) (nodes u) o → ProjectedOver s u g ps r
-unfolding madeOrNone projectMade projectRefused madeGroup noGroup
+told-made : (s u : List ℕ) (g : Group) (ps : List Mapped) (r : Changed) → Holds u → (o : Option (List Class)) → r ≡ madeOrNone o → projectBy ps g (nodes s) ≡ madeOrRefused g (nodes s) (nodes u) o → ProjectedOver s u g ps r
+unfolding madeOrNone madeOrRefused refusedGroup madeGroup noGroup
 told-made s u g ps r h (some cs) x y = record {
   holds = h;
   done = λ z. ap (λ (c : Changed). (c, nodes u)) x ∙ sym y;
@@ -92,7 +92,7 @@ told-made s u g ps r h none x y = record {
 
 -- there was no room: 3
 told-full : (s u : List ℕ) (g : Group) (ps : List Mapped) (r : Changed) → Holds u → r ≡ noGroup 3 → projectedNumbers (nodes s) (decode g) ps ≡ full → ProjectedOver s u g ps r
-unfolding noGroup projectBy projectPlaced projectRefused
+unfolding noGroup projectBy projectPlaced refusedGroup
 told-full s u g ps r h x y = record {
   holds = h;
   done = λ z. absurd (let n = ap (λ (c : Changed). c .number) x in omega (arith, n, z));

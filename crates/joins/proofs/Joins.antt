@@ -46,7 +46,7 @@ use Rattle.classes.proofs.Judging.{handedBack}
 use Rattle.demands.proofs.Valid.{Tables}
 use Rattle.classes.proofs.Group.{the-row}
 use Rattle.merging.specs.Merging.{fromClasses}
-use Rattle.merging.specs.Calls.{madeGroup}
+use Rattle.merging.specs.Calls.{madeGroup, refusedGroup, madeOrRefused}
 use Rattle.merging.specs.Inner.{AllBelow}
 use Rattle.merging.proofs.Smaller.{from-few, from-small}
 use Rattle.merging.proofs.Reaching.{from-good}
@@ -54,7 +54,7 @@ use Rattle.merging.proofs.ListCounts.{total-append}
 use Rattle.joins.specs.Lent.{paired, sidesBelow, pairsLent}
 use Rattle.joins.specs.Kinds.{joinKind}
 use Rattle.joins.specs.Joining.{allMove, shiftedNumbers, shiftedClasses, withRights, equatedAll, joinedClasses, toShift, joinedOver}
-use Rattle.joins.specs.Calls.{joinNumber, joinRefused, joinMade, joinPlaced, joinShifted, joinBy, joinAnswer}
+use Rattle.joins.specs.Calls.{joinNumber, joinPlaced, joinShifted, joinBy, joinAnswer}
 use Rattle.joins.specs.Inner.{rightsLent, ReadyAll, toldNumbers, ShiftedAll, numbersOf, rightsIn, There, madeOr, equatedOf, BothHeld, JoinReady, Joined}
 use Rattle.joins.specs.declared.JoinKind.{JoinKind}
 use Rattle.joins.proofs.Reaching.{shifted-total, list-fair}
@@ -276,9 +276,9 @@ to-shift rs numbers = refl
 
 -- what was made of the pairs, as the promise
 joined-case : (lift : ℕ) (s u : List ℕ) (left right : Group) (numbers : List ℕ) (f : Group) (o : Changed) → Holds u → (m : Option (List Class)) → o ≡ madeOr f m
-    → joinPlaced left (decode right) (pairsLent numbers) (nodes s) (shiftedNumbers (lifted lift) (nodes s) (toShift (decode right) (pairsLent numbers)) (nodes s)) ≡ joinMade left (nodes s) (nodes u) m
+    → joinPlaced left (decode right) (pairsLent numbers) (nodes s) (shiftedNumbers (lifted lift) (nodes s) (toShift (decode right) (pairsLent numbers)) (nodes s)) ≡ madeOrRefused left (nodes s) (nodes u) m
     → Joined lift s u left right numbers o
-unfolding madeOr joinMade joinRefused madeGroup
+unfolding madeOr madeOrRefused refusedGroup madeGroup
 joined-case lift s u left right numbers f o h (some cs) x y = record {
   holds = h;
   done = λ z. ap (λ (c : Changed). (c, nodes u)) x ∙ sym y;
@@ -331,7 +331,7 @@ module _ (lift : ℕ) (s : List ℕ) (left right : Group) (numbers : List ℕ) (
 
   -- there was no room
   refused-full : (t : List ℕ) → Holds t → whole ≡ full → Joined lift s t left right numbers (handedBack 3 left)
-  unfolding joinPlaced joinRefused
+  unfolding joinPlaced refusedGroup
   refused-full t h e = record {
     holds = h;
     done = λ z. absurd (omega arith);
@@ -427,9 +427,9 @@ module _ (lift : ℕ) (s : List ℕ) (left right : Group) (numbers : List ℕ) (
               (shifted-front (nodes u) (decode right) ks js (omega (arith, numbered, length-flat (decode right)))) (drop-at ks js (length (flat (decode right))) numbered)
 
           -- what document 01 says of it
-          outcome-is : joinPlaced left (decode right) (pairsLent numbers) (nodes s) whole ≡ joinMade left (nodes s) (nodes u) (joinedClasses (nodes u) list shifted-pairs)
+          outcome-is : joinPlaced left (decode right) (pairsLent numbers) (nodes s) whole ≡ madeOrRefused left (nodes s) (nodes u) (joinedClasses (nodes u) list shifted-pairs)
           unfolding joinPlaced
-          outcome-is = ap (joinPlaced left (decode right) (pairsLent numbers) (nodes s)) whole-placed ∙ ap (joinMade left (nodes s) (nodes u)) joined-is
+          outcome-is = ap (joinPlaced left (decode right) (pairsLent numbers) (nodes s)) whole-placed ∙ ap (madeOrRefused left (nodes s) (nodes u)) joined-is
 
           -- how many classes the list has
           list-many : length list ≡ left .count + right .count
@@ -446,11 +446,11 @@ module _ (lift : ℕ) (s : List ℕ) (left right : Group) (numbers : List ℕ) (
 
           -- the list exceeds the bounds
           refused-over : fits 256 list ≡ false → Joined lift s u left right numbers (handedBack 4 left)
-          unfolding joinedClasses joinMade joinRefused
+          unfolding joinedClasses madeOrRefused refusedGroup
           refused-over f = record {
             holds = b .holds;
             done = λ z. absurd (omega arith);
-            refused = λ z. sym (outcome-is ∙ ap (λ (x : Bool). joinMade left (nodes s) (nodes u) (if x then equatedAll (nodes u) shifted-pairs (fromClasses list) else none)) f);
+            refused = λ z. sym (outcome-is ∙ ap (λ (x : Bool). madeOrRefused left (nodes s) (nodes u) (if x then equatedAll (nodes u) shifted-pairs (fromClasses list) else none)) f);
           }
 
           -- too many classes
@@ -524,9 +524,9 @@ module _ (lift : ℕ) (s : List ℕ) (left right : Group) (numbers : List ℕ) (
                   equated-pairs = equatedAll (nodes u) shifted-pairs (fromClasses list)
 
                   -- what document 01 says, once the list fits
-                  result-is : joinPlaced left (decode right) (pairsLent numbers) (nodes s) whole ≡ joinMade left (nodes s) (nodes u) equated-pairs
+                  result-is : joinPlaced left (decode right) (pairsLent numbers) (nodes s) whole ≡ madeOrRefused left (nodes s) (nodes u) equated-pairs
                   unfolding joinedClasses
-                  result-is = outcome-is ∙ ap (λ (x : Bool). joinMade left (nodes s) (nodes u) (if x then equatedAll (nodes u) shifted-pairs (fromClasses list) else none)) list-fits
+                  result-is = outcome-is ∙ ap (λ (x : Bool). madeOrRefused left (nodes s) (nodes u) (if x then equatedAll (nodes u) shifted-pairs (fromClasses list) else none)) list-fits
 
                   -- the join
                   pub join-done : (v : List ℕ) → v ≡ u → (o : Changed) → o ≡ equatedOf lift u made numbers → Joined lift s v left right numbers o
@@ -560,7 +560,7 @@ module _ (s : List ℕ) (left right : Group) (numbers : List ℕ) (size lift : �
   -- something can't move
   shift-out : (allMove (lifted lift) (nodes s) (flat (decode right)) && allMove (lifted lift) (nodes s) (rightsLent numbers)) ≡ false
       → _≡_ {A = Outcome} (handedBack 10 left, s) (inCells (joinShifted left (decode right) size (pairsLent numbers) (nodes s)))
-  unfolding joinShifted joinRefused inCells
+  unfolding joinShifted refusedGroup inCells
   shift-out e = rw (test-is ∙ e) (ap (λ (c : List ℕ). (handedBack 10 left, c)) (sym (coded-cells s (h .holds))))
 
   -- a member

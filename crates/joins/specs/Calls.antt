@@ -3,7 +3,6 @@
 use Prim.Native.Nat.{ℕ}
 use mathlib.Core.Bool.{false, _&&_}
 use mathlib.Core.List.{List, [], _++_}
-use mathlib.Core.Option.{Option, none, some}
 use lib.Dec.{eqb, leb}
 use lib.IntN.{pos}
 use lib.ListN.{length}
@@ -17,7 +16,7 @@ use Rattle.classes.specs.Class.{Class}
 use Rattle.classes.specs.Layout.{decode, inSet, lawfulGroup, membersInside}
 use Rattle.classes.specs.declared.Group.{Group}
 use Rattle.classes.specs.declared.Changed.{Changed}
-use Rattle.merging.specs.Calls.{madeGroup}
+use Rattle.merging.specs.Calls.{madeGroup, refusedGroup, madeOrRefused}
 use Rattle.joins.specs.Lent.{paired, sidesBelow, pairsLent}
 use Rattle.joins.specs.Kinds.{joinKind}
 use Rattle.joins.specs.Joining.{allMove, shiftedNumbers, toShift, joinedOver}
@@ -31,25 +30,16 @@ joinNumber cells left right kind numbers =
     else 11)
     else 12
 
--- a refusal: the left group as it was, and the arena
-unfoldable pub joinRefused : ℕ → Group → List Node → Changed × List Node
-joinRefused k left ns = (record { number = k; answer = false; group = left }, ns)
-
--- the joined classes, or 4, and then the arena is as it was
-unfoldable pub joinMade : Group → List Node → List Node → Option (List Class) → Changed × List Node
-joinMade left ns ms (some cs) = (madeGroup cs, ms)
-joinMade left ns ms none = joinRefused 4 left ns
-
--- once the nodes are there, or 3, and then the arena is as it was
+-- the joined classes once the nodes are there, or 3, and then the left group and the arena are as they were
 unfoldable pub joinPlaced : Group → List Class → List (ℕ × ℕ) → List Node → Placed (List ℕ) → Changed × List Node
-joinPlaced left rs ps ns (placed ks ms) = joinMade left ns ms (joinedOver ms (decode left) rs ps ks)
-joinPlaced left rs ps ns full = joinRefused 3 left ns
+joinPlaced left rs ps ns (placed ks ms) = madeOrRefused left ns ms (joinedOver ms (decode left) rs ps ks)
+joinPlaced left rs ps ns full = refusedGroup 3 left ns
 
 -- a join that shifts the right side by the number of left columns: 10 where a column leaves 0..65,535
 unfoldable pub joinShifted : Group → List Class → ℕ → List (ℕ × ℕ) → List Node → Changed × List Node
 joinShifted left rs size ps ns =
     if allMove (moved (pos size)) ns (toShift rs ps) then joinPlaced left rs ps ns (shiftedNumbers (moved (pos size)) ns (toShift rs ps) ns)
-    else joinRefused 10 left ns
+    else refusedGroup 10 left ns
 
 -- a join by its kind: shifted, or the classes of the sides that are kept as they are
 unfoldable pub joinBy : Group → Group → ℕ → ℕ → List (ℕ × ℕ) → List Node → Changed × List Node

@@ -18,10 +18,10 @@ use Rattle.classes.specs.Layout.{constantFrom, flavourOf, valueOf, padded, sumT
 use Rattle.merging.specs.Extending.{without, missing, extended, pushed, pushedAll, classFrom, anyAmong, containsAny, isTrivial}
 use Rattle.merging.specs.Merging.{droppedAt, dropBelow, keptClasses, meetingBelow, lastMeeting, bridged, bridgeFrom, bridgeRest, bridgeClasses, fromClasses}
 use Rattle.merging.specs.Lent.{nextClass, classLent, classesLent}
-use Rattle.merging.specs.Calls.{madeGroup}
+use Rattle.merging.specs.Calls.{madeGroup, refusedGroup, madeOrRefused}
 use Rattle.joins.specs.Kinds.{joinKind}
 use Rattle.joins.specs.Joining.{allMove, shiftedNumbers, shiftedClasses, withRights, equatedAll, joinedClasses, toShift, joinedOver}
-use Rattle.joins.specs.Calls.{joinRefused, joinMade, joinPlaced, joinShifted, joinBy}
+use Rattle.joins.specs.Calls.{joinPlaced, joinShifted, joinBy}
 
 -- a class without a constant
 abbrev plain : List ℕ → Class
@@ -76,18 +76,18 @@ rights = varying (2 ∷ 3 ∷ []) ∷ record { members = 4 ∷ []; constant = un
 -- Left, over two left columns: the right constants go with the shift, the literal's is its own, the class of one says nothing any more, and its shifted node is there all the same
 left-join : joinBy (encode 256 lefts) (encode 256 rights) 1 2 ((1, 2) ∷ []) arena
     ≡ (madeGroup (plain (0 ∷ 1 ∷ []) ∷ plain (6 ∷ 7 ∷ []) ∷ record { members = 5 ∷ []; constant = known 7 } ∷ []), arena ++ (column 2 2 ∷ column 3 3 ∷ column 4 4 ∷ []))
-unfolding joinBy joinKind joinShifted joinPlaced joinMade joinedOver joinedClasses equatedAll equalCondition equated classOf first firstFrom joined toShift flat allMove shiftedNumbers canMove shifted moved within isSome expressions made madeAfter over those addExpression andThen add placedAt find sameNode shiftedClasses classFrom pushedAll pushed extended merged missing without among single carried taken isUniform withRights fits total fromClasses keptClasses dropBelow droppedAt isTrivial isConstant removed bridgeClasses bridgeRest bridgeFrom lastMeeting meetingBelow bridged mergedAt containsAny anyAmong decode encode classIn padded flavourOf valueOf constantFrom sumTo table
+unfolding joinBy joinKind joinShifted joinPlaced madeOrRefused joinedOver joinedClasses equatedAll equalCondition equated classOf first firstFrom joined toShift flat allMove shiftedNumbers canMove shifted moved within isSome expressions made madeAfter over those addExpression andThen add placedAt find sameNode shiftedClasses classFrom pushedAll pushed extended merged missing without among single carried taken isUniform withRights fits total fromClasses keptClasses dropBelow droppedAt isTrivial isConstant removed bridgeClasses bridgeRest bridgeFrom lastMeeting meetingBelow bridged mergedAt containsAny anyAmong decode encode classIn padded flavourOf valueOf constantFrom sumTo table
 left-join = refl
 
 -- Inner, over two left columns: the pair of 1 and 2, whose shifted node is 6, brings the two classes together
 inner-join : joinBy (encode 256 lefts) (encode 256 (varying (2 ∷ 3 ∷ []) ∷ [])) 0 2 ((1, 2) ∷ []) arena
     ≡ (madeGroup (plain (0 ∷ 1 ∷ 6 ∷ 7 ∷ []) ∷ []), arena ++ (column 2 2 ∷ column 3 3 ∷ []))
-unfolding joinBy joinKind joinShifted joinPlaced joinMade joinedOver joinedClasses equatedAll equalCondition equated classOf first firstFrom joined toShift flat allMove shiftedNumbers canMove shifted moved within isSome expressions made madeAfter over those addExpression andThen add placedAt find sameNode shiftedClasses classFrom pushedAll pushed extended merged missing without among single carried taken isUniform withRights fits total fromClasses keptClasses dropBelow droppedAt isTrivial isConstant removed bridgeClasses bridgeRest bridgeFrom lastMeeting meetingBelow bridged mergedAt containsAny anyAmong decode encode classIn padded flavourOf valueOf constantFrom sumTo table
+unfolding joinBy joinKind joinShifted joinPlaced madeOrRefused joinedOver joinedClasses equatedAll equalCondition equated classOf first firstFrom joined toShift flat allMove shiftedNumbers canMove shifted moved within isSome expressions made madeAfter over those addExpression andThen add placedAt find sameNode shiftedClasses classFrom pushedAll pushed extended merged missing without among single carried taken isUniform withRights fits total fromClasses keptClasses dropBelow droppedAt isTrivial isConstant removed bridgeClasses bridgeRest bridgeFrom lastMeeting meetingBelow bridged mergedAt containsAny anyAmong decode encode classIn padded flavourOf valueOf constantFrom sumTo table
 inner-join = refl
 
 -- over 65,535 left columns index 1 leaves its range: 10, the left group as it was, and the arena
 join-leaves : joinBy (encode 5 lefts) (encode 256 rights) 2 65535 [] arena ≡ (record { number = 10; answer = false; group = encode 5 lefts }, arena)
-unfolding joinBy joinKind joinShifted joinRefused toShift flat allMove canMove moved within isSome expressions made madeAfter over decode encode classIn padded flavourOf valueOf constantFrom sumTo table
+unfolding joinBy joinKind joinShifted refusedGroup toShift flat allMove canMove moved within isSome expressions made madeAfter over decode encode classIn padded flavourOf valueOf constantFrom sumTo table
 join-leaves = refl
 
 -- LeftSemi keeps the left classes and RightMark the right ones, each as they are but with limit 256

@@ -32,13 +32,13 @@ use Rattle.classes.specs.declared.Changed.{Changed}
 use Rattle.classes.proofs.HeldLaws.{Fit, number-fit, held-number}
 use Rattle.merging.specs.Merging.{fromClasses}
 use Rattle.merging.specs.Lent.{classesLent}
-use Rattle.merging.specs.Calls.{newNumber, madeGroup, newAnswer}
+use Rattle.merging.specs.Calls.{newNumber, madeGroup, newAnswer, refusedGroup, madeOrRefused}
 use Rattle.merging.proofs.ListCounts.{fits-few, fits-small}
 use Rattle.merging.proofs.Reaching.{from-good}
 use Rattle.joins.specs.Lent.{paired, sidesBelow, pairsLent}
 use Rattle.joins.specs.Kinds.{joinKind}
 use Rattle.joins.specs.Joining.{allMove, shiftedNumbers, toShift, joinedOver}
-use Rattle.joins.specs.Calls.{joinNumber, joinRefused, joinMade, joinPlaced, joinShifted, joinBy, joinAnswer}
+use Rattle.joins.specs.Calls.{joinNumber, joinPlaced, joinShifted, joinBy, joinAnswer}
 use Rattle.merging_laws.proofs.FairLent.{list-checked, lent-fair}
 use Rattle.merging_laws.proofs.JoinLaws.{from-fits, SidesBelow, made-to, made-good}
 use Rattle.merging_laws.proofs.JoinTheorems.{used, kinds-left, kinds-right, used-below, kinds-made}
@@ -236,23 +236,23 @@ Kept left ns o = (o .0 .number ≡ 0 → ⊥) → (o .0 .group ≡ left) × (o .
 
 module _ (left : Group) (ns : List Node) where
   -- where the classes exceed the bounds
-  made-kept : (ms : List Node) (o : Option (List Class)) → Kept left ns (joinMade left ns ms o)
-  unfolding joinMade joinRefused madeGroup
+  made-kept : (ms : List Node) (o : Option (List Class)) → Kept left ns (madeOrRefused left ns ms o)
+  unfolding madeOrRefused refusedGroup madeGroup
   made-kept ms (some cs) z = absurd (z refl)
   made-kept ms none z = (refl, refl)
 
   -- or the arena has no room
   placed-kept : (rs : List Class) (ps : List (ℕ × ℕ)) (o : Placed (List ℕ)) → Kept left ns (joinPlaced left rs ps ns o)
-  unfolding joinPlaced joinRefused
+  unfolding joinPlaced refusedGroup
   placed-kept rs ps (placed ks ms) z = made-kept ms (joinedOver ms (decode left) rs ps ks) z
   placed-kept rs ps full z = (refl, refl)
 
   -- or a column leaves its range
   shifted-kept : (rs : List Class) (size : ℕ) (ps : List (ℕ × ℕ)) → Kept left ns (joinShifted left rs size ps ns)
-  unfolding joinShifted joinRefused
+  unfolding joinShifted refusedGroup
   shifted-kept rs size ps = go (allMove (moved (pos size)) ns (toShift rs ps))
     where
-      go : (b : Bool) → Kept left ns (if b then joinPlaced left rs ps ns (shiftedNumbers (moved (pos size)) ns (toShift rs ps) ns) else joinRefused 10 left ns)
+      go : (b : Bool) → Kept left ns (if b then joinPlaced left rs ps ns (shiftedNumbers (moved (pos size)) ns (toShift rs ps) ns) else refusedGroup 10 left ns)
       go true z = placed-kept rs ps (shiftedNumbers (moved (pos size)) ns (toShift rs ps) ns) z
       go false z = (refl, refl)
 

@@ -35,12 +35,12 @@ use Rattle.demands.proofs.GoodKept.{condition-good}
 use Rattle.merging.specs.Extending.{missing, pushed, pushedAll, classFrom, isTrivial}
 use Rattle.merging.specs.Merging.{droppedAt, dropBelow, keptClasses, bridged, length-bridged, fromClasses}
 use Rattle.classes.specs.Agree.{Same, MembersAgree, PairsAgree}
-use Rattle.merging.specs.Calls.{madeGroup}
+use Rattle.merging.specs.Calls.{madeGroup, refusedGroup, madeOrRefused}
 use Rattle.merging.specs.Inner.{Fair, AllBelow}
 use Rattle.merging.proofs.Overlaps.{length-without, extended-from, Meets, bridge-keeps, meets-low, Within}
 use Rattle.merging.proofs.Reaching.{Sane, sane-fair, from-good, all-append, good-sane, flat-below}
 use Rattle.joins.specs.Joining.{allMove, shiftedNumbers, shiftedClasses, withRights, equatedAll, joinedClasses, toShift, joinedOver}
-use Rattle.joins.specs.Calls.{joinRefused, joinMade, joinPlaced, joinShifted}
+use Rattle.joins.specs.Calls.{joinPlaced, joinShifted}
 use Rattle.joins.proofs.ShiftOnce.{each-moves, ShiftedTo, numbers-shifted}
 use Rattle.joins.proofs.Reaching.{sane-shifted}
 use Rattle.joins.proofs.ShiftedParts.{length-shifted}
@@ -217,8 +217,8 @@ pub record Made (ls rs : List Class) (size : ℕ) (ps : List (ℕ × ℕ)) (ns :
 
 module _ (left : Group) (rs : List Class) (size : ℕ) (ps : List (ℕ × ℕ)) (ns : List Node) (r : Changed) (ms : List Node) (zero-is : r .number ≡ 0) where
   -- a refusal has a number
-  refused-not : (k : ℕ) → 0 < k → joinRefused k left ns ≡ (r, ms) → ⊥
-  unfolding joinRefused
+  refused-not : (k : ℕ) → 0 < k → refusedGroup k left ns ≡ (r, ms) → ⊥
+  unfolding refusedGroup
   refused-not k l e = let t : k ≡ r .number = ap (λ (o : Changed × List Node). o .0 .number) e in omega (arith, zero-is)
 
   -- the list that reaches `new`
@@ -227,14 +227,14 @@ module _ (left : Group) (rs : List Class) (size : ℕ) (ps : List (ℕ × ℕ)) 
 
   -- once the nodes are there
   made-option : (ks : List ℕ) (os : List Node) → allMove (moved (pos size)) ns (toShift rs ps) ≡ true → shiftedNumbers (moved (pos size)) ns (toShift rs ps) ns ≡ placed ks os
-      → joinMade left ns os (joinedOver os (decode left) rs ps ks) ≡ (r, ms) → Made (decode left) rs size ps ns r ms
-  unfolding joinMade joinedOver joinedClasses
+      → madeOrRefused left ns os (joinedOver os (decode left) rs ps ks) ≡ (r, ms) → Made (decode left) rs size ps ns r ms
+  unfolding madeOrRefused joinedOver joinedClasses
   made-option ks os m s e = go (fits 256 (list ks os)) refl e
     where
       pairs : List (ℕ × ℕ)
       pairs = withRights ps (drop (length (flat rs)) ks)
 
-      at : (o : Option (List Class)) → fits 256 (list ks os) ≡ true → equatedAll os pairs (fromClasses (list ks os)) ≡ o → joinMade left ns os o ≡ (r, ms) → Made (decode left) rs size ps ns r ms
+      at : (o : Option (List Class)) → fits 256 (list ks os) ≡ true → equatedAll os pairs (fromClasses (list ks os)) ≡ o → madeOrRefused left ns os o ≡ (r, ms) → Made (decode left) rs size ps ns r ms
       at none f q t = absurd (refused-not 4 (omega arith) t)
       at (some cs) f q t =
           let w : os ≡ ms = ap (λ (o : Changed × List Node). o .1) t in
@@ -248,7 +248,7 @@ module _ (left : Group) (rs : List Class) (size : ℕ) (ps : List (ℕ × ℕ)) 
             is = sym (ap (λ (o : Changed × List Node). o .0) t);
           }
 
-      go : (b : Bool) → fits 256 (list ks os) ≡ b → joinMade left ns os (if b then equatedAll os pairs (fromClasses (list ks os)) else none) ≡ (r, ms) → Made (decode left) rs size ps ns r ms
+      go : (b : Bool) → fits 256 (list ks os) ≡ b → madeOrRefused left ns os (if b then equatedAll os pairs (fromClasses (list ks os)) else none) ≡ (r, ms) → Made (decode left) rs size ps ns r ms
       go true f t = at (equatedAll os pairs (fromClasses (list ks os))) f refl t
       go false f t = absurd (refused-not 4 (omega arith) t)
 
@@ -262,7 +262,7 @@ module _ (left : Group) (rs : List Class) (size : ℕ) (ps : List (ℕ × ℕ)) 
       at m full s t = absurd (refused-not 3 (omega arith) t)
 
       go : (b : Bool) → allMove (moved (pos size)) ns (toShift rs ps) ≡ b
-          → (if b then joinPlaced left rs ps ns (shiftedNumbers (moved (pos size)) ns (toShift rs ps) ns) else joinRefused 10 left ns) ≡ (r, ms) → Made (decode left) rs size ps ns r ms
+          → (if b then joinPlaced left rs ps ns (shiftedNumbers (moved (pos size)) ns (toShift rs ps) ns) else refusedGroup 10 left ns) ≡ (r, ms) → Made (decode left) rs size ps ns r ms
       go true m t = at m (shiftedNumbers (moved (pos size)) ns (toShift rs ps) ns) refl t
       go false m t = absurd (refused-not 10 (omega arith) t)
 

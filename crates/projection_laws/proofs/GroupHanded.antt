@@ -23,7 +23,7 @@ use Rattle.classes.specs.declared.Group.{Group}
 use Rattle.classes.specs.declared.Changed.{Changed}
 use Rattle.classes.proofs.HeldLaws.{number-fit, held-number}
 use Rattle.normal.specs.Calls.{onChecked}
-use Rattle.merging.specs.Calls.{madeGroup}
+use Rattle.merging.specs.Calls.{madeGroup, refusedGroup, madeOrRefused}
 use Rattle.merging.proofs.ListCounts.{fits-few, fits-small}
 use Rattle.mappings.specs.Mapping.{Mapped}
 use Rattle.mappings.specs.Lent.{mappingLent}
@@ -34,7 +34,7 @@ use Rattle.projection.specs.Projecting.{projection}
 use Rattle.projection.proofs.TableLaws.{none-some}
 use Rattle.projection.proofs.CallLaws.{lent-holds}
 use Rattle.group_projection.specs.Group.{projectedNumbers, newConstants, constantsSaid, beforeConstants, projectedList, projectedGroup}
-use Rattle.group_projection.specs.Calls.{projectRefused, projectMade, projectPlaced, projectBy, projectAnswer}
+use Rattle.group_projection.specs.Calls.{projectPlaced, projectBy, projectAnswer}
 use Rattle.group_projection.proofs.MadeGroups.{Within}
 use Rattle.group_projection.proofs.ConstantLaws.{SaidBelow, said-within, new-source, source-below}
 use Rattle.group_projection.proofs.FairProjected.{ThereBelow, TargetsBelow, list-fair-projected, from-within}
@@ -120,17 +120,17 @@ pub record ProjectedOver (ps : List Mapped) (g : Group) (ns : List Node) (r : Ch
 
 module _ (ps : List Mapped) (g : Group) (ns : List Node) where
   -- a refusal
-  refused-over : (n : ℕ) → (n ≡ 0 → ⊥) → ProjectedOver ps g ns (projectRefused n g ns)
-  unfolding projectRefused
+  refused-over : (n : ℕ) → (n ≡ 0 → ⊥) → ProjectedOver ps g ns (refusedGroup n g ns)
+  unfolding refusedGroup
   refused-over n z = record { done = λ e. absurd (z e); refused = λ h. (refl, refl) }
 
   -- so comes every projection
   pub project-over : ProjectedOver ps g ns (projectBy ps g ns)
-  unfolding projectBy projectPlaced projectMade madeGroup
+  unfolding projectBy projectPlaced madeOrRefused madeGroup
   project-over = go (projectedNumbers ns (decode g) ps) refl
     where
       made : (ks : List (Option ℕ)) (js : List ℕ) (os : List Node) → projectedNumbers ns (decode g) ps ≡ placed (ks, js) os
-          → (d : Option (List Class)) → projectedGroup os (decode g) ps ks js ≡ d → ProjectedOver ps g ns (projectMade g ns os d)
+          → (d : Option (List Class)) → projectedGroup os (decode g) ps ks js ≡ d → ProjectedOver ps g ns (madeOrRefused g ns os d)
       made ks js os p (some cs) q = record { done = λ e. record { members = ks; forms = js; classes = cs; places = p; makes = q; is = refl }; refused = λ z. absurd (z refl) }
       made ks js os p none q = refused-over 4 (λ z. omega arith)
 
