@@ -8,11 +8,3 @@ pub mod FieldBytes
 pub mod Records
 pub mod ChosenParts
 pub mod Examples
-pub mod GroupWalk
-pub mod Shape
-pub mod Apart
-pub mod GroupCopy
-pub mod GroupBuild
-pub mod GroupRecords
-pub mod GroupExamples
-pub mod GroupWritten

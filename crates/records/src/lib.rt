@@ -3,17 +3,13 @@
 // A record of a session has one of the kinds 1 to 8; kind 16 is a group. The functions of this file are the public
 // calls and ask nothing of their caller.
 pub mod fields;
-pub mod group;
 pub mod kinds;
 
-use classes::Changed;
-use group::read_group_in;
 use kinds::body_length;
 use kinds::is_whole;
 use kinds::read_body;
 ghost use mathlib.Core.Path.{_≡_};
 ghost use Rattle.records.specs.Record.{readRecord, itemOf};
-ghost use Rattle.records.specs.GroupRecord.{groupRead};
 ghost use Rattle.records.specs.Chosen.{chosenPart, chosenNumber};
 
 // What a record says: a column's name and index, a literal's value, an operation's label and how many children follow,
@@ -40,14 +36,6 @@ pub fn read_record(bytes: &[u8]) -> Item
         return Item::Malformed;
     }
     read_body(bytes)
-}
-
-// Reads a group's record against an arena into a group of limit 256. Refusals: 9, 12, 11, 1, 4, with a group of limit 0,
-// which is none.
-pub fn read_group(cells: &[u32; 11265], bytes: &[u8]) -> Changed
-    ensures { λ r. ⌜ r ≡ groupRead (now (cells .entry)) (now (bytes .entry)) ⌝ }
-{
-    read_group_in(cells, bytes)
 }
 
 // For join kinds 4 to 9: the record of the side that is kept, as a part of the caller's own bytes, header and body and

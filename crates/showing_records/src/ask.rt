@@ -39,5 +39,5 @@ fn ended(cells: &[u32; 11265], done: Changed) {
 pub fn group(what: &[u8], cells: &[u32; 11265], given: &[u8]) {
     print::words(what);
     print::words(b": ");
-    ended(cells, records::read_group(cells, given));
+    ended(cells, group_records::read_group(cells, given));
 }
