@@ -15,6 +15,7 @@ use Rattle.classes.specs.Layout.{encode, padded, fresh}
 use Rattle.classes.specs.declared.Group.{Group}
 use Rattle.classes.specs.declared.Changed.{Changed}
 use Rattle.classes.proofs.Places.{length-flat}
+pub use Rattle.records.proofs.Choices.{group-whole}
 use Rattle.records.specs.Fields.{field}
 use Rattle.records.specs.Record.{isWhole, bodyOf}
 use Rattle.records.specs.Chosen.{isGroupRecord}
@@ -142,8 +143,3 @@ module _ (cells bytes : List ℕ) where
       at : (o : Option (List Given)) → isGiven o ≡ false → noGroup 9 ≡ groupOf cells o
       at none e = refl
       at (some gs) e = absurd (true-not-false refl e)
-
--- a group record is whole
-pub group-whole : (bytes : List ℕ) → isGroupRecord bytes ≡ true → isWhole bytes ≡ true
-unfolding isGroupRecord
-group-whole bytes p = and-left (isWhole bytes) (eqb (field bytes 2) 16) p

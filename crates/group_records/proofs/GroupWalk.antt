@@ -15,6 +15,7 @@ use Rattle.laws.proofs.Booleans.{and-left, and-right}
 use Rattle.laws.proofs.Table.{length-table, getD-table, table-cong}
 use Rattle.arena.specs.Node.{Node, nodeAt}
 use Rattle.classes.specs.Layout.{knownFlavour, isLiteral}
+pub use Rattle.records.proofs.Items.{length-fields}
 use Rattle.records.specs.Fields.{field, wideField, fields}
 use Rattle.group_records.specs.GroupRecord.{Given, givenAt, givenSize, withGiven, classesGiven, bodyGiven, givenIn}
 use Rattle.group_records.specs.Inner.{givenOf, Shaped, Before}
@@ -37,10 +38,6 @@ unfolding fields
 fields-drop at k n body =
     table-cong (λ i. field (drop at body) (k + 2 * i)) (λ i. field body (at + k + 2 * i)) n
     (λ i l. let e : at + (k + 2 * i) ≡ at + k + 2 * i = omega arith in field-drop at (k + 2 * i) body ∙ ap (field body) e)
-
-pub length-fields : (body : List ℕ) (at n : ℕ) → length (fields body at n) ≡ n
-unfolding fields
-length-fields body at n = length-table (λ k. field body (at + 2 * k)) n
 
 -- an answer that is there is no missing one
 some-none : {A : Type 0} {x : A} → _≡_ {A = Option A} none (some x) → ⊥
