@@ -1,6 +1,6 @@
 -- The answers: orderings against their bounds and the output, lists as they lie in their struct, what was gathered, and the checks of what is given.
 use Prim.Native.Nat.{ℕ, zero, suc, _+_, _-_, _*_, _<_, _≤_, _%_}
-use mathlib.Core.Bool.{Bool, true, false, _&&_, _||_}
+use mathlib.Core.Bool.{Bool, true, false, _||_}
 use mathlib.Core.List.{List, [], _∷_, _++_, append-nil}
 use mathlib.Core.Option.{none, some}
 use mathlib.Core.Path.{_≡_, refl, sym, ap, ap₂, _∙_, subst}
@@ -23,14 +23,14 @@ use Rattle.orderings.specs.Layout.{row, keysOf}
 use Rattle.orderings.specs.Inner.{ShortOrdering, allShort}
 use Rattle.orderings.proofs.Codec.{keys-row}
 use Rattle.orderings.proofs.Extending.{row-short}
-use Rattle.dependencies.specs.Map.{Dependent, placeOf, entryAt}
+use Rattle.dependencies.specs.Map.{Dependent, placeOf}
 use Rattle.dependencies.specs.Layout.{decode}
 use Rattle.dependencies.specs.Calls.{mapNumber}
 use Rattle.dependencies.specs.Inner.{Held}
 use Rattle.dependencies.specs.declared.DependencyMap.{DependencyMap}
 use Rattle.dependencies.proofs.MapChecks.{number-lawful, number-arena}
 use Rattle.dependencies.proofs.MapCodec.{Sized, held-lawful}
-use Rattle.enumeration.specs.Walk.{Walk, found, stopped, overStart, prefixOrderings}
+use Rattle.enumeration.specs.Walk.{Walk, found, stopped, prefixOrderings}
 use Rattle.enumeration.specs.Bounds.{fitting}
 use Rattle.enumeration.specs.Inner.{Rows, Came}
 use Rattle.enumeration.specs.declared.Found.{Found}
@@ -38,7 +38,7 @@ use Rattle.enumeration.proofs.Keeps.{fitting-few, fitting-short}
 use Rattle.enumeration.proofs.WalkLaws.{prefix-missing}
 use Rattle.products.proofs.BoundLaws.{Full, lists-full, prefix-bounds-follow}
 use Rattle.products.specs.Orders.{product}
-use Rattle.products.specs.Generate.{onceEach, Lists as Found-lists, lists, stops, withList, contributing, allOrders, generated}
+use Rattle.products.specs.Generate.{onceEach, lists, stops, contributing, allOrders, generated}
 use Rattle.products.specs.Inner.{joined, startOf, lengthOf, lengthsOf, listOf, listsOf, Laid, factorial, timesAll, choices, counted}
 use Rattle.products.specs.declared.Shape.{Shape}
 use Rattle.products.specs.declared.Lists.{Lists}

@@ -1,7 +1,7 @@
 -- What the inner functions ask and promise each other. The public contracts cite nothing of this file.
 use Prim.Native.Nat.{ℕ, _+_, _*_, _<_, _≤_, _/_}
-use mathlib.Core.Bool.{Bool, true, false, not, _&&_, _||_}
-use mathlib.Core.List.{List, [], _∷_, _++_}
+use mathlib.Core.Bool.{Bool, true, false, not, _||_}
+use mathlib.Core.List.{List, []}
 use mathlib.Core.Option.{some}
 use mathlib.Core.Path.{_≡_}
 use lib.Dec.{eqb, ltb, leb}

@@ -10,7 +10,7 @@ use enumeration::prefixes::prefixes_at;
 use products::Lists;
 use products::Shape;
 use products::choosing::start_of;
-ghost use mathlib.Core.List.{[], map};
+ghost use mathlib.Core.List.{map};
 ghost use mathlib.Core.Option.{some};
 ghost use mathlib.Core.Path.{_≡_};
 ghost use Prim.Native.Nat.{ℕ, _<_, _/_};

@@ -98,13 +98,13 @@ fn write_choice(out: &mut [u16], c: Choice) -> usize
 {
     let n = factorial(c.size);
     let mut at = 0;
-    let mut k = 0;
-    while k < n {
-        let next = ordering_at(c, k);
+    let mut number = 0;
+    while number < n {
+        let next = ordering_at(c, number);
         let o = next.ordering;
         write_ordering(&mut out[at..], o);
         at += 1 + 2 * o.size;
-        k += 1;
+        number += 1;
     }
     at
 }

@@ -8,7 +8,7 @@ use native.Mathlib.Omega.{arith}
 use lib.ListN.{length, getD, drop, drop-of-length-le}
 use lib.Seq.{drop-cons}
 use Rattle.dependencies.specs.Map.{Dependent, entryAt}
-use Rattle.dependencies.specs.Layout.{decode, placeIn, entryOf}
+use Rattle.dependencies.specs.Layout.{decode, placeIn}
 use Rattle.dependencies.specs.Inner.{Held}
 use Rattle.dependencies.specs.declared.DependencyNode.{DependencyNode}
 use Rattle.dependencies.specs.declared.DependencyMap.{DependencyMap}

@@ -1,16 +1,15 @@
 -- The definitions of specs/, tried on small maps by computing them.
 use Prim.Native.Nat.{ℕ}
 use mathlib.Core.List.{List, [], _∷_}
-use mathlib.Core.Option.{Option, none, some}
+use mathlib.Core.Option.{some}
 use mathlib.Core.Path.{_≡_, refl}
 use lib.ListN.{length}
 use Rattle.laws.specs.Tests.{first, firstFrom}
 use Rattle.orderings.specs.Ordering.{exprOf, hasExpr, pushed, extended}
-use Rattle.classes.specs.Group.{among}
-use Rattle.dependencies.specs.Map.{Dependent, placeOf, withDependency}
-use Rattle.enumeration.specs.Walk.{Walk, found, stopped, goOn, isSeen, overDependencies, atTarget, atEntry, atPlace, constructed, pairs, constructOrderings, overStart, prefixOrderings}
+use Rattle.dependencies.specs.Map.{Dependent, placeOf}
+use Rattle.enumeration.specs.Walk.{found, goOn, isSeen, overDependencies, atTarget, atEntry, atPlace, constructed, pairs, constructOrderings, overStart, prefixOrderings}
 use Rattle.products.specs.Orders.{passing, beginning, orders, beforeEach, product}
-use Rattle.products.specs.Generate.{onceEach, lists, withList, contributing, chained, inAllOrders, allOrders, generated}
+use Rattle.products.specs.Generate.{lists, withList, contributing, chained, inAllOrders, allOrders, generated}
 
 -- P13: a key with itself as target and only dependency gives no ordering
 abbrev itself : List Dependent

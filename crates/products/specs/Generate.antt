@@ -1,7 +1,7 @@
 -- The orderings of several dependencies: the prefix orderings of each that has some, one of each in all ways, and each such choice in all orders.
 use Prim.Native.Nat.{ℕ}
 use mathlib.Core.List.{List, [], _∷_, _++_, map}
-use mathlib.Core.Option.{Option, none, some}
+use mathlib.Core.Option.{none, some}
 use lib.ListN.{length, getD}
 use Rattle.orderings.specs.Ordering.{extended}
 use Rattle.dependencies.specs.Map.{Dependent, withDependency}

@@ -1,6 +1,6 @@
 -- What the inner functions ask and promise each other, here and in the crates above. The public contracts cite nothing of this file.
 use Prim.Native.Nat.{ℕ, zero, suc, _+_, _-_, _*_, _<_, _≤_}
-use mathlib.Core.Bool.{Bool, true, false}
+use mathlib.Core.Bool.{true, false}
 use mathlib.Core.List.{List, [], _∷_, _++_, map}
 use mathlib.Core.Path.{_≡_}
 use lib.Dec.{leb}
@@ -9,7 +9,6 @@ use Rattle.laws.specs.Lists.{table}
 use Rattle.laws.specs.Tests.{if_then_else_}
 use Rattle.orderings.specs.Layout.{row, keysOf}
 use Rattle.orderings.specs.Inner.{ShortOrdering}
-use Rattle.orderings.specs.declared.Ordering.{Ordering}
 use Rattle.products.specs.declared.Shape.{Shape}
 use Rattle.products.specs.declared.Lists.{Lists}
 use Rattle.products.specs.declared.Choice.{Choice}

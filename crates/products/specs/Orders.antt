@@ -2,7 +2,6 @@
 use Prim.Native.Nat.{ℕ, zero, suc, _+_}
 use mathlib.Core.List.{List, [], _∷_, _++_, map}
 use lib.Dec.{ltb}
-use lib.ListN.{getD}
 use Rattle.laws.specs.Tests.{if_then_else_}
 
 -- a place of n as a place of one more, where place i is passed over

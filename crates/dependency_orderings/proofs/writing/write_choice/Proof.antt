@@ -33,21 +33,21 @@ mul-write-ordering c =
     let s = c .before .before .before .before .before .before in
     let o = c .before .before .before .loop in
     let os = inAllOrders (choiceOf (s .args .c)) in
-    omega (arith, s .good .0 .1, out-within os (s .args .out .now) (s .pre .1 .1) (drop (o .k) os) (o .out) (o .at) (o .inv .1))
+    omega (arith, s .good .0 .1, out-within os (s .args .out .now) (s .pre .1 .1) (drop (o .number) os) (o .out) (o .at) (o .inv .1))
 
 sub-write-ordering : tie.Need-sub-write-ordering Inv-loop μ-loop
 sub-write-ordering c =
     let s = c .before .before .before .before .before .before in
     let o = c .before .before .before .loop in
     let os = inAllOrders (choiceOf (s .args .c)) in
-    omega (arith, out-within os (s .args .out .now) (s .pre .1 .1) (drop (o .k) os) (o .out) (o .at) (o .inv .1), out-length os (s .args .out .now) (s .pre .1 .1) (drop (o .k) os) (o .out) (o .at) (o .inv .1))
+    omega (arith, out-within os (s .args .out .now) (s .pre .1 .1) (drop (o .number) os) (o .out) (o .at) (o .inv .1), out-length os (s .args .out .now) (s .pre .1 .1) (drop (o .number) os) (o .out) (o .at) (o .inv .1))
 
 part-write-ordering-start : tie.Need-part-write-ordering-start Inv-loop μ-loop
 part-write-ordering-start c =
     let s = c .before .before .before .before .before .before in
     let o = c .before .before .before .loop in
     let os = inAllOrders (choiceOf (s .args .c)) in
-    omega (arith, out-within os (s .args .out .now) (s .pre .1 .1) (drop (o .k) os) (o .out) (o .at) (o .inv .1), out-length os (s .args .out .now) (s .pre .1 .1) (drop (o .k) os) (o .out) (o .at) (o .inv .1))
+    omega (arith, out-within os (s .args .out .now) (s .pre .1 .1) (drop (o .number) os) (o .out) (o .at) (o .inv .1), out-length os (s .args .out .now) (s .pre .1 .1) (drop (o .number) os) (o .out) (o .at) (o .inv .1))
 
 part-write-ordering-end : tie.Need-part-write-ordering-end Inv-loop μ-loop
 part-write-ordering-end c = omega arith
@@ -57,36 +57,36 @@ write-ordering-requires c κs =
     let s = c .before .before .before .before .before .before .before in
     let o = c .before .before .before .before .loop in
     let w = c .before .before .ordering-at in
-    let b : o .k < factorial (s .args .c .size) = omega (arith, c .before .before .before .before .before .factorial .ensures, c .before .before .before .loop-test .taken) in
-    (order-short (s .args .c) (o .k) b (w .result) (w .ensures) (s .args .out .now) (s .pre .1 .1) (o .out) (o .at) (o .inv .1), order-room (s .args .c) (o .k) b (w .result) (w .ensures) (s .args .out .now) (s .pre .1 .1) (o .out) (o .at) (o .inv .1))
+    let b : o .number < factorial (s .args .c .size) = omega (arith, c .before .before .before .before .before .factorial .ensures, c .before .before .before .loop-test .taken) in
+    (order-short (s .args .c) (o .number) b (w .result) (w .ensures) (s .args .out .now) (s .pre .1 .1) (o .out) (o .at) (o .inv .1), order-room (s .args .c) (o .number) b (w .result) (w .ensures) (s .args .out .now) (s .pre .1 .1) (o .out) (o .at) (o .inv .1))
 
 mul-at : tie.Need-mul-at Inv-loop μ-loop
 mul-at c =
     let s = c .before .before .before .before .before .before .before .before .before .before .before in
     let o = c .before .before .before .before .before .before .before .before .loop in
     let w = c .before .before .before .before .before .before .ordering-at in
-    let b : o .k < factorial (s .args .c .size) = omega (arith, c .before .before .before .before .before .before .before .before .before .factorial .ensures, c .before .before .before .before .before .before .before .loop-test .taken) in
-    omega (arith, order-short (s .args .c) (o .k) b (w .result) (w .ensures) (s .args .out .now) (s .pre .1 .1) (o .out) (o .at) (o .inv .1) .short)
+    let b : o .number < factorial (s .args .c .size) = omega (arith, c .before .before .before .before .before .before .before .before .before .factorial .ensures, c .before .before .before .before .before .before .before .loop-test .taken) in
+    omega (arith, order-short (s .args .c) (o .number) b (w .result) (w .ensures) (s .args .out .now) (s .pre .1 .1) (o .out) (o .at) (o .inv .1) .short)
 
 add-at : tie.Need-add-at Inv-loop μ-loop
 add-at c =
     let s = c .before .before .before .before .before .before .before .before .before .before .before in
     let o = c .before .before .before .before .before .before .before .before .loop in
     let w = c .before .before .before .before .before .before .ordering-at in
-    let b : o .k < factorial (s .args .c .size) = omega (arith, c .before .before .before .before .before .before .before .before .before .factorial .ensures, c .before .before .before .before .before .before .before .loop-test .taken) in
-    omega (arith, order-short (s .args .c) (o .k) b (w .result) (w .ensures) (s .args .out .now) (s .pre .1 .1) (o .out) (o .at) (o .inv .1) .short)
+    let b : o .number < factorial (s .args .c .size) = omega (arith, c .before .before .before .before .before .before .before .before .before .factorial .ensures, c .before .before .before .before .before .before .before .loop-test .taken) in
+    omega (arith, order-short (s .args .c) (o .number) b (w .result) (w .ensures) (s .args .out .now) (s .pre .1 .1) (o .out) (o .at) (o .inv .1) .short)
 
 add-at-2 : tie.Need-add-at-2 Inv-loop μ-loop
 add-at-2 c =
     let s = c .before .before .before .before .before .before .before .before .before .before .before in
     let o = c .before .before .before .before .before .before .before .before .loop in
     let w = c .before .before .before .before .before .before .ordering-at in
-    let b : o .k < factorial (s .args .c .size) = omega (arith, c .before .before .before .before .before .before .before .before .before .factorial .ensures, c .before .before .before .before .before .before .before .loop-test .taken) in
+    let b : o .number < factorial (s .args .c .size) = omega (arith, c .before .before .before .before .before .before .before .before .before .factorial .ensures, c .before .before .before .before .before .before .before .loop-test .taken) in
     let os = inAllOrders (choiceOf (s .args .c)) in
-    omega (arith, order-short (s .args .c) (o .k) b (w .result) (w .ensures) (s .args .out .now) (s .pre .1 .1) (o .out) (o .at) (o .inv .1) .short, s .good .0 .1, out-within os (s .args .out .now) (s .pre .1 .1) (drop (o .k) os) (o .out) (o .at) (o .inv .1))
+    omega (arith, order-short (s .args .c) (o .number) b (w .result) (w .ensures) (s .args .out .now) (s .pre .1 .1) (o .out) (o .at) (o .inv .1) .short, s .good .0 .1, out-within os (s .args .out .now) (s .pre .1 .1) (drop (o .number) os) (o .out) (o .at) (o .inv .1))
 
-add-k : tie.Need-add-k Inv-loop μ-loop
-add-k c = omega (arith, c .before .before .before .before .before .before .before .loop-test .taken, c .before .before .before .before .before .before .before .before .before .factorial .ensures, factorial-few (c .before .before .before .before .before .before .before .before .before .before .before .args .c .size) (c .before .before .before .before .before .before .before .before .before .before .before .pre .0 .few))
+add-number : tie.Need-add-number Inv-loop μ-loop
+add-number c = omega (arith, c .before .before .before .before .before .before .before .loop-test .taken, c .before .before .before .before .before .before .before .before .before .factorial .ensures, factorial-few (c .before .before .before .before .before .before .before .before .before .before .before .args .c .size) (c .before .before .before .before .before .before .before .before .before .before .before .pre .0 .few))
 
 loop-less : tie.Need-loop-less Inv-loop μ-loop
 loop-less c = omega (arith, c .before .before .before .before .before .before .before .loop-test .taken)
@@ -96,23 +96,23 @@ loop-again c =
     let s = c .before .before .before .before .before .before .before .before .before .before .before in
     let o = c .before .before .before .before .before .before .before .before .loop in
     let w = c .before .before .before .before .before .before .ordering-at in
-    let b : o .k < factorial (s .args .c .size) = omega (arith, c .before .before .before .before .before .before .before .before .before .factorial .ensures, c .before .before .before .before .before .before .before .loop-test .taken) in
+    let b : o .number < factorial (s .args .c .size) = omega (arith, c .before .before .before .before .before .before .before .before .before .factorial .ensures, c .before .before .before .before .before .before .before .loop-test .taken) in
     let v = c .before .before .before .write-ordering in
-    (omega (arith, c .before .before .before .before .before .before .before .loop-test .taken), order-on (s .args .c) (o .k) b (w .result) (w .ensures) (s .args .out .now) (s .pre .1 .1) (o .out) (o .at) (o .inv .1) (v .last .0) (v .ensures))
+    (omega (arith, c .before .before .before .before .before .before .before .loop-test .taken), order-on (s .args .c) (o .number) b (w .result) (w .ensures) (s .args .out .now) (s .pre .1 .1) (o .out) (o .at) (o .inv .1) (v .last .0) (v .ensures))
 
 same-length : tie.Need-same-length Inv-loop μ-loop
 same-length c =
     let s = c .before .before .before .before in
     let o = c .before .loop in
     let os = inAllOrders (choiceOf (s .args .c)) in
-    out-length os (s .args .out .now) (s .pre .1 .1) (drop (o .k) os) (o .out) (o .at) (o .inv .1)
+    out-length os (s .args .out .now) (s .pre .1 .1) (drop (o .number) os) (o .out) (o .at) (o .inv .1)
 
 returns : tie.Need-returns Inv-loop μ-loop
 returns c =
     let s = c .before .before .before .before in
     let o = c .before .loop in
     let os = inAllOrders (choiceOf (s .args .c)) in
-    out-ends os (s .args .out .now) (s .pre .1 .1) (drop (o .k) os) (o .out) (o .at) (o .inv .1) (orders-done (s .args .c) (o .k) (omega (arith, c .before .before .factorial .ensures, c .loop-test .left)))
+    out-ends os (s .args .out .now) (s .pre .1 .1) (drop (o .number) os) (o .out) (o .at) (o .inv .1) (orders-done (s .args .c) (o .number) (omega (arith, c .before .before .factorial .ensures, c .loop-test .left)))
 
 pub write-choice-spec : {M : Type 1} → statement M
 write-choice-spec =
@@ -131,7 +131,7 @@ write-choice-spec =
     mul-at
     add-at
     add-at-2
-    add-k
+    add-number
     loop-less
     loop-again
     same-length

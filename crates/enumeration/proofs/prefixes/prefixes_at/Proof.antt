@@ -3,7 +3,7 @@ use Prim.Native.Nat.{_-_}
 use native.Mathlib.Omega.{arith}
 use borrow.Author.Needs.{needs}
 use lib.ListN.{getD}
-use Rattle.dependencies.proofs.MapChecks.{sized, noPlace}
+use Rattle.dependencies.proofs.MapChecks.{noPlace}
 use Rattle.enumeration.proofs.Turns.{node-is}
 use Rattle.enumeration.proofs.Walks.{node-short, Starts, starts-first, starts-next, starts-stop, starts-last}
 use Rattle.enumeration.proofs.prefixes.prefixes_at.Statement.{statement}

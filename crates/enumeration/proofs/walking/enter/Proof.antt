@@ -7,11 +7,6 @@ use Rattle.enumeration.proofs.Turns.{entered-there, entered-nowhere}
 use borrow.Author.Needs.{needs}
 use Rattle.enumeration.proofs.walking.enter.Statement.{statement}
 use Rattle.enumeration.proofs.walking.enter.Tie as tie
-use Rattle.enumeration.proofs.walking.enter.Reads as reads
-use Rattle.enumeration.proofs.walking.enter.Lts as lts
-use Rattle.dependencies.proofs.inserting.find_key.Reads as find-key-reads
-use Rattle.enumeration.proofs.walking.stop.Reads as stop-reads
-use Rattle.enumeration.proofs.walking.visit.Reads as visit-reads
 
 find-key-requires : tie.Need-find-key-requires
 find-key-requires c κs = c .pre .0 .map .few

@@ -3,9 +3,6 @@ use Rattle.enumeration.specs.Inner.{deeper}
 use borrow.Author.Needs.{needs}
 use Rattle.enumeration.proofs.walking.go_down.Statement.{statement}
 use Rattle.enumeration.proofs.walking.go_down.Tie as tie
-use Rattle.enumeration.proofs.walking.go_down.Reads as reads
-use Rattle.enumeration.proofs.walking.go_down.Lts as lts
-use Rattle.enumeration.proofs.walking.go_on.Reads as go-on-reads
 
 mul-t6 : tie.Need-mul-t6
 mul-t6 c = search needs

@@ -3,9 +3,6 @@ use Rattle.enumeration.proofs.Turns.{turned-is}
 use borrow.Author.Needs.{needs}
 use Rattle.enumeration.proofs.walking.go_on.Statement.{statement}
 use Rattle.enumeration.proofs.walking.go_on.Tie as tie
-use Rattle.enumeration.proofs.walking.go_on.Reads as reads
-use Rattle.enumeration.proofs.walking.go_on.Lts as lts
-use Rattle.orderings.proofs.making.nothing.Reads as nothing-reads
 
 nothing-requires : tie.Need-nothing-requires
 nothing-requires c κs = search needs

@@ -3,9 +3,6 @@ use Rattle.enumeration.proofs.Turns.{endedOf, turned-is}
 use borrow.Author.Needs.{needs}
 use Rattle.enumeration.proofs.walking.stop.Statement.{statement}
 use Rattle.enumeration.proofs.walking.stop.Tie as tie
-use Rattle.enumeration.proofs.walking.stop.Reads as reads
-use Rattle.enumeration.proofs.walking.stop.Lts as lts
-use Rattle.orderings.proofs.making.nothing.Reads as nothing-reads
 
 nothing-requires : tie.Need-nothing-requires
 nothing-requires c κs = search needs

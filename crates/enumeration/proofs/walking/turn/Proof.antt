@@ -8,12 +8,6 @@ use Rattle.enumeration.proofs.Turns.{frame-below, depth-few, top-framed
 use borrow.Author.Needs.{needs}
 use Rattle.enumeration.proofs.walking.turn.Statement.{statement}
 use Rattle.enumeration.proofs.walking.turn.Tie as tie
-use Rattle.enumeration.proofs.walking.turn.Reads as reads
-use Rattle.enumeration.proofs.walking.turn.Lts as lts
-use Rattle.enumeration.proofs.marking.mark.Reads as mark-reads
-use Rattle.enumeration.proofs.marking.next_open.Reads as next-open-reads
-use Rattle.enumeration.proofs.walking.enter.Reads as enter-reads
-use Rattle.enumeration.proofs.walking.go_on.Reads as go-on-reads
 
 sub-at : tie.Need-sub-at
 sub-at c = search needs

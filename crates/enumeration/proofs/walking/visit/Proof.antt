@@ -10,11 +10,6 @@ use Rattle.enumeration.proofs.Turns.{node-is, visited-bare, visited-lea
 use borrow.Author.Needs.{needs}
 use Rattle.enumeration.proofs.walking.visit.Statement.{statement}
 use Rattle.enumeration.proofs.walking.visit.Tie as tie
-use Rattle.enumeration.proofs.walking.visit.Reads as reads
-use Rattle.enumeration.proofs.walking.visit.Lts as lts
-use Rattle.enumeration.proofs.walking.go_down.Reads as go-down-reads
-use Rattle.enumeration.proofs.walking.stop.Reads as stop-reads
-use Rattle.enumeration.proofs.walking.way_up.Reads as way-up-reads
 
 mul-node : tie.Need-mul-node
 mul-node c = omega (arith, c .pre .1, c .pre .0 .0 .map .few)

@@ -11,10 +11,6 @@ use Rattle.enumeration.proofs.Turns.{node-is, frame-below, depth-few, C
 use borrow.Author.Needs.{needs}
 use Rattle.enumeration.proofs.walking.way_up.Statement.{statement}
 use Rattle.enumeration.proofs.walking.way_up.Tie as tie
-use Rattle.enumeration.proofs.walking.way_up.Reads as reads
-use Rattle.enumeration.proofs.walking.way_up.Lts as lts
-use Rattle.orderings.proofs.making.nothing.Reads as nothing-reads
-use Rattle.orderings.proofs.pushing.push.Reads as push-reads
 
 abbrev Inv-loop : tie.InvT-loop
 Inv-loop target m walk out₀ i₀ out i = Climbing m walk target i out

@@ -5,11 +5,6 @@ use Rattle.products.proofs.Choices.{Choosing, choices-drop, choosing-be
 use borrow.Author.Needs.{needs}
 use Rattle.products.proofs.choosing.choice_at.Statement.{statement}
 use Rattle.products.proofs.choosing.choice_at.Tie as tie
-use Rattle.products.proofs.choosing.choice_at.Reads as reads
-use Rattle.products.proofs.choosing.choice_at.Lts as lts
-use Rattle.orderings.proofs.making.nothing.Reads as nothing-reads
-use Rattle.products.proofs.choosing.choices_from.Reads as choices-from-reads
-use Rattle.products.proofs.choosing.start_of.Reads as start-of-reads
 
 abbrev Inv-loop : tie.InvT-loop
 Inv-loop number shape found n out₀ rest₀ j₀ out rest j = Choosing (record { shape = shape; found = found }) number j rest out

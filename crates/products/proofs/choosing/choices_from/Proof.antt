@@ -6,9 +6,6 @@ use Rattle.products.proofs.Choices.{choicesFrom, times-none, times-step
 use borrow.Author.Needs.{needs}
 use Rattle.products.proofs.choosing.choices_from.Statement.{statement}
 use Rattle.products.proofs.choosing.choices_from.Tie as tie
-use Rattle.products.proofs.choosing.choices_from.Reads as reads
-use Rattle.products.proofs.choosing.choices_from.Lts as lts
-use Rattle.products.proofs.choosing.length_of.Reads as length-of-reads
 
 abbrev Inv-loop : tie.InvT-loop
 Inv-loop s j total₀ i₀ total i = ((j ≤ i) × (i ≤ s .size)) × (total ≡ choicesFrom s i)

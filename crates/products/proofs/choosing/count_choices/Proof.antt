@@ -8,10 +8,6 @@ use Rattle.products.proofs.Choices.{choicesFrom, length-few, times-none
 use borrow.Author.Needs.{needs}
 use Rattle.products.proofs.choosing.count_choices.Statement.{statement}
 use Rattle.products.proofs.choosing.count_choices.Tie as tie
-use Rattle.products.proofs.choosing.count_choices.Reads as reads
-use Rattle.products.proofs.choosing.count_choices.Lts as lts
-use Rattle.products.proofs.choosing.length_of.Reads as length-of-reads
-use Rattle.products.proofs.ordering.factorial.Reads as factorial-reads
 
 abbrev Inv-loop : tie.InvT-loop
 Inv-loop s orders total₀ j₀ total j = ((j ≤ s .size) × (orders * total ≤ 1024)) × (total ≡ choicesFrom s j)

@@ -1,12 +1,8 @@
 -- `products::choosing::length_of` meets its contract.
 use native.Mathlib.Omega.{arith}
 use Rattle.products.proofs.Choices.{length-is}
-use borrow.Author.Needs.{needs}
 use Rattle.products.proofs.choosing.length_of.Statement.{statement}
 use Rattle.products.proofs.choosing.length_of.Tie as tie
-use Rattle.products.proofs.choosing.length_of.Reads as reads
-use Rattle.products.proofs.choosing.length_of.Lts as lts
-use Rattle.products.proofs.choosing.start_of.Reads as start-of-reads
 
 mul-result : tie.Need-mul-result
 mul-result c = omega (arith, c .pre .0 .few, c .pre .1)

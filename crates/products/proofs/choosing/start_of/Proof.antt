@@ -3,8 +3,6 @@ use Rattle.products.proofs.Choices.{start-first, start-later}
 use borrow.Author.Needs.{needs}
 use Rattle.products.proofs.choosing.start_of.Statement.{statement}
 use Rattle.products.proofs.choosing.start_of.Tie as tie
-use Rattle.products.proofs.choosing.start_of.Reads as reads
-use Rattle.products.proofs.choosing.start_of.Lts as lts
 
 returns : tie.Need-returns
 returns c = start-first (c .before .args .t1) (c .before .args .j) (c .if1 .taken)
