@@ -1,0 +1,4 @@
+-- Proofs of the functions that read and write states.
+pub mod Taken
+pub mod Stores
+pub mod Stored
