@@ -1,0 +1,2 @@
+-- Proofs of the functions that write answers.
+pub mod ChangedLaws

@@ -1,0 +1,17 @@
+use borrow.Author.Needs.{needs}
+use Rattle.answers.specs.Answers.{bit}
+use Rattle.answers.proofs.bit_of.Statement.{statement}
+use Rattle.answers.proofs.bit_of.Tie as tie
+use Rattle.answers.proofs.bit_of.Reads as reads
+use Rattle.answers.proofs.bit_of.Lts as lts
+
+returns : tie.Need-returns
+unfolding bit
+returns c = search needs
+
+returns-2 : tie.Need-returns-2
+unfolding bit
+returns-2 c = search needs
+
+pub bit-of-spec : {M : Type 1} → statement M
+bit-of-spec = tie.close (tie.spec returns returns-2)

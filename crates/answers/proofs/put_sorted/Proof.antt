@@ -1,0 +1,22 @@
+use borrow.Author.Needs.{needs}
+use borrow.Author.Tests.{eq-eqb, ne-eqb}
+use Rattle.answers.specs.Answers.{sortedIn}
+use Rattle.answers.proofs.put_sorted.Statement.{statement}
+use Rattle.answers.proofs.put_sorted.Tie as tie
+use Rattle.answers.proofs.put_sorted.Reads as reads
+use Rattle.answers.proofs.put_sorted.Lts as lts
+use Rattle.answers.proofs.put_one.Reads as put-one-reads
+
+returns : tie.Need-returns
+unfolding sortedIn
+returns c = rw (ne-eqb _ _ (c .if1 .taken))
+
+put-one-requires : tie.Need-put-one-requires
+put-one-requires c κs = search needs
+
+returns-2 : tie.Need-returns-2
+unfolding sortedIn
+returns-2 c = rw (eq-eqb _ _ (c .before .before .before .if1 .left), c .put-one .ensures)
+
+pub put-sorted-spec : {M : Type 1} → statement M
+put-sorted-spec = tie.close (tie.spec returns put-one-requires returns-2)

@@ -1,0 +1,2 @@
+-- What each answer of a call comes to in numbers.
+pub mod Answers
