@@ -19,7 +19,7 @@ pub fn find_class(g: Group, e: u32) -> Place
     let mut i = 0;
     while i < g.count {
         let size = g.sizes[i];
-        if among(members, start, size, e) {
+        if among(&members, start, size, e) {
             return Place::At(i);
         }
         start += size;
@@ -29,9 +29,9 @@ pub fn find_class(g: Group, e: u32) -> Place
 }
 
 // An expression is among n members from a place on.
-fn among(members: [u32; 256], start: usize, n: usize, e: u32) -> bool
+fn among(members: &[u32; 256], start: usize, n: usize, e: u32) -> bool
     requires { ⌜ start + n ≤ 256 ⌝ }
-    ensures { λ r. ⌜ r ≡ isAmong e (table (λ k. getD members (start + k) 0) n) ⌝ }
+    ensures { λ r. ⌜ r ≡ isAmong e (table (λ k. getD (now (members .entry)) (start + k) 0) n) ⌝ }
 {
     let mut k = 0;
     while k < n {

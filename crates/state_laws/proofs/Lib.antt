@@ -2,3 +2,4 @@
 pub mod GroupFit
 pub mod ListFit
 pub mod MapFit
+pub mod RoundTrips

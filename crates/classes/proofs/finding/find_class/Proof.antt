@@ -32,19 +32,19 @@ element-copy-out-size c = search needs
 
 among-requires : tie.Need-among-requires Inv-loop μ-loop
 among-requires c κs =
-    let s = c .before .before .before .before in
-    omega (arith, class-inside (s .args .t1) (s .pre) (c .before .before .loop .i))
+    let s = c .before .before .before .before .before in
+    omega (arith, class-inside (s .args .t1) (s .pre) (c .before .before .before .loop .i))
 
 returns : tie.Need-returns Inv-loop μ-loop
 returns c =
-    let s = c .before .before .before .before .before .before in
-    let l = c .before .before .before .before .loop in
+    let s = c .before .before .before .before .before .before .before in
+    let l = c .before .before .before .before .before .loop in
     ap placeOf (sym (l .inv .1 .1 ∙ first-hit (Holds (s .args .t1) (s .args .e)) (s .args .t1 .count) (l .i) (search needs) (part-holds (s .args .t1) (s .args .e) (l .i) (l .start) (c .before .among .result) (s .pre) (l .inv .1 .0) (c .before .among .ensures) ∙ c .if1 .taken)))
 
 add-start : tie.Need-add-start Inv-loop μ-loop
 add-start c =
-    let s = c .before .before .before .before .before .before in
-    omega (arith, class-inside (s .args .t1) (s .pre) (c .before .before .before .before .loop .i))
+    let s = c .before .before .before .before .before .before .before in
+    omega (arith, class-inside (s .args .t1) (s .pre) (c .before .before .before .before .before .loop .i))
 
 add-i : tie.Need-add-i Inv-loop μ-loop
 add-i c = search needs
@@ -54,8 +54,8 @@ loop-less c = search needs
 
 loop-again : tie.Need-loop-again Inv-loop μ-loop
 loop-again c =
-    let s = c .before .before .before .before .before .before in
-    let l = c .before .before .before .before .loop in
+    let s = c .before .before .before .before .before .before .before in
+    let l = c .before .before .before .before .before .loop in
     (search needs, (rw (l .inv .1 .0) (sym (sum-next (s .args .t1 .sizes) (l .i))), l .inv .1 .1 ∙ first-on (Holds (s .args .t1) (s .args .e)) (s .args .t1 .count) (l .i) (search needs) (part-holds (s .args .t1) (s .args .e) (l .i) (l .start) (c .before .among .result) (s .pre) (l .inv .1 .0) (c .before .among .ensures) ∙ c .if1 .left)))
 
 returns-2 : tie.Need-returns-2 Inv-loop μ-loop

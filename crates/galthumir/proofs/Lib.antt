@@ -1,0 +1,3 @@
+-- Proofs of the exported functions.
+pub mod Shapes
+pub mod Refused

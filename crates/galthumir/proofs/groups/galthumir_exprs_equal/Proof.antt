@@ -1,0 +1,24 @@
+use borrow.Author.Needs.{needs}
+use Rattle.galthumir.proofs.groups.galthumir_exprs_equal.Statement.{statement}
+use Rattle.galthumir.proofs.groups.galthumir_exprs_equal.Tie as tie
+use Rattle.galthumir.proofs.groups.galthumir_exprs_equal.Reads as reads
+use Rattle.galthumir.proofs.groups.galthumir_exprs_equal.Lts as lts
+use Rattle.answers.proofs.put_answer.Reads as put-answer-reads
+use Rattle.questions.proofs.exprs_equal.Reads as exprs-equal-reads
+use Rattle.states.proofs.groups.load_group.Reads as load-group-reads
+
+load-group-requires : tie.Need-load-group-requires
+load-group-requires c κs = search needs
+
+exprs-equal-requires : tie.Need-exprs-equal-requires
+exprs-equal-requires c κs = search needs
+
+put-answer-requires : tie.Need-put-answer-requires
+put-answer-requires c κs = search needs
+
+returns : tie.Need-returns
+returns c = rw (c .before .before .exprs-equal .ensures, c .before .before .before .load-group .ensures) at (c .put-answer .ensures)
+
+pub galthumir-exprs-equal-spec : {M : Type 1} → statement M
+galthumir-exprs-equal-spec =
+    tie.close (tie.spec load-group-requires exprs-equal-requires put-answer-requires returns)

@@ -1,0 +1,25 @@
+use borrow.Author.Needs.{needs}
+use Rattle.galthumir.proofs.groups.galthumir_is_expr_constant.Statement.{statement}
+use Rattle.galthumir.proofs.groups.galthumir_is_expr_constant.Tie as tie
+use Rattle.galthumir.proofs.groups.galthumir_is_expr_constant.Reads as reads
+use Rattle.galthumir.proofs.groups.galthumir_is_expr_constant.Lts as lts
+use Rattle.answers.proofs.put_constant.Reads as put-constant-reads
+use Rattle.questions.proofs.is_expr_constant.Reads as is-expr-constant-reads
+use Rattle.states.proofs.groups.load_group.Reads as load-group-reads
+
+load-group-requires : tie.Need-load-group-requires
+load-group-requires c κs = search needs
+
+is-expr-constant-requires : tie.Need-is-expr-constant-requires
+is-expr-constant-requires c κs = search needs
+
+put-constant-requires : tie.Need-put-constant-requires
+put-constant-requires c κs = search needs
+
+returns : tie.Need-returns
+returns c = rw (c .before .before .is-expr-constant .ensures, c .before .before .before .load-group .ensures) at (c .put-constant .ensures)
+
+pub galthumir-is-expr-constant-spec : {M : Type 1} → statement M
+galthumir-is-expr-constant-spec =
+    tie.close
+    (tie.spec load-group-requires is-expr-constant-requires put-constant-requires returns)

@@ -1,0 +1,25 @@
+use borrow.Author.Needs.{needs}
+use Rattle.galthumir.proofs.Shapes.{on-first}
+use Rattle.galthumir.proofs.groups.galthumir_project_expr.Statement.{statement}
+use Rattle.galthumir.proofs.groups.galthumir_project_expr.Tie as tie
+use Rattle.galthumir.proofs.groups.galthumir_project_expr.Reads as reads
+use Rattle.galthumir.proofs.groups.galthumir_project_expr.Lts as lts
+use Rattle.answers.proofs.put_projected.Reads as put-projected-reads
+use Rattle.projection.proofs.project_expr.Reads as project-expr-reads
+use Rattle.states.proofs.groups.load_group.Reads as load-group-reads
+
+load-group-requires : tie.Need-load-group-requires
+load-group-requires c κs = search needs
+
+project-expr-requires : tie.Need-project-expr-requires
+project-expr-requires c κs = search needs
+
+put-projected-requires : tie.Need-put-projected-requires
+put-projected-requires c κs = search needs
+
+returns : tie.Need-returns
+returns c = on-first _ _ _ _ _ (rw (c .before .before .before .load-group .ensures) at (c .before .before .project-expr .ensures)) (c .put-projected .ensures)
+
+pub galthumir-project-expr-spec : {M : Type 1} → statement M
+galthumir-project-expr-spec =
+    tie.close (tie.spec load-group-requires project-expr-requires put-projected-requires returns)

@@ -1,0 +1,20 @@
+use borrow.Author.Needs.{needs}
+use Rattle.galthumir.proofs.orders.galthumir_check_orderings.Statement.{statement}
+use Rattle.galthumir.proofs.orders.galthumir_check_orderings.Tie as tie
+use Rattle.galthumir.proofs.orders.galthumir_check_orderings.Reads as reads
+use Rattle.galthumir.proofs.orders.galthumir_check_orderings.Lts as lts
+use Rattle.orderings.proofs.check.Reads as check-reads
+use Rattle.states.proofs.orders.load_orderings.Reads as load-orderings-reads
+
+load-orderings-requires : tie.Need-load-orderings-requires
+load-orderings-requires c κs = search needs
+
+check-requires : tie.Need-check-requires
+check-requires c κs = search needs
+
+returns : tie.Need-returns
+returns c = rw (c .before .load-orderings .ensures) at (c .check .ensures)
+
+pub galthumir-check-orderings-spec : {M : Type 1} → statement M
+galthumir-check-orderings-spec =
+    tie.close (tie.spec load-orderings-requires check-requires returns)

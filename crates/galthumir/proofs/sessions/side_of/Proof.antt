@@ -1,0 +1,18 @@
+use borrow.Author.Needs.{needs}
+use borrow.Author.Tests.{lt-ltb, le-ltb}
+use Rattle.answers.specs.Answers.{side}
+use Rattle.galthumir.proofs.sessions.side_of.Statement.{statement}
+use Rattle.galthumir.proofs.sessions.side_of.Tie as tie
+use Rattle.galthumir.proofs.sessions.side_of.Reads as reads
+use Rattle.galthumir.proofs.sessions.side_of.Lts as lts
+
+returns : tie.Need-returns
+unfolding side
+returns c = rw (lt-ltb _ _ (c .if1 .taken))
+
+returns-2 : tie.Need-returns-2
+unfolding side
+returns-2 c = rw (le-ltb _ _ (c .if1 .left))
+
+pub side-of-spec : {M : Type 1} → statement M
+side-of-spec = tie.close (tie.spec returns returns-2)
