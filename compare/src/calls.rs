@@ -13,6 +13,9 @@ use crate::refusal::Refusal;
 use crate::showing::print_nodes;
 use crate::state::State;
 
+/// What stands between words.
+const BLANKS: [char; 6] = [' ', '\t', '\n', '\x0b', '\x0c', '\r'];
+
 #[derive(Default)]
 struct Calls {
     state: State,
@@ -37,7 +40,7 @@ impl Calls {
         let Ok(text) = str::from_utf8(without_comment(line)) else {
             return self.print_no_command(line);
         };
-        let words: Vec<&str> = text.split([' ', '\t']).filter(|word| !word.is_empty()).collect();
+        let words: Vec<&str> = text.split(BLANKS).filter(|word| !word.is_empty()).collect();
         match commands::parse(&words) {
             _ if words.is_empty() => {}
             Some(command) if self.state.has_room_for(&command) => self.take_or_refuse(command),

@@ -13,7 +13,7 @@ use crate::showing::NONE;
 
 const LONGEST_NAME: usize = 8;
 
-/// What stands for no expression.
+/// What stands for no expression in the library.
 const NO_EXPRESSION: usize = u32::MAX as usize;
 
 /// What a line asks for. Expressions are numbers of nodes; groups, mappings, lists of orderings and dependency maps are
@@ -211,9 +211,9 @@ fn lent_key(word: &str) -> Option<Key> {
     Some(Key { expression: number::<u16>(asked)?.into(), options: number::<u16>(options)?.into() })
 }
 
-/// A sort key, or none of `-`. The largest number as its expression stands for none, too, as in the library's header.
+/// A sort key, or none of `-`. The number that stands for none in the library can't be said.
 fn key_or_none(word: &str) -> Option<Option<Key>> {
-    if word == NONE { Some(None) } else { key(word).map(|key| (key.expression != NO_EXPRESSION).then_some(key)) }
+    if word == NONE { Some(None) } else { key(word).filter(|key| key.expression != NO_EXPRESSION).map(Some) }
 }
 
 /// Sort keys, `KEY,KEY,..`, or none of `-`.
