@@ -104,6 +104,7 @@ def many_orderings(dice, script):
     script.new_orderings(FIRST, lists[:cut])
     script.more_orderings(dice.pick(["oadd", "oadd", "oext"]), FIRST, lists[cut:])
     several(dice, 0, 3, lambda dice, script: ordering_steps.more(dice, script, FIRST), script)
+    several(dice, 0, 1, lambda dice, script: ordering_steps.add_offset(dice, script, FIRST), script)
     ask(dice, script, FIRST, 3)
 
 
@@ -114,6 +115,7 @@ def long_orderings(dice, script):
         keys = call_steps.inserted(dice, keys, dependency_steps.other_options(dice, dice.pick(keys)))
     short = [dice.pick(keys) for _ in range(dice.below(3))]
     give(dice, script, FIRST, call_steps.inserted(dice, [short], keys))
+    several(dice, 0, 1, lambda dice, script: ordering_steps.add_offset(dice, script, FIRST), script)
     script.call("oout", FIRST)
     cut = dice.between(1, len(keys) - 1)
     script.new_orderings(SECOND, [keys[:cut], keys[cut:][::-1]])
