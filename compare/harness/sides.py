@@ -17,6 +17,7 @@ RUST_PROGRAMS = ROOT / "target/compare/release"
 OUR_PROGRAMS = {
     "session": (ROOT / "target/bin/session", "rt check session"),
     "calls": (ROOT / "target/calls/calls", "tests/calls/build"),
+    "direct": (ROOT / "target/calls/direct", "tests/calls/build"),
 }
 TOO_LARGE = "too large\n"
 OUTSIDE_DOMAIN = "# outside the domain\n"
