@@ -1,0 +1,69 @@
+#include "lent.h"
+
+#include <stdio.h>
+#include <stdlib.h>
+#include <string.h>
+
+#include "galthumir.h"
+
+#define MOST_LENT 8
+#define ROOM (1 << 20)
+#define FILLING 0xa5
+
+struct copy {
+    const void *lent;
+    size_t size;
+    const unsigned char *bytes;
+};
+
+static struct copy copies[MOST_LENT];
+static size_t copies_count;
+static unsigned char room[ROOM];
+static size_t room_used;
+
+static void stop(const char *why)
+{
+    fprintf(stderr, "calls: %s\n", why);
+    exit(2);
+}
+
+void *lend(void *bytes, size_t size)
+{
+    if (copies_count == MOST_LENT || size > ROOM - room_used)
+        stop("more is lent to one call than there is room to copy");
+    unsigned char *copy = room + room_used;
+    memcpy(copy, bytes, size);
+    copies[copies_count++] = (struct copy){bytes, size, copy};
+    room_used += size;
+    return bytes;
+}
+
+void *lend_blank(void *bytes, size_t size)
+{
+    memset(bytes, FILLING, size);
+    return lend(bytes, size);
+}
+
+static bool all_as_before(void)
+{
+    for (size_t k = 0; k < copies_count; k++)
+        if (memcmp(copies[k].lent, copies[k].bytes, copies[k].size) != 0)
+            return false;
+    return true;
+}
+
+static void print_refusal(uint32_t refusal)
+{
+    printf("r %u\n", refusal);
+    if (!all_as_before())
+        printf("! changed\n");
+}
+
+bool done(uint32_t refusal)
+{
+    if (refusal != GALTHUMIR_DONE)
+        print_refusal(refusal);
+    copies_count = 0;
+    room_used = 0;
+    return refusal == GALTHUMIR_DONE;
+}

@@ -1,0 +1,23 @@
+/* What is lent to a call: a copy of each array is kept until the call has ended, so that a refusal which changes a byte is
+ * seen. */
+#ifndef LENT_H
+#define LENT_H
+
+#include <stdbool.h>
+#include <stddef.h>
+#include <stdint.h>
+
+/* Lends bytes to the next call: keeps a copy, and answers the bytes themselves. */
+void *lend(void *bytes, size_t size);
+
+/* Fills bytes that are to be written, so that nothing of an earlier answer is left, and lends them. */
+void *lend_blank(void *bytes, size_t size);
+
+#define LEND(array) lend((array), sizeof(array))
+#define LEND_BLANK(array) lend_blank((array), sizeof(array))
+
+/* Ends a call that returned this number: whether it was done. Else the refusal is printed, and `! changed` after it where
+ * a byte that was lent is another one now. */
+bool done(uint32_t refusal);
+
+#endif
