@@ -83,7 +83,20 @@ static void *lend_short_list(void)
     return lend(numbers, asked.list_count * sizeof numbers[0]);
 }
 
-/* ---- What is kept and printed after a call that was done ---- */
+/* ---- What is kept and printed after a call ---- */
+
+/* Ends a call that returned this number: whether it was done. Else the refusal is printed, and `! changed` after it where
+ * the call changed a byte nevertheless. */
+static bool done(uint32_t refusal)
+{
+    bool same = as_before();
+    if (refusal == GALTHUMIR_DONE)
+        return true;
+    printf("r %u\n", refusal);
+    if (!same)
+        printf("! changed\n");
+    return false;
+}
 
 /* From now on the first state that the line names is there. */
 static void make_first_name(void)

@@ -4,8 +4,6 @@
 #include <stdlib.h>
 #include <string.h>
 
-#include "galthumir.h"
-
 #define MOST_LENT 8
 #define ROOM (1 << 20)
 #define FILLING 0xa5
@@ -23,7 +21,7 @@ static size_t room_used;
 
 static void stop(const char *why)
 {
-    fprintf(stderr, "calls: %s\n", why);
+    fprintf(stderr, "%s\n", why);
     exit(2);
 }
 
@@ -44,26 +42,12 @@ void *lend_blank(void *bytes, size_t size)
     return lend(bytes, size);
 }
 
-static bool all_as_before(void)
+bool as_before(void)
 {
+    bool same = true;
     for (size_t k = 0; k < copies_count; k++)
-        if (memcmp(copies[k].lent, copies[k].bytes, copies[k].size) != 0)
-            return false;
-    return true;
-}
-
-static void print_refusal(uint32_t refusal)
-{
-    printf("r %u\n", refusal);
-    if (!all_as_before())
-        printf("! changed\n");
-}
-
-bool done(uint32_t refusal)
-{
-    if (refusal != GALTHUMIR_DONE)
-        print_refusal(refusal);
+        same = same && memcmp(copies[k].lent, copies[k].bytes, copies[k].size) == 0;
     copies_count = 0;
     room_used = 0;
-    return refusal == GALTHUMIR_DONE;
+    return same;
 }

@@ -5,7 +5,6 @@
 
 #include <stdbool.h>
 #include <stddef.h>
-#include <stdint.h>
 
 /* Lends bytes to the next call: keeps a copy, and answers the bytes themselves. */
 void *lend(void *bytes, size_t size);
@@ -16,8 +15,7 @@ void *lend_blank(void *bytes, size_t size);
 #define LEND(array) lend((array), sizeof(array))
 #define LEND_BLANK(array) lend_blank((array), sizeof(array))
 
-/* Ends a call that returned this number: whether it was done. Else the refusal is printed, and `! changed` after it where
- * a byte that was lent is another one now. */
-bool done(uint32_t refusal);
+/* Ends the call: whether every byte that was lent to it is as it was before. */
+bool as_before(void);
 
 #endif
