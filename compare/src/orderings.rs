@@ -2,10 +2,10 @@
 //! nodes that come of it, the bounds and the refusals.
 
 use std::collections::HashSet;
+use std::sync::Arc;
 
-use datafusion_physical_expr::LexOrdering;
-use datafusion_physical_expr::PhysicalSortExpr;
 use datafusion_physical_expr::equivalence::OrderingEquivalenceClass;
+use datafusion_physical_expr::{LexOrdering, PhysicalExpr, PhysicalSortExpr};
 
 use crate::arena::Arena;
 use crate::keys::{Key, refuse_odd_options, sort_keys};
@@ -76,13 +76,16 @@ pub fn shifted(
     orderings: &OrderingEquivalenceClass,
     offset: i64,
 ) -> Result<OrderingEquivalenceClass, Refusal> {
-    let exprs = orderings.iter().flat_map(|ordering| ordering.iter()).map(|key| &key.expr);
-    refuse_columns_outside(exprs, offset.into())?;
+    refuse_columns_outside(exprs(orderings), offset.into())?;
     let mut shifted = orderings.clone();
     shifted.add_offset(as_offset(offset)).expect("the bounds of a shift were tested");
-    let made = shifted.iter().flat_map(|ordering| ordering.iter()).map(|key| &key.expr);
-    arena.add_answers(made)?;
+    arena.add_answers(exprs(&shifted))?;
     Ok(shifted)
+}
+
+/// The expressions of all keys, in their order.
+fn exprs(orderings: &[LexOrdering]) -> impl Iterator<Item = &Arc<dyn PhysicalExpr>> {
+    orderings.iter().flat_map(|ordering| ordering.iter()).map(|key| &key.expr)
 }
 
 /// The lists of keys in the Rust's form. The options of all are judged before any expression.

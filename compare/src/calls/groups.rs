@@ -1,5 +1,7 @@
 //! The commands on groups: changes, questions, normal forms, lists of classes and joins.
 
+use datafusion_physical_expr::equivalence::class_parts::constant_of;
+
 use super::Calls;
 use crate::constants::{constant, flavour_and_value};
 use crate::group::Group;
@@ -10,8 +12,6 @@ use crate::refusal::Refusal;
 use crate::showing::{NONE, print_classes, print_orderings};
 use crate::sorting::normal_keys;
 use crate::state::State;
-
-use datafusion_physical_expr::equivalence::class_parts::constant_of;
 
 impl Calls {
     pub(super) fn open(&mut self, name: &str, limit: u32) -> Result<(), Refusal> {
