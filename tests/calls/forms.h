@@ -36,7 +36,7 @@ struct asked {
     size_t states_count;
     uint64_t numbers[MOST_SINGLE_NUMBERS]; /* those of h, n, z, k and t, in the order of the words */
     size_t numbers_count;
-    int64_t offset;               /* that of i */
+    int64_t offset;              /* that of i */
     uint32_t list[MOST_NUMBERS]; /* those of K and of the words at the end, in the form in which they are lent */
     size_t list_count;
 };

@@ -1,5 +1,5 @@
-/* What is lent to a call: a copy of each array is kept until the call has ended, so that a refusal which changes a byte is
- * seen. */
+/* What is lent to a call: a copy of each array is kept until the call has ended, so that a refusal which changes a byte
+ * is seen. */
 #ifndef LENT_H
 #define LENT_H
 
