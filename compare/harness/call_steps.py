@@ -1,6 +1,6 @@
 """Single calls on groups with chosen or chance contents, from which scripts are made."""
 
-from harness.commands import GROUPS, LARGEST_LIMIT
+from harness.commands import LARGEST_LIMIT, USUAL_NAMES
 from harness.steps import LABELS, VALUES
 
 KINDS = 10
@@ -9,7 +9,7 @@ ODD_FLAVOURS = [4, 5, 16, 256, 65535]
 
 
 def any_group(dice):
-    return dice.below(len(GROUPS))
+    return dice.below(USUAL_NAMES)
 
 
 def value_of(dice, known):

@@ -1,14 +1,10 @@
-"""Calls as commands. One list of commands is written in two forms: as text, a line a command, and as
-words of 32 bits, little-endian, a command being its number, the count of the words after it, and these words."""
+"""Calls as commands, each a line of text."""
 
-import struct
 from dataclasses import dataclass
 
-GROUPS = "ABC"
-MAPPINGS = "PQR"
-MAPS = "DEF"
 NONE = "-"
 LARGEST_LIMIT = 256
+USUAL_NAMES = 3
 
 
 @dataclass(frozen=True)
@@ -20,19 +16,12 @@ class Number:
     def text(self):
         return str(self.number)
 
-    def words(self):
-        return [self.number]
-
     def renumbered(self, new_number):
         return self
 
     def smaller(self):
         """A number has nothing to leave out."""
         return ()
-
-    @classmethod
-    def read(cls, word):
-        return cls(int(word))
 
 
 class Expression(Number):
@@ -43,44 +32,43 @@ class Expression(Number):
 
 
 class Name(Number):
-    """A state by its place: 0, 1 or 2, in the text a letter."""
+    """A state by its place: a letter for the first three, which are the usual ones, then a letter and digits."""
 
     letters = ""
 
     def text(self):
-        return self.letters[self.number]
-
-    @classmethod
-    def read(cls, word):
-        return cls(list(cls.letters).index(word))
+        if self.number < USUAL_NAMES:
+            return self.letters[self.number]
+        return f"{self.letters[0]}{self.number:0{7 if self.number % 2 else 1}}"
 
 
 class GroupName(Name):
     """A group."""
 
-    letters = GROUPS
+    letters = "ABC"
 
 
 class MappingName(Name):
     """A projection mapping."""
 
-    letters = MAPPINGS
+    letters = "PQR"
+
+
+class ListName(Name):
+    """A list of orderings."""
+
+    letters = "XYZ"
 
 
 class MapName(Name):
     """A dependency map."""
 
-    letters = MAPS
+    letters = "DEF"
 
 
 def joined(numbers):
     """Expressions as text, with commas between them."""
     return ",".join(map(str, numbers))
-
-
-def split(word):
-    """The expressions of such a text."""
-    return tuple(map(int, filter(None, word.split(","))))
 
 
 def each_left_out(items):
@@ -99,20 +87,12 @@ class ListedClass:
     def text(self):
         return f"{self.flavour}:{self.value}:{joined(self.members)}"
 
-    def words(self):
-        return [self.flavour, self.value, len(self.members), *self.members]
-
     def renumbered(self, new_number):
         return ListedClass(self.flavour, self.value, tuple(map(new_number, self.members)))
 
     def smaller(self):
         """The class without one of its members."""
         return (ListedClass(self.flavour, self.value, fewer) for fewer in each_left_out(self.members))
-
-    @staticmethod
-    def read(word):
-        flavour, value, members = word.split(":")
-        return ListedClass(int(flavour), int(value), split(members))
 
 
 @dataclass(frozen=True)
@@ -125,20 +105,12 @@ class Mapped:
     def text(self):
         return f"{self.source}={joined(self.targets)}"
 
-    def words(self):
-        return [self.source, len(self.targets), *self.targets]
-
     def renumbered(self, new_number):
         return Mapped(new_number(self.source), tuple(map(new_number, self.targets)))
 
     def smaller(self):
         """The source without one of its targets."""
         return (Mapped(self.source, fewer) for fewer in each_left_out(self.targets))
-
-    @staticmethod
-    def read(word):
-        source, targets = word.split("=")
-        return Mapped(int(source), split(targets))
 
 
 @dataclass(frozen=True)
@@ -151,19 +123,12 @@ class Pair:
     def text(self):
         return f"{self.left}={self.right}"
 
-    def words(self):
-        return [self.left, self.right]
-
     def renumbered(self, new_number):
         return Pair(new_number(self.left), new_number(self.right))
 
     def smaller(self):
         """A pair has nothing to leave out."""
         return ()
-
-    @staticmethod
-    def read(word):
-        return Pair(*map(int, word.split("=")))
 
 
 @dataclass(frozen=True)
@@ -175,25 +140,12 @@ class Keys:
     def text(self):
         return ",".join(f"{expression}:{options}" for expression, options in self.keys) or NONE
 
-    def words(self):
-        return [number for key in self.keys for number in key]
-
     def renumbered(self, new_number):
         return type(self)(tuple((new_number(expression), options) for expression, options in self.keys))
 
     def smaller(self):
         """Without one of the keys."""
         return map(type(self), each_left_out(self.keys))
-
-    @classmethod
-    def read(cls, word):
-        return cls(tuple(map(key_of, word.split(","))) if word != NONE else ())
-
-
-def key_of(word):
-    """The key of a text."""
-    expression, options = map(int, word.split(":"))
-    return expression, options
 
 
 class Key(Keys):
@@ -203,56 +155,46 @@ class Key(Keys):
         """A key has nothing to leave out."""
         return ()
 
-    @classmethod
-    def read(cls, word):
-        return cls((key_of(word),))
 
-
-class KeyIfGiven(Keys):
-    """One key or none; in words 1 and the key, or three times 0."""
-
-    def words(self):
-        return [1, *super().words()] if self.keys else [0, 0, 0]
-
-    @classmethod
-    def read(cls, word):
-        return cls((key_of(word),) if word != NONE else ())
-
-
-# The commands in the order of their numbers, from 1 on: their fields, and the field that may follow any number of
-# times.
+# The fields of the commands that have the same number of them each time.
 FORMS = {
-    "col": ([Number, Number], None),
-    "lit": ([Number], None),
-    "op": ([Number], Expression),
-    "arena": ([], None),
-    "group": ([GroupName, Number], None),
-    "new": ([GroupName], ListedClass),
-    "eq": ([GroupName, Expression, Expression], None),
-    "const": ([GroupName, Expression, Number, Number], None),
-    "clear": ([GroupName], None),
-    "isconst": ([GroupName, Expression], None),
-    "equal": ([GroupName, Expression, Expression], None),
-    "nf": ([GroupName, Expression], None),
-    "join": ([GroupName, GroupName, GroupName, Number, Number], Pair),
-    "show": ([GroupName], None),
-    "map": ([MappingName], Mapped),
-    "projexpr": ([GroupName, MappingName, Expression], None),
-    "projexprs": ([GroupName, MappingName], Expression),
-    "project": ([GroupName, GroupName, MappingName], None),
-    "dmap": ([MapName], None),
-    "dins": ([MapName, Key, KeyIfGiven, KeyIfGiven], None),
-    "dshow": ([MapName], None),
-    "dprefix": ([MapName, Key], None),
-    "dgen": ([MapName, Keys], None),
+    "reset": [],
+    "col": [Number, Number],
+    "lit": [Number],
+    "off": [Expression, Number],
+    "arena": [],
+    "group": [GroupName, Number],
+    "eq": [GroupName, Expression, Expression],
+    "const": [GroupName, Expression, Number, Number],
+    "clear": [GroupName],
+    "isconst": [GroupName, Expression],
+    "equal": [GroupName, Expression, Expression],
+    "class": [GroupName, Expression],
+    "nf": [GroupName, Expression],
+    "nfkey": [GroupName, Key],
+    "nfkeys": [GroupName, Keys],
+    "show": [GroupName],
+    "projexpr": [GroupName, MappingName, Expression],
+    "project": [GroupName, GroupName, MappingName],
+    "clearord": [ListName],
+    "oshow": [ListName],
+    "oout": [ListName],
+    "ojoin": [ListName, ListName, ListName],
+    "ooff": [ListName, Number],
+    "oopt": [ListName, Expression],
+    "opart": [ListName, Expression],
+    "dmap": [MapName],
+    "dins": [MapName, Key, Keys, Keys],
+    "dshow": [MapName],
+    "dprefix": [MapName, Key],
+    "dgen": [MapName, Keys],
 }
-NUMBERS = {name: number for number, name in enumerate(FORMS, 1)}
 NODES = ("col", "lit", "op")
 
 
 @dataclass(frozen=True)
 class Command:
-    """A command by its name, with its fields, and those that follow them."""
+    """A command by its name, with its fields, and those that follow them any number of times."""
 
     name: str
     fields: tuple
@@ -261,19 +203,20 @@ class Command:
     def text(self):
         return " ".join([self.name, *(field.text() for field in self.fields + self.rest)])
 
-    def words(self):
-        words = [word for field in self.fields + self.rest for word in field.words()]
-        return [NUMBERS[self.name], len(words), *words]
-
     def renumbered(self, new_number):
         """The command with a new number for each expression that it refers to."""
         fields, rest = ([field.renumbered(new_number) for field in part] for part in (self.fields, self.rest))
         return Command(self.name, tuple(fields), tuple(rest))
 
 
-def command(name, *numbers):
-    """A command without fields that follow."""
-    return Command(name, tuple(form(number) for form, number in zip(FORMS[name][0], numbers, strict=True)))
+def command(name, *given):
+    """A command without fields that follow. A number is given as it is, keys as a tuple of pairs."""
+    return Command(name, tuple(form(one) for form, one in zip(FORMS[name], given, strict=True)))
+
+
+def no_command(line):
+    """A line that is no command, kept as it is."""
+    return Command(line, ())
 
 
 def column(name, index):
@@ -295,8 +238,8 @@ def new(group, classes):
 
 
 def join(made, left, right, kind, left_size, pairs):
-    return Command("join", command("join", made, left, right, kind, left_size).fields,
-                   tuple(Pair(*pair) for pair in pairs))
+    fields = *map(GroupName, (made, left, right)), Number(kind), Number(left_size)
+    return Command("join", fields, tuple(Pair(*pair) for pair in pairs))
 
 
 def mapping(name, sources):
@@ -308,56 +251,19 @@ def project_expressions(group, mapping, expressions):
     return Command("projexprs", (GroupName(group), MappingName(mapping)), tuple(map(Expression, expressions)))
 
 
+def orderings(call, name, lists):
+    """One of the three calls that take lists of keys: onew, oadd, oext."""
+    return Command(call, (ListName(name),), tuple(Keys(tuple(keys)) for keys in lists))
+
+
 def insert(name, key, target, dependency):
     """A key is a pair; a target and a dependency are pairs or none."""
-    given = (KeyIfGiven((one,) if one else ()) for one in (target, dependency))
-    return Command("dins", (MapName(name), Key((key,)), *given))
-
-
-def prefixes(name, key):
-    return Command("dprefix", (MapName(name), Key((key,))))
-
-
-def generate(name, keys):
-    return Command("dgen", (MapName(name), Keys(tuple(keys))))
-
-
-def read(line):
-    """The command of a line of text, or none of an empty line."""
-    name, *words = line.split("#")[0].split() or [None]
-    if name is None:
-        return None
-    if name not in FORMS:
-        raise ValueError(f"{name} is no command")
-    first, following = FORMS[name]
-    if name == "group" and len(words) == 1:
-        words.append(str(LARGEST_LIMIT))
-    if len(words) < len(first) or (following is None and len(words) > len(first)):
-        raise ValueError(f"not the words of {name}")
-    fields = tuple(form.read(word) for form, word in zip(first, words))
-    return Command(name, fields, tuple(following.read(word) for word in words[len(first) :]))
+    return command("dins", name, (key,), *((one,) if one else () for one in (target, dependency)))
 
 
 def as_text(commands):
     """The commands as text."""
     return "".join(f"{one.text()}\n" for one in commands)
-
-
-def as_words(commands):
-    """The commands as words."""
-    words = [word for one in commands for word in one.words()]
-    return struct.pack(f"<{len(words)}I", *words)
-
-
-def words_of(text):
-    """A script of text in words. Raises ValueError where a line is no command."""
-    made = []
-    for number, line in enumerate(text.splitlines(), 1):
-        try:
-            made.append(as_words(filter(None, [read(line)])))
-        except (ValueError, struct.error) as wrong:
-            raise ValueError(f"line {number}: {wrong}") from None
-    return b"".join(made)
 
 
 def is_node(one):

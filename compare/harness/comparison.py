@@ -1,22 +1,11 @@
 """Runs inputs of chance through both sides, and stops at the first difference."""
 
-import argparse
 import itertools
 
 from harness.shrink import shrink
 from harness.sides import OurSide, RustSide
 
 AT_ONCE = 200
-
-
-def words(description):
-    """What the command line asks for."""
-    parser = argparse.ArgumentParser(description=description, formatter_class=argparse.RawDescriptionHelpFormatter)
-    parser.add_argument("count", type=int, metavar="N")
-    parser.add_argument("first", type=int, nargs="?", default=0, metavar="FIRST-SEED")
-    parser.add_argument("--tally", action="store_true")
-    parser.add_argument("--rust-alone", action="store_true")
-    return parser.parse_args()
 
 
 class Comparison:
@@ -29,10 +18,10 @@ class Comparison:
         self.tally = inputs.tally()
 
     def rust_answer(self, parts):
-        return self.rust.answer(self.inputs.for_rust(parts))
+        return self.rust.answer(self.inputs.bytes(parts))
 
     def our_answer(self, parts):
-        return self.ours.answer(self.inputs.for_ours(parts))
+        return self.ours.answer(self.inputs.bytes(parts))
 
     def differ(self, parts):
         """Whether the two sides answer otherwise. What is not compared makes no difference."""
@@ -44,7 +33,7 @@ class Comparison:
         made = [self.inputs.made(seed) for seed in seeds]
         answers = itertools.repeat(None)
         if self.ours:
-            answers = self.ours.answers([self.inputs.for_ours(parts) for _, parts in made])
+            answers = self.ours.answers([self.inputs.bytes(parts) for _, parts in made])
         for seed, (theme, parts), answer in zip(seeds, made, answers):
             expected = self.rust_answer(parts)
             reason = self.inputs.not_compared(expected)
@@ -73,7 +62,8 @@ class Comparison:
         left_out = self.tally.not_compared
         compared = sum(self.tally.themes.values()) - sum(left_out.values())
         reasons = ", ".join(f"{count} {reason}" for reason, count in sorted(left_out.items())) or "none"
-        print(f"{compared} {self.inputs.plural}, the same answers on both sides; not compared: {reasons}")
+        how = "the same answers on both sides" if self.ours else "the Rust alone"
+        print(f"{compared} {self.inputs.plural}, {how}; not compared: {reasons}", flush=True)
 
 
 def parting(expected, answer):
@@ -84,16 +74,14 @@ def parting(expected, answer):
     return "in the ends of lines"
 
 
-def compare(inputs, description):
-    """Does what the command line asks for, and answers the status to end with."""
-    asked = words(description)
-    comparison = Comparison(inputs, asked.rust_alone)
-    end = asked.first + asked.count
-    for start in range(asked.first, end, AT_ONCE):
-        if not comparison.run(range(start, min(start + AT_ONCE, end))):
-            return 1
-    if asked.tally:
+def compare(inputs, seeds, rust_alone, tally):
+    """Compares the inputs of these seeds and says how many they were, with a tally where it is asked for; says no
+    after showing the first difference."""
+    comparison = Comparison(inputs, rust_alone)
+    for start in range(0, len(seeds), AT_ONCE):
+        if not comparison.run(seeds[start : start + AT_ONCE]):
+            return False
+    if tally:
         comparison.tally.show(inputs.plural)
-    if comparison.ours:
-        comparison.show_end()
-    return 0
+    comparison.show_end()
+    return True

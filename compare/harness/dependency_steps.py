@@ -3,7 +3,7 @@ expression and options."""
 
 from harness import steps
 from harness.call_steps import distinct, inserted, shuffled
-from harness.commands import MAPS
+from harness.commands import USUAL_NAMES
 
 FIRST = 0
 ROW = 16
@@ -12,7 +12,7 @@ LARGE_EXPRESSIONS = [0x10000, 0x40000000, 0xFFFFFFFF]
 
 
 def any_map(dice):
-    return dice.below(len(MAPS))
+    return dice.below(USUAL_NAMES)
 
 
 def options(dice):

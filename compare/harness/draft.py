@@ -14,6 +14,9 @@ class Draft:
         self.dice = dice
         self.form = form
         self.parts = []
+        self.forget_nodes()
+
+    def forget_nodes(self):
         self.numbers = {}
         self.sizes = []
         self.grown = 0

@@ -1,15 +1,15 @@
-"""The sorts of inputs that are compared: sessions and scripts. Each is a list of parts."""
+"""The inputs that are compared: sessions and scripts. Each is a list of parts, and both sides get the same bytes."""
 
 from harness import commands, records
-from harness.generator import theme_and_dependency_script, theme_and_script, theme_and_session
+from harness.generator import sort_of, theme_and_script, theme_and_session
 from harness.sides import OUTSIDE_DOMAIN, TOO_LARGE
 from harness.tally import ScriptTally, SessionTally
 
 
 class Sessions:
-    """Sessions of records, the same bytes for both sides."""
+    """Sessions of records."""
 
-    one, plural, parts = "session", "sessions", "records"
+    one, plural, parts, ending = "session", "sessions", "records", ".bin"
     rust_program, our_program = "rust-session", "session"
     tally = SessionTally
     is_node, moved_down = staticmethod(records.is_node), staticmethod(records.moved_down)
@@ -19,14 +19,9 @@ class Sessions:
         theme, session = theme_and_session(seed)
         return theme, records.split(session)
 
-    def for_rust(self, parts):
+    def bytes(self, parts):
+        """What both sides are given."""
         return b"".join(parts)
-
-    def for_ours(self, parts):
-        return b"".join(parts)
-
-    # The files of an input, by their endings.
-    forms = {".bin": for_ours}
 
     def smaller(self, part):
         """Records are not made smaller."""
@@ -44,24 +39,24 @@ class Sessions:
 
 
 class Scripts(Sessions):
-    """Scripts of calls: text for the Rust's side, words for ours."""
+    """Scripts of calls: of one sort, or of all sorts in turn."""
 
-    one, plural, parts = "script", "scripts", "commands"
-    rust_program, our_program = "rust-calls", "group_calls"
+    one, plural, parts, ending = "script", "scripts", "commands", ".txt"
+    rust_program, our_program = "rust-calls", "calls"
     tally = ScriptTally
     is_node, moved_down = staticmethod(commands.is_node), staticmethod(commands.moved_down)
     smaller = staticmethod(commands.smaller)
 
+    def __init__(self, sort=None):
+        self.sort = sort
+
     def made(self, seed):
-        return theme_and_script(seed)
+        sort = self.sort or sort_of(seed)
+        theme, parts = theme_and_script(seed, sort)
+        return f"{sort}, {theme}", parts
 
-    def for_rust(self, parts):
+    def bytes(self, parts):
         return commands.as_text(parts).encode()
-
-    def for_ours(self, parts):
-        return commands.as_words(parts)
-
-    forms = {".txt": for_rust, ".words": for_ours}
 
     def not_compared(self, answer):
         return "outside the domain" if OUTSIDE_DOMAIN in answer else super().not_compared(answer)
@@ -70,8 +65,9 @@ class Scripts(Sessions):
         return commands.as_text(parts).splitlines()
 
 
-class DependencyScripts(Scripts):
-    """Scripts of dependencies, in the same two forms."""
+SESSIONS = "sessions"
 
-    def made(self, seed):
-        return theme_and_dependency_script(seed)
+
+def inputs_of(sort):
+    """The inputs of this sort, which may be sessions."""
+    return Sessions() if sort == SESSIONS else Scripts(sort)

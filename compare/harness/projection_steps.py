@@ -1,14 +1,14 @@
 """Single mappings and projections with chosen or chance contents, from which scripts are made."""
 
 from harness.call_steps import any_group, distinct, inserted, probe
-from harness.commands import MAPPINGS
+from harness.commands import USUAL_NAMES
 from harness.steps import LABELS
 
 MOST_SOURCES, MOST_TARGETS = 64, 8
 
 
 def any_mapping(dice):
-    return dice.below(len(MAPPINGS))
+    return dice.below(USUAL_NAMES)
 
 
 def outputs(script, count):

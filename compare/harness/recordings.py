@@ -1,11 +1,13 @@
 """The recorded sessions and scripts, and whether their answers are still the Rust's."""
 
+import re
 import runpy
 
 from harness.inputs import Scripts, Sessions
 from harness.sides import OUTSIDE_DOMAIN, ROOT, TOO_LARGE, RustSide
 
 GENERATED = "random-"
+HEADER = "# The script of seed {seed} of the sort '{sort}', theme '{theme}' (compare/generate). The answer is the Rust's.\n"
 
 
 def sessions():
@@ -25,6 +27,29 @@ def scripts():
 def worked_scripts():
     """The scripts that were not generated."""
     return (script for script in scripts() if not script[0].name.startswith(GENERATED))
+
+
+def generated_name(seed, sort):
+    """The name of a generated script."""
+    return f"{GENERATED}{sort}-{seed:05}"
+
+
+def generated_text(seed, sort):
+    """A generated script as it is recorded: a line that says how it was made, and its commands."""
+    inputs = Scripts(sort)
+    theme, parts = inputs.made(seed)
+    return HEADER.format(seed=seed, sort=sort, theme=theme_name(theme)) + inputs.bytes(parts).decode()
+
+
+def theme_name(theme):
+    """A theme without its sort, in words."""
+    return theme.split(", ")[1].replace("_", " ")
+
+
+def made_of(name):
+    """The seed and the sort of a generated script, by its name."""
+    sort, seed = re.fullmatch(rf"{GENERATED}(\w+)-(\d+)", name).groups()
+    return int(seed), sort
 
 
 def ending_for(said, ending):

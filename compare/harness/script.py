@@ -1,5 +1,7 @@
 """A script of calls while it is being made: commands one after the other."""
 
+from collections import defaultdict
+
 from harness import commands
 from harness.draft import Draft
 
@@ -7,18 +9,25 @@ LAST_INDEX = 65535
 
 
 class Script(Draft):
-    """Beside the nodes, a script knows about which expressions stand in each of the three groups: those that it
-    put there, whether or not they stayed. It also knows the sources and targets of the three mappings, and the keys
-    that were put into the three dependency maps."""
+    """Beside the nodes, a script knows about which expressions stand in each group: those that it put there, whether
+    or not they stayed. It also knows the sources and targets of each mapping, the orderings that were put into each
+    list, and the keys that were put into each dependency map."""
 
     most_beyond = 12
 
     def __init__(self, dice):
         super().__init__(dice, commands)
+        self.forget_states()
+
+    def forget_states(self):
         self.nodes = []
-        self.members = [[] for _ in commands.GROUPS]
-        self.mappings = [[] for _ in commands.MAPPINGS]
-        self.maps = [[] for _ in commands.MAPS]
+        self.members, self.mappings, self.lists, self.maps = (defaultdict(list) for _ in range(4))
+
+    def reset(self):
+        """Everything is empty again."""
+        self.call("reset")
+        self.forget_nodes()
+        self.forget_states()
 
     def node(self, node, size, part):
         number = super().node(node, size, part)
@@ -90,22 +99,60 @@ class Script(Draft):
             self.maps[name].append(key)
 
     def prefixes(self, name, key):
-        self.add(commands.prefixes(name, key))
+        self.call("dprefix", name, (key,))
 
     def generate(self, name, keys):
-        self.add(commands.generate(name, keys))
+        self.call("dgen", name, tuple(keys))
 
-    def show_all(self):
-        """The nodes, and all three groups."""
-        self.call("arena")
-        for group in range(len(commands.GROUPS)):
-            self.call("show", group)
+    def new_orderings(self, name, lists):
+        """Lists of keys, which are pairs of an expression and options."""
+        self.add(commands.orderings("onew", name, lists))
+        self.lists[name] = list(lists)
 
-    def show_maps(self):
-        """The nodes, and all three dependency maps."""
+    def more_orderings(self, call, name, lists):
+        """The same lists for a list that is there: oadd or oext."""
+        self.add(commands.orderings(call, name, lists))
+        self.lists[name] = self.lists[name] + list(lists)
+
+    def clear_orderings(self, name):
+        self.call("clearord", name)
+        self.lists[name] = []
+
+    def join_suffix(self, made, left, right):
+        self.call("ojoin", made, left, right)
+        ends = self.lists[right] or [[]]
+        self.lists[made] = [[*start, *end] for end in ends for start in self.lists[left]]
+
+    def add_offset(self, name, offset):
+        """The shifted keys that are known stay known; the others may be new nodes."""
+        self.call("ooff", name, offset)
+        moved = [[(self.known_shifted(one, offset), options) for one, options in keys] for keys in self.lists[name]]
+        self.lists[name] = [[key for key in keys if key[0] is not None] for keys in moved]
+        self.grown += sum(map(len, moved)) - sum(map(len, self.lists[name]))
+
+    def shift(self, expression, offset):
+        self.call("off", expression, offset)
+        self.grown += 1
+
+    def normal_key(self, group, key):
+        self.call("nfkey", group, (key,))
+        self.grown += 1
+
+    def normal_keys(self, group, keys):
+        self.call("nfkeys", group, tuple(keys))
+        self.grown += len(keys)
+
+    def show(self, *calls):
+        """The nodes, and by each of these calls the usual three states."""
         self.call("arena")
-        for name in range(len(commands.MAPS)):
-            self.call("dshow", name)
+        for call in calls:
+            for name in range(commands.USUAL_NAMES):
+                self.call(call, name)
+
+    def key(self, name):
+        """A key that likely stands in the list of orderings, or now and then some other."""
+        keys = [key for keys in self.lists[name] for key in keys]
+        return self.dice.pick(keys) if keys and self.dice.chance(0.75) else (self.some(), self.dice.below(4))
 
     def member(self, group):
         """The number of an expression that likely stands in the group, or now and then some other number."""

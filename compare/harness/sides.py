@@ -13,7 +13,12 @@ from pathlib import Path
 HERE = Path(__file__).resolve().parent.parent
 ROOT = HERE.parent
 RUST_PROGRAMS = ROOT / "target/compare/release"
-OUR_PROGRAMS = ROOT / "target/bin"
+# Our programs, and what makes them.
+OUR_PROGRAMS = {
+    "session": (ROOT / "target/bin/session", "rt check session"),
+    "calls": (ROOT / "target/calls/calls", "tests/calls/build"),
+    "direct": (ROOT / "target/calls/direct", "tests/calls/build"),
+}
 TOO_LARGE = "too large\n"
 OUTSIDE_DOMAIN = "# outside the domain\n"
 SECONDS = 60
@@ -46,7 +51,7 @@ class RustSide:
         length = self.process.stdout.read(4)
         if len(length) < 4:
             stop(f"The Rust's side ended on this input:\n{asked.hex()}")
-        return self.process.stdout.read(struct.unpack("<I", length)[0]).decode()
+        return self.process.stdout.read(struct.unpack("<I", length)[0]).decode(errors="replace")
 
 
 def toolchain():
@@ -64,9 +69,9 @@ def our_command(program):
     other = os.environ.get(f"GALTHUMIR_{program.upper()}")
     if other:
         return [other]
-    ours = OUR_PROGRAMS / program
+    ours, maker = OUR_PROGRAMS[program]
     if not ours.is_file():
-        stop(f"There is no {ours.relative_to(ROOT)}: `rt check {program}` makes it.")
+        stop(f"There is no {ours.relative_to(ROOT)}: `{maker}` makes it.")
     tools = toolchain()
     emulator = tools / "bin/qemu-x86_64"
     loader = [tools / "lib/ld-linux-x86-64.so.2", "--library-path", tools / "lib"]

@@ -7,7 +7,9 @@ from harness.commands import NONE
 
 GROUP_CALLS = ("group", "new", "eq", "const", "clear", "join", "show", "project")
 MAP_CALLS = ("dins", "dshow")
-ENUMERATIONS = ("dprefix", "dgen")
+ORDERING_CALLS = (
+    "dprefix", "dgen", "nfkeys", "onew", "oadd", "oext", "oshow", "oout", "ojoin", "ooff", "clearord",
+)
 
 
 class Tally:
@@ -95,11 +97,13 @@ class ScriptTally(Tally):
 
     def count_line(self, command, words):
         sort, *numbers = words
-        if sort == "r":
-            self.refusals[f"{numbers[0]} of {command.name}"] += 1
+        if sort == "!":
+            self.lines[sort] += 1
+        elif sort == "r":
+            self.refusals[f"{numbers[0]} of {command.name.split()[0]}"] += 1
         elif command.name in MAP_CALLS:
             self.count_map_line(command, numbers)
-        elif command.name in ENUMERATIONS:
+        elif command.name in ORDERING_CALLS:
             self.count_ordering_line(command, sort, numbers)
         elif sort == "g":
             self.lines[f"g, of {named(command)}"] += 1
@@ -111,7 +115,11 @@ class ScriptTally(Tally):
             for expression, answer in zip(asked_of(command), numbers):
                 self.lines[f"p, {projected(expression, answer)}, of {command.name}"] += 1
         else:
-            self.lines[f"{sort}, {numbers[0]}" if sort in "bckq" else sort] += 1
+            self.lines[f"{sort}, {numbers[0]}" if sort in "bckqv" else self.other(sort, numbers)] += 1
+
+    def other(self, sort, words):
+        """A line whose first word alone counts, or that there is nothing to say."""
+        return f"{sort}, none" if words[:1] == [NONE] else sort
 
     def count_map_line(self, command, words):
         """Takes in the line of a map, which has one number, or of one of its keys."""
@@ -124,7 +132,8 @@ class ScriptTally(Tally):
 
     def count_ordering_line(self, command, sort, words):
         """Takes in the line that counts orderings, or one of them."""
-        self.lines[f"{sort}, of {command.name}" if words[0] != "0" else f"o, none, of {command.name}"] += 1
+        empty = words in ([], ["0"])
+        self.lines[f"{sort}, none, of {command.name}" if empty else f"{sort}, of {command.name}"] += 1
         if sort == "o":
             self.count_sizes({f"orderings of {command.name}": words[0]})
         else:
@@ -152,7 +161,7 @@ def lines_of(name, lines):
     """How many of the lines, from the first on, answer a command of this name."""
     if name == "arena":
         return next((place for place, line in enumerate(lines) if not line.startswith("node")), len(lines))
-    if lines[0].startswith("r ") or name not in GROUP_CALLS + MAP_CALLS + ENUMERATIONS:
+    if lines[0].startswith(("r ", "! ")) or name not in GROUP_CALLS + MAP_CALLS + ORDERING_CALLS:
         return 1
     head = 1 if lines[0].startswith("b ") else 0
     return head + 1 + int(lines[head].split()[1])

@@ -77,6 +77,14 @@ impl Arena {
         self.or_as_before(|arena| arena.place_tree(answer))
     }
 
+    /// The same for the answers of one call, in their order.
+    pub fn add_answers<'a>(
+        &mut self,
+        answers: impl IntoIterator<Item = &'a Arc<dyn PhysicalExpr>>,
+    ) -> Result<(), Refusal> {
+        self.or_as_before(|arena| answers.into_iter().try_for_each(|answer| arena.place_tree(answer).map(|_| ())))
+    }
+
     /// Does a call, and forgets the nodes that it added where it is refused.
     pub fn or_as_before<T>(&mut self, call: impl FnOnce(&mut Self) -> Result<T, Refusal>) -> Result<T, Refusal> {
         let before = self.count();
@@ -127,14 +135,6 @@ impl Arena {
                 Arc::new(Operation::new(*label, children))
             }
         }
-    }
-}
-
-/// Whether the index of every column of the tree has 16 bits.
-pub fn columns_in_bounds(tree: &Arc<dyn PhysicalExpr>) -> bool {
-    match tree.downcast_ref::<Column>() {
-        Some(column) => u16::try_from(column.index()).is_ok(),
-        None => tree.children().into_iter().all(columns_in_bounds),
     }
 }
 

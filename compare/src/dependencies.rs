@@ -9,17 +9,17 @@ use datafusion_physical_expr::equivalence::properties::{
 use crate::arena::Arena;
 use crate::asking::asked;
 use crate::keys::{Key, refuse_odd_options, sort_key, sort_keys};
+use crate::orderings::MOST_KEYS;
 use crate::refusal::Refusal;
 
 /// The bounds of a map.
-const MOST_KEYS: usize = 64;
+const MOST_MAP_KEYS: usize = 64;
 const MOST_DEPENDENCIES: usize = 16;
 
 /// The bounds of an enumeration: of what is given, and of the answer.
 const MOST_GIVEN: usize = 16;
 const MOST_CONTRIBUTING: usize = 6;
 const MOST_ORDERINGS: usize = 1024;
-const MOST_KEYS_IN_ORDERING: usize = 16;
 
 /// What is inserted: a key, its target and what it depends on, if there are such.
 #[derive(Clone, Copy, Debug)]
@@ -45,7 +45,7 @@ pub fn inserted(arena: &Arena, map: &DependencyMap, insert: &Insert) -> Result<D
     let mut changed = copy_of(map);
     changed.insert(key, target, dependency);
     let fits = changed.values().all(|node| dependencies_of(node).len() <= MOST_DEPENDENCIES);
-    if fits && changed.len() <= MOST_KEYS { Ok(changed) } else { Err(Refusal::BeyondBound) }
+    if fits && changed.len() <= MOST_MAP_KEYS { Ok(changed) } else { Err(Refusal::BeyondBound) }
 }
 
 /// The orderings that lead to a key, or the first refusal that applies.
@@ -79,6 +79,6 @@ fn refuse_large_product(sizes: &[usize]) -> Result<(), Refusal> {
 
 /// The orderings, unless there are too many or one is too long.
 fn within_bounds(orderings: Vec<LexOrdering>) -> Result<Vec<LexOrdering>, Refusal> {
-    let short = orderings.iter().all(|ordering| ordering.len() <= MOST_KEYS_IN_ORDERING);
+    let short = orderings.iter().all(|ordering| ordering.len() <= MOST_KEYS);
     if short && orderings.len() <= MOST_ORDERINGS { Ok(orderings) } else { Err(Refusal::BeyondBound) }
 }

@@ -17,7 +17,7 @@ use crate::work;
 const STACK: usize = 1 << 29;
 
 /// The lines of an input.
-type Answer = fn(&[u8]) -> String;
+type Answer = fn(&[u8]) -> Vec<u8>;
 
 /// Does what the command line asks for.
 pub fn run(answer: Answer) -> io::Result<()> {
@@ -41,7 +41,7 @@ fn keep_silent_on_too_large() {
 }
 
 fn print_lines(answer: Answer, input: &[u8]) -> io::Result<()> {
-    io::stdout().write_all(lines(answer, input).as_bytes())
+    io::stdout().write_all(&lines(answer, input))
 }
 
 fn read_whole(input: &mut impl Read) -> io::Result<Vec<u8>> {
@@ -59,18 +59,18 @@ fn answer_stream(answer: Answer, input: &mut impl Read, output: &mut impl Write)
         input.read_exact(&mut bytes)?;
         let lines = lines(answer, &bytes);
         output.write_all(&(lines.len() as u32).to_le_bytes())?;
-        output.write_all(lines.as_bytes())?;
+        output.write_all(&lines)?;
         output.flush()?;
     }
     Ok(())
 }
 
 /// The lines of one input, or the one line that says it was given up.
-fn lines(answer: Answer, input: &[u8]) -> String {
+fn lines(answer: Answer, input: &[u8]) -> Vec<u8> {
     work::start();
     match panic::catch_unwind(|| answer(input)) {
         Ok(lines) => lines,
-        Err(reason) if reason.is::<work::TooLarge>() => "too large\n".to_string(),
+        Err(reason) if reason.is::<work::TooLarge>() => b"too large\n".to_vec(),
         Err(reason) => panic::resume_unwind(reason),
     }
 }

@@ -26,9 +26,9 @@ impl Default for Group {
 
 impl Group {
     /// An empty group with this member limit.
-    pub fn open(limit: usize) -> Result<Self, Refusal> {
-        match limit {
-            1..=MOST_MEMBERS => Ok(Group { limit, ..Group::default() }),
+    pub fn open(limit: u32) -> Result<Self, Refusal> {
+        match limit as usize {
+            limit @ 1..=MOST_MEMBERS => Ok(Group { limit, ..Group::default() }),
             _ => Err(Refusal::OutsideSet),
         }
     }

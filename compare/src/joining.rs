@@ -8,10 +8,11 @@ use datafusion_physical_expr::PhysicalExpr;
 use datafusion_physical_expr::equivalence::{EquivalenceClass, EquivalenceGroup};
 use datafusion_physical_expr::physical_expr::add_offset_to_expr;
 
-use crate::arena::{Arena, columns_in_bounds};
+use crate::arena::Arena;
 use crate::group::{Group, MOST_MEMBERS, refuse_too_large};
 use crate::lists::{Made, is_outside_domain};
 use crate::refusal::Refusal;
+use crate::shifting::refuse_columns_outside;
 
 /// A pair of expressions that a join holds equal.
 type OnPair = (Arc<dyn PhysicalExpr>, Arc<dyn PhysicalExpr>);
@@ -31,13 +32,13 @@ const JOIN_TYPES: [JoinType; 10] = [
 ];
 
 /// Why a shift never fails in the Rust's form.
-const NO_OVERFLOW: &str = "an index of 16 bits and a shift of 32 bits fit the Rust's indices";
+const TESTED: &str = "the bounds of a shift were tested";
 
 /// How two groups are to be joined; the pairs are numbers of expressions.
 #[derive(Debug)]
 pub struct JoinRule {
-    pub kind: usize,
-    pub left_size: u32,
+    pub kind: u32,
+    pub left_size: u64,
     pub pairs: Vec<(usize, usize)>,
 }
 
@@ -55,17 +56,14 @@ pub fn joined_group(arena: &mut Arena, left: &Group, right: &Group, rule: &JoinR
     let join = Join {
         left,
         right,
-        join_type: *JOIN_TYPES.get(rule.kind).ok_or(Refusal::OutsideSet)?,
-        left_size: rule.left_size as usize,
+        join_type: *JOIN_TYPES.get(rule.kind as usize).ok_or(Refusal::OutsideSet)?,
+        left_size: rule.left_size.try_into().expect("the Rust's sizes have 64 bits"),
         on: exprs_of_pairs(arena, &rule.pairs)?,
     };
+    refuse_columns_outside(join.to_shift(), rule.left_size.into())?;
     let list = join.list_reaching_new();
-    let shifted = join.shifted();
-    if !shifted.iter().all(columns_in_bounds) {
-        return Err(Refusal::ColumnOutside);
-    }
     arena.or_as_before(|arena| {
-        shifted.iter().try_for_each(|expr| arena.add_answer(expr).map(|_| ()))?;
+        arena.add_answers(&join.shifted())?;
         refuse_too_large(&list, MOST_MEMBERS)?;
         Ok(Made { group: join.group_after_each_pair()?, outside_domain: is_outside_domain(&list) })
     })
@@ -82,10 +80,30 @@ impl Join<'_> {
         matches!(self.join_type, Inner | Left | Full | Right)
     }
 
-    /// The right side's classes after the shift, in their order; none where the join doesn't shift.
+    /// The right side's classes that are shifted, in their order.
+    fn classes_to_shift(&self) -> &[EquivalenceClass] {
+        if self.shifts() { self.right } else { &[] }
+    }
+
+    /// The pairs whose right sides are shifted: those of Inner.
+    fn pairs_to_shift(&self) -> &[OnPair] {
+        if self.join_type == JoinType::Inner { &self.on } else { &[] }
+    }
+
+    /// All expressions to shift: the right side's classes, then the pairs' right sides.
+    fn to_shift(&self) -> impl Iterator<Item = &Arc<dyn PhysicalExpr>> {
+        let members = self.classes_to_shift().iter().flat_map(|class| class.iter());
+        members.chain(self.pairs_to_shift().iter().map(|(_, right)| right))
+    }
+
+    /// The shift as the Rust casts it. Where it isn't the same number, no column is shifted.
+    fn offset(&self) -> isize {
+        self.left_size as isize
+    }
+
+    /// The right side's classes after the shift.
     fn shifted_classes(&self) -> Vec<EquivalenceClass> {
-        let right: &[EquivalenceClass] = if self.shifts() { self.right } else { &[] };
-        right.iter().map(|class| class.try_with_offset(self.left_size as isize).expect(NO_OVERFLOW)).collect()
+        self.classes_to_shift().iter().map(|class| class.try_with_offset(self.offset()).expect(TESTED)).collect()
     }
 
     /// The list of classes that the Rust hands to `new`, or an empty one where it doesn't call it.
@@ -94,12 +112,10 @@ impl Join<'_> {
         left.iter().cloned().chain(self.shifted_classes()).collect()
     }
 
-    /// All expressions that are shifted: the right side's classes, then for Inner the pairs' right sides.
+    /// What comes of the expressions to shift, in the order in which the Rust shifts them.
     fn shifted(&self) -> Vec<Arc<dyn PhysicalExpr>> {
-        let on = if self.join_type == JoinType::Inner { &self.on[..] } else { &[] };
-        let sides = on
-            .iter()
-            .map(|(_, right)| add_offset_to_expr(Arc::clone(right), self.left_size as isize).expect(NO_OVERFLOW));
+        let pairs = self.pairs_to_shift().iter();
+        let sides = pairs.map(|(_, right)| add_offset_to_expr(Arc::clone(right), self.offset()).expect(TESTED));
         self.shifted_classes().into_iter().flatten().chain(sides).collect()
     }
 
@@ -114,6 +130,6 @@ impl Join<'_> {
 
     /// What the Rust makes of the two groups and the first `count` pairs.
     fn joined(&self, count: usize) -> EquivalenceGroup {
-        self.left.join(self.right, &self.join_type, self.left_size, &self.on[..count]).expect(NO_OVERFLOW)
+        self.left.join(self.right, &self.join_type, self.left_size, &self.on[..count]).expect(TESTED)
     }
 }

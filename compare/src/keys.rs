@@ -1,5 +1,7 @@
 //! Sort keys as numbers, an expression and its options, and in the Rust's form.
 
+use std::fmt::{Display, Formatter};
+
 use arrow::compute::SortOptions;
 use datafusion_physical_expr::PhysicalSortExpr;
 
@@ -13,6 +15,13 @@ const NULLS_FIRST: u32 = 2;
 pub struct Key {
     pub expression: usize,
     pub options: u32,
+}
+
+/// A key as `E:O`.
+impl Display for Key {
+    fn fmt(&self, f: &mut Formatter<'_>) -> std::fmt::Result {
+        write!(f, "{}:{}", self.expression, self.options)
+    }
 }
 
 /// The keys in the Rust's form. The options of all are judged before any expression.
@@ -33,9 +42,14 @@ pub fn sort_key(arena: &Arena, key: Key) -> Result<PhysicalSortExpr, Refusal> {
 
 /// The key as numbers; its expression is in the arena.
 pub fn key_of(arena: &Arena, key: &PhysicalSortExpr) -> Key {
-    let descending = if key.options.descending { DESCENDING } else { 0 };
-    let nulls_first = if key.options.nulls_first { NULLS_FIRST } else { 0 };
-    Key { expression: arena.number_of(&key.expr), options: descending + nulls_first }
+    Key { expression: arena.number_of(&key.expr), options: number_of_options(key.options) }
+}
+
+/// Options as a number.
+pub fn number_of_options(options: SortOptions) -> u32 {
+    let descending = if options.descending { DESCENDING } else { 0 };
+    let nulls_first = if options.nulls_first { NULLS_FIRST } else { 0 };
+    descending + nulls_first
 }
 
 /// Options in the Rust's form: 1 for descending plus 2 for nulls first.

@@ -56,7 +56,7 @@ pub fn projected_group(arena: &mut Arena, group: &Group, mapping: &[MappedSource
     let mapping = projection_mapping(arena, mapping)?;
     let projection = Projection { group, mapping: &mapping };
     arena.or_as_before(|arena| {
-        projection.made_exprs().iter().try_for_each(|expr| arena.add_answer(expr).map(|_| ()))?;
+        arena.add_answers(&projection.made_exprs())?;
         refuse_too_large(&projection.list_reaching_new(), MOST_MEMBERS)?;
         Group::of(group.project(&mapping))
     })

@@ -2,10 +2,10 @@
 
 use crate::arena::Node;
 use crate::keys::Key;
+use crate::orderings::MOST_KEYS;
 use crate::refusal::Refusal;
 
 const HEADER: usize = 4;
-const MOST_KEYS: usize = 16;
 
 /// What a record of a kind from 1 to 8 asks for. Expressions are numbers of nodes.
 #[derive(Debug)]

@@ -7,7 +7,7 @@ pub enum Refusal {
     Malformed = 9,
     /// A number is outside its set.
     OutsideSet = 12,
-    /// A list of classes or a mapping breaks a rule.
+    /// A list of classes, a mapping or an ordering breaks a rule.
     BrokenRule = 11,
     /// An expression number is not below the node count.
     UnknownExpression = 1,
@@ -23,6 +23,6 @@ pub enum Refusal {
     ArenaFull = 3,
     /// Members or classes exceed the limit.
     GroupFull = 4,
-    /// A list of orderings, a dependency map or an enumeration exceeds its bound.
+    /// An ordering, a list of orderings, a dependency map or an enumeration exceeds its bound.
     BeyondBound = 5,
 }

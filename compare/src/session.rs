@@ -6,13 +6,13 @@ use datafusion_physical_expr::equivalence::OrderingEquivalenceClass;
 use crate::arena::Arena;
 use crate::constants::constant;
 use crate::group::Group;
-use crate::keys::{Key, sort_keys};
+use crate::keys::Key;
 use crate::lines::Lines;
+use crate::orderings::added;
 use crate::records::{self, Record};
 use crate::refusal::Refusal;
 
 const MOST_BYTES: usize = 65_536;
-const MOST_ORDERINGS: usize = 32;
 
 #[derive(Default)]
 struct Session {
@@ -23,14 +23,14 @@ struct Session {
 }
 
 /// The lines that the session with this input prints.
-pub fn run(input: &[u8]) -> String {
+pub fn run(input: &[u8]) -> Vec<u8> {
     if input.len() > MOST_BYTES {
-        return "r 0 9\nend 0 0 0\n".to_string();
+        return b"r 0 9\nend 0 0 0\n".to_vec();
     }
     let mut session = Session::default();
     session.take_records(input);
     session.print_end();
-    session.lines.into_text()
+    session.lines.into_bytes()
 }
 
 impl Session {
@@ -59,7 +59,7 @@ impl Session {
             Record::Constant { expression, flavour, value } => self.add_constant(expression, flavour, value),
             Record::NormalForm(expression) => self.print_normal_form(expression),
             Record::Equality(left, right) => self.print_equality(left, right),
-            Record::Ordering(keys) => self.add_ordering(&keys),
+            Record::Ordering(keys) => self.add_ordering(keys),
         }
     }
 
@@ -85,12 +85,8 @@ impl Session {
         Ok(())
     }
 
-    fn add_ordering(&mut self, keys: &[Key]) -> Result<(), Refusal> {
-        let keys = sort_keys(&self.arena, keys)?;
-        if self.orderings.len() == MOST_ORDERINGS {
-            return Err(Refusal::BeyondBound);
-        }
-        self.orderings.add_orderings([keys]);
+    fn add_ordering(&mut self, keys: Vec<Key>) -> Result<(), Refusal> {
+        self.orderings = added(&self.arena, &self.orderings, &[keys])?;
         Ok(())
     }
 

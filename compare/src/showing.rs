@@ -1,9 +1,11 @@
 //! The lines that show nodes, groups, dependency maps and orderings.
 
+use std::ops::Deref;
+
+use datafusion_physical_expr::PhysicalSortExpr;
 use datafusion_physical_expr::equivalence::class_parts::constant_of;
 use datafusion_physical_expr::equivalence::properties::DependencyMap;
 use datafusion_physical_expr::equivalence::properties::dependency_parts::{dependencies_of, target_of};
-use datafusion_physical_expr::{LexOrdering, PhysicalSortExpr};
 
 use crate::arena::{Arena, Node};
 use crate::constants::flavour_and_value;
@@ -41,29 +43,23 @@ pub fn print_classes(arena: &Arena, group: &Group, lines: &mut Lines) {
 pub fn print_map(arena: &Arena, map: &DependencyMap, lines: &mut Lines) {
     lines.print(format_args!("d {}", map.len()));
     for (key, node) in map.iter() {
-        let target = target_of(node).map_or(NONE.to_string(), |target| key_text(arena, target));
-        let dependencies = dependencies_of(node).iter().map(|key| key_text(arena, key));
-        lines.print(format_args!("d {} -> {target} :{}", key_text(arena, key), after_blanks(dependencies)));
+        let target = or_none(target_of(node).map(|target| key_of(arena, target)));
+        let dependencies = dependencies_of(node).iter().map(|key| key_of(arena, key));
+        lines.print(format_args!("d {} -> {target} :{}", key_of(arena, key), after_blanks(dependencies)));
     }
 }
 
 /// A line for the orderings, then a line each.
-pub fn print_orderings(arena: &Arena, orderings: &[LexOrdering], lines: &mut Lines) {
+pub fn print_orderings(arena: &Arena, orderings: &[impl Deref<Target = [PhysicalSortExpr]>], lines: &mut Lines) {
     lines.print(format_args!("o {}", orderings.len()));
     for ordering in orderings {
-        lines.print(format_args!("k{}", after_blanks(ordering.iter().map(|key| key_text(arena, key)))));
+        lines.print(format_args!("k{}", after_blanks(ordering.iter().map(|key| key_of(arena, key)))));
     }
 }
 
-/// A key as `E:O`.
-fn key_text(arena: &Arena, key: &PhysicalSortExpr) -> String {
-    let key = key_of(arena, key);
-    format!("{}:{}", key.expression, key.options)
-}
-
-/// A number, or `-` where there is none.
-pub fn number_or_none(number: Option<usize>) -> String {
-    number.map_or(NONE.to_string(), |number| number.to_string())
+/// What there is, or `-` where there is nothing.
+pub fn or_none(what: Option<impl ToString>) -> String {
+    what.map_or(NONE.to_string(), |what| what.to_string())
 }
 
 /// The items, each after a blank.
