@@ -15,6 +15,9 @@
 //! Every call checks all that it is lent. Where it can't be done it answers a [`Refusal`], and nothing has changed then.
 //! A state is an array of numbers: `cells` gives it, `from_cells` takes it, [`layout`] says how it lies.
 //!
+//! Nothing is kept between two calls, so calls on different states may run at once. A call takes less than 1 MB of stack;
+//! the enumerations of a [`Map`] take the most.
+//!
 //! ```
 //! use galthumir::{Arena, Group};
 //!

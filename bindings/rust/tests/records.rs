@@ -50,7 +50,7 @@ fn each_kind_of_record_is_read() {
 #[test]
 fn a_group_record_is_read() {
     let (arena, [a, b, c]) = columns();
-    let record = bytes("1600 1000 0200 0300 07000000 0200 0000 0100 0000 00000000 0100 0200");
+    let record = bytes("1800 1000 0200 0300 07000000 0200 0000 0100 0000 00000000 0100 0200");
     let group = read_group(&arena, &record).unwrap();
     let classes = [constant(Constant::Known(7), &[a, b]), constant(Constant::None, &[c])];
     assert_eq!(group.classes(&arena).unwrap(), classes);
