@@ -12,7 +12,7 @@
 //! | [`Orderings`] | the orders that hold, as lists of sort keys |
 //! | [`Map`] | sort keys, what each one becomes, and what it depends on |
 //!
-//! Every call checks all that it is lent. Where it can't be done it answers a [`Refusal`], and nothing has changed then.
+//! Every call checks all that it is lent. Where it can't be done it answers a [`Refusal`], and nothing has changed.
 //! A state is an array of numbers: `cells` gives it, `from_cells` takes it, [`layout`] says how it lies.
 //!
 //! Nothing is kept between two calls, so calls on different states may run at once. A call takes less than 1 MB of stack;

@@ -2,7 +2,8 @@
 //!
 //! A function reads and writes only what it is lent, ends on every input, and keeps nothing. So one that is lent numbers
 //! and references to arrays alone is safe to call: a reference is never null, has the size that its type says, and
-//! `&mut` overlaps nothing. One that is lent a list as a pointer and a count is safe where the two are those of one slice.
+//! `&mut` overlaps nothing. One that is lent a list as a pointer and a count is safe where the two are those of one
+//! slice: also of an empty one, whose pointer isn't null.
 
 use crate::layout::{ARENA_CELLS, GROUP_CELLS, MAP_CELLS, ORDERINGS_CELLS, ORDERING_CELLS};
 

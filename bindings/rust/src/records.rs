@@ -98,8 +98,8 @@ pub fn read_group(arena: &Arena, bytes: &[u8]) -> Result<Group, Refusal> {
     })
 }
 
-/// Of two group records the one that a join of kind LeftSemi to RightMark keeps, as a part of the caller's own bytes: its
-/// 4 header bytes and its body, nothing after. The body is not read. Refusals: 12, 9.
+/// Of two group records the one that a join of kind LeftSemi to RightMark keeps, as a part of the caller's own bytes:
+/// its 4 header bytes and its body, nothing after. The body is not read. Refusals: 12, 9.
 ///
 /// ```
 /// use galthumir::{chosen, JoinKind, Refusal};
