@@ -218,7 +218,7 @@ unsafe extern "C" {
         made: &mut [u32; GROUP_CELLS],
     ) -> u32;
     pub unsafe fn galthumir_chosen(
-        kind: u16,
+        kind: u32,
         left: *const u8,
         left_count: usize,
         right: *const u8,

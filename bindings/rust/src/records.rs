@@ -113,7 +113,7 @@ pub fn read_group(arena: &Arena, bytes: &[u8]) -> Result<Group, Refusal> {
 /// ```
 pub fn chosen<'a>(kind: JoinKind, left: &'a [u8], right: &'a [u8]) -> Result<&'a [u8], Refusal> {
     let [side, size] = answered(|answer| {
-        let kind = kind as u16;
+        let kind = kind as u32;
         // SAFETY: each pointer and the count after it are those of one slice.
         unsafe { raw::galthumir_chosen(kind, left.as_ptr(), left.len(), right.as_ptr(), right.len(), answer) }
     })?;
