@@ -1,2 +1,2 @@
--- Proofs of the functions that write answers.
+-- Laws of the definitions in specs/.
 pub mod ChangedLaws

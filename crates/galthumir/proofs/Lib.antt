@@ -1,3 +1,2 @@
 -- Proofs of the exported functions.
 pub mod Shapes
-pub mod Refused

@@ -116,7 +116,8 @@ reduced-fits os f =
     encode-fits (reduced sameKey os .orderings) (omega (arith, cuts-fewer t, fits-few os f))
     (cuts-each sameKey (λ (o : List ℕ). length o ≤ 16) (λ o n h a b. omega (arith, length-take-le n o b)) t (fits-short os f))
 
-reduced-list-fits : (g : Orderings) (os : List (List ℕ)) → ListFitsIfDone (reducedList g os)
+-- a list that was made and reduced
+pub reduced-list-fits : (g : Orderings) (os : List (List ℕ)) → ListFitsIfDone (reducedList g os)
 unfolding reducedList
 reduced-list-fits g os = tested-fits (fits os) (reduced sameKey os .orderings) 5 g (λ z. omega arith) (reduced-fits os)
 
@@ -150,8 +151,9 @@ cons-short : (o : List ℕ) (os : List (List ℕ)) → length o ≤ 16 → AllSh
 cons-short o os b h zero l = b
 cons-short o os b h (suc i) l = h i (omega arith)
 
--- shifting keeps how many keys and orderings there are, but for keys that become one
+-- shifting keeps how many keys and orderings there are, but for keys that become the same
 module _ (to : ℕ → Option ℕ) (ns : List Node) where
+  -- as many keys
   keys-counted : (ks : List ℕ) (ms : List Node) (js : List ℕ) (ps : List Node) → shiftedKeys to ns ks ms ≡ placed js ps → length js ≡ length ks
   unfolding shiftedKeys
   keys-counted [] ms js ps e = let p : _≡_ {A = List ℕ} [] js = cc in ap (λ (l : List ℕ). length l) (sym p)
@@ -162,6 +164,7 @@ module _ (to : ℕ → Option ℕ) (ns : List Node) where
       let p : (b .answer * 4 + optionsOf k) ∷ c .answer ≡ js = cc t in
       ap (λ (l : List ℕ). length l) (sym p) ∙ ap suc (keys-counted ks (b .arena) (c .answer) (c .arena) (c .first))
 
+  -- as many orderings, none of which is longer
   lists-fit : (os : List (List ℕ)) → AllShort os → (ms : List Node) (qs : List (List ℕ)) (ps : List Node) → shiftedLists to ns os ms ≡ placed qs ps → (length qs ≡ length os) × AllShort qs
   unfolding shiftedLists
   lists-fit [] h ms qs ps e =
@@ -184,10 +187,12 @@ passed-first false b e = absurd (omega arith)
 
 -- a list that passes the check has at most 32 orderings of at most 16 keys
 module _ (cells : List ℕ) (g : Orderings) (z : listNumber cells g ≡ 0) where
+  -- it is lawful
   passed-lawful : lawfulList g ≡ true
   unfolding listNumber
   passed-lawful = and-right (lawful cells) (lawfulList g) (passed-first (lawful cells && lawfulList g) (keysInside (count cells) g) z)
 
+  -- so none of its orderings has more than 16 keys
   passed-short : AllShort (decode g)
   unfolding decode
   passed-short i l =
@@ -246,6 +251,7 @@ sorting-fewer ns cs (k ∷ ks) = go (ordersNothing ns cs k) (sorting-fewer ns cs
 
 -- sorted keys fit, also where they are refused
 module _ (ks : List Key) (ns : List Node) (cs : List Class) where
+  -- after their normal forms were placed
   sorted-by-fits : (p : Placed (List ℕ)) → sortedBy ks ns cs p .0 .size < 65536
   unfolding sortedBy
   sorted-by-fits (placed es ms) = go (leb (length ks) 16) refl
@@ -258,6 +264,7 @@ module _ (ks : List Key) (ns : List Node) (cs : List Class) where
       go false e = sorted-size 5 [] (omega arith)
   sorted-by-fits full = sorted-size 3 [] (omega arith)
 
+  -- after their expressions were looked at
   sort-fits : normalizeSortExprs ks ns cs .0 .size < 65536
   unfolding normalizeSortExprs
   sort-fits = go (each (λ k. ltb (getD (exprsOf ks) k 0) (length ns)) (length ks))
@@ -266,6 +273,7 @@ module _ (ks : List Key) (ns : List Node) (cs : List Class) where
       go true = sorted-by-fits (normalForms ns cs (exprsOf ks))
       go false = sorted-size 1 [] (omega arith)
 
+-- on lent cells and a lent group
 pub sorted-fits : (numbers cells : List ℕ) (g : Group) → normalizedKeys numbers cells g .0 .size < 65536
 unfolding onChecked inCells
 sorted-fits numbers cells g = go (eqb (keysNumber numbers cells g) 0)

@@ -54,6 +54,7 @@ passed-fits cells m coded z = subst MapFits coded (good-fits (count cells) (deco
 
 -- an insert
 module _ (cells : List ℕ) (m : DependencyMap) (e options : ℕ) (target dependency : Given) where
+  -- the entries afterwards
   abbrev after : List Dependent
   after = inserted (decode m) (e * 4 + options) (keyOf target) (keyOf dependency)
 
@@ -70,6 +71,7 @@ module _ (cells : List ℕ) (m : DependencyMap) (e options : ℕ) (target depend
       go true false s z = absurd (omega arith)
       go false q s z = absurd (true-not-false (ap (λ (x : ℕ). eqb x 0) z) s)
 
+  -- so it fits
   pub insert-fits : MapFitsIfDone (insertAnswer cells m e options target dependency)
   insert-fits z =
       subst MapFits (sym (made z))

@@ -1,9 +1,8 @@
+-- `answers::bit_of` meets its contract.
 use borrow.Author.Needs.{needs}
 use Rattle.answers.specs.Answers.{bit}
 use Rattle.answers.proofs.bit_of.Statement.{statement}
 use Rattle.answers.proofs.bit_of.Tie as tie
-use Rattle.answers.proofs.bit_of.Reads as reads
-use Rattle.answers.proofs.bit_of.Lts as lts
 
 returns : tie.Need-returns
 unfolding bit

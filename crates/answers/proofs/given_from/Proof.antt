@@ -1,10 +1,8 @@
-use borrow.Author.Needs.{needs}
+-- `answers::given_from` meets its contract.
 use borrow.Author.Tests.{eq-eqb, ne-eqb}
 use Rattle.answers.specs.Answers.{givenFrom}
 use Rattle.answers.proofs.given_from.Statement.{statement}
 use Rattle.answers.proofs.given_from.Tie as tie
-use Rattle.answers.proofs.given_from.Reads as reads
-use Rattle.answers.proofs.given_from.Lts as lts
 
 returns : tie.Need-returns
 unfolding givenFrom

@@ -1,10 +1,8 @@
+-- `answers::put_added` meets its contract.
 use borrow.Author.Needs.{needs}
 use Rattle.answers.specs.Answers.{addedIn}
 use Rattle.answers.proofs.put_added.Statement.{statement}
 use Rattle.answers.proofs.put_added.Tie as tie
-use Rattle.answers.proofs.put_added.Reads as reads
-use Rattle.answers.proofs.put_added.Lts as lts
-use Rattle.answers.proofs.put_1.Reads as put-1-reads
 
 enum-known-added : tie.Need-enum-known-added
 enum-known-added c = search needs

@@ -1,10 +1,8 @@
+-- `answers::put_answer` meets its contract.
 use borrow.Author.Needs.{needs}
 use Rattle.answers.specs.Answers.{answerIn}
 use Rattle.answers.proofs.put_answer.Statement.{statement}
 use Rattle.answers.proofs.put_answer.Tie as tie
-use Rattle.answers.proofs.put_answer.Reads as reads
-use Rattle.answers.proofs.put_answer.Lts as lts
-use Rattle.answers.proofs.put_1.Reads as put-1-reads
 
 enum-told : tie.Need-enum-told
 enum-told c = search needs

@@ -1,12 +1,8 @@
+-- `answers::put_changed` meets its contract.
 use borrow.Author.Needs.{needs}
 use Rattle.answers.proofs.ChangedLaws.{changed-refused, changed-done}
 use Rattle.answers.proofs.put_changed.Statement.{statement}
 use Rattle.answers.proofs.put_changed.Tie as tie
-use Rattle.answers.proofs.put_changed.Reads as reads
-use Rattle.answers.proofs.put_changed.Lts as lts
-use Rattle.answers.proofs.bit_of.Reads as bit-of-reads
-use Rattle.answers.proofs.put_1.Reads as put-1-reads
-use Rattle.states.proofs.groups.store_group.Reads as store-group-reads
 
 store-group-requires : tie.Need-store-group-requires
 store-group-requires c κs = c .before .pre

@@ -1,10 +1,8 @@
+-- `answers::put_child` meets its contract.
 use borrow.Author.Needs.{needs}
 use Rattle.answers.specs.Answers.{childIn}
 use Rattle.answers.proofs.put_child.Statement.{statement}
 use Rattle.answers.proofs.put_child.Tie as tie
-use Rattle.answers.proofs.put_child.Reads as reads
-use Rattle.answers.proofs.put_child.Lts as lts
-use Rattle.answers.proofs.put_2.Reads as put-2-reads
 
 enum-known-child : tie.Need-enum-known-child
 enum-known-child c = search needs

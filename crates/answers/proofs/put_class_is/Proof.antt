@@ -1,11 +1,8 @@
+-- `answers::put_class_is` meets its contract.
 use borrow.Author.Needs.{needs}
 use Rattle.answers.specs.Answers.{classIn}
 use Rattle.answers.proofs.put_class_is.Statement.{statement}
 use Rattle.answers.proofs.put_class_is.Tie as tie
-use Rattle.answers.proofs.put_class_is.Reads as reads
-use Rattle.answers.proofs.put_class_is.Lts as lts
-use Rattle.answers.proofs.put_class.Reads as put-class-reads
-use Rattle.arena.proofs.cells.wide.Reads as wide-reads
 
 enum-known-is : tie.Need-enum-known-is
 enum-known-is c = search needs

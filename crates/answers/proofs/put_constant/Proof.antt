@@ -1,10 +1,8 @@
+-- `answers::put_constant` meets its contract.
 use borrow.Author.Needs.{needs}
 use Rattle.answers.specs.Answers.{constantIn}
 use Rattle.answers.proofs.put_constant.Statement.{statement}
 use Rattle.answers.proofs.put_constant.Tie as tie
-use Rattle.answers.proofs.put_constant.Reads as reads
-use Rattle.answers.proofs.put_constant.Lts as lts
-use Rattle.answers.proofs.put_2.Reads as put-2-reads
 
 enum-known-is : tie.Need-enum-known-is
 enum-known-is c = search needs

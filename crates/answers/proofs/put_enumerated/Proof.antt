@@ -1,11 +1,9 @@
+-- `answers::put_enumerated` meets its contract.
 use borrow.Author.Needs.{needs}
 use borrow.Author.Tests.{eq-eqb, ne-eqb}
 use Rattle.answers.specs.Answers.{enumeratedIn}
 use Rattle.answers.proofs.put_enumerated.Statement.{statement}
 use Rattle.answers.proofs.put_enumerated.Tie as tie
-use Rattle.answers.proofs.put_enumerated.Reads as reads
-use Rattle.answers.proofs.put_enumerated.Lts as lts
-use Rattle.answers.proofs.put_sizes.Reads as put-sizes-reads
 
 returns : tie.Need-returns
 unfolding enumeratedIn

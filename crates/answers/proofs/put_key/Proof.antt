@@ -1,10 +1,8 @@
+-- `answers::put_key` meets its contract.
 use borrow.Author.Needs.{needs}
 use Rattle.answers.specs.Answers.{keyIn}
 use Rattle.answers.proofs.put_key.Statement.{statement}
 use Rattle.answers.proofs.put_key.Tie as tie
-use Rattle.answers.proofs.put_key.Reads as reads
-use Rattle.answers.proofs.put_key.Lts as lts
-use Rattle.answers.proofs.put_2.Reads as put-2-reads
 
 enum-known-is : tie.Need-enum-known-is
 enum-known-is c = search needs

@@ -1,13 +1,11 @@
-use borrow.Author.Needs.{needs}
-use native.Mathlib.Omega.{arith}
+-- `answers::put_one` meets its contract.
 use mathlib.Core.Path.{sym, _∙_}
+use native.Mathlib.Omega.{arith}
+use borrow.Author.Needs.{needs}
 use lib.Seq.{take-all}
 use Rattle.states.specs.Orders.{orderingCells}
 use Rattle.answers.proofs.put_one.Statement.{statement}
 use Rattle.answers.proofs.put_one.Tie as tie
-use Rattle.answers.proofs.put_one.Reads as reads
-use Rattle.answers.proofs.put_one.Lts as lts
-use Rattle.states.proofs.orders.put_ordering.Reads as put-ordering-reads
 
 put-ordering-requires : tie.Need-put-ordering-requires
 put-ordering-requires c κs = search needs

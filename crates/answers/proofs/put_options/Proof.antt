@@ -1,10 +1,8 @@
+-- `answers::put_options` meets its contract.
 use borrow.Author.Needs.{needs}
 use Rattle.answers.specs.Answers.{optionsIn}
 use Rattle.answers.proofs.put_options.Statement.{statement}
 use Rattle.answers.proofs.put_options.Tie as tie
-use Rattle.answers.proofs.put_options.Reads as reads
-use Rattle.answers.proofs.put_options.Lts as lts
-use Rattle.answers.proofs.put_2.Reads as put-2-reads
 
 enum-known-are : tie.Need-enum-known-are
 enum-known-are c = search needs

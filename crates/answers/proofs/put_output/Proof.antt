@@ -1,12 +1,10 @@
+-- `answers::put_output` meets its contract.
 use borrow.Author.Needs.{needs}
 use borrow.Author.Tests.{eq-eqb, ne-eqb}
 use Rattle.states.specs.Orders.{orderingCells}
 use Rattle.answers.specs.Answers.{outputIn}
 use Rattle.answers.proofs.put_output.Statement.{statement}
 use Rattle.answers.proofs.put_output.Tie as tie
-use Rattle.answers.proofs.put_output.Reads as reads
-use Rattle.answers.proofs.put_output.Lts as lts
-use Rattle.answers.proofs.put_one.Reads as put-one-reads
 
 returns : tie.Need-returns
 unfolding outputIn

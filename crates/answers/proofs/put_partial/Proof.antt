@@ -1,10 +1,8 @@
+-- `answers::put_partial` meets its contract.
 use borrow.Author.Needs.{needs}
 use Rattle.answers.specs.Answers.{partialIn}
 use Rattle.answers.proofs.put_partial.Statement.{statement}
 use Rattle.answers.proofs.put_partial.Tie as tie
-use Rattle.answers.proofs.put_partial.Reads as reads
-use Rattle.answers.proofs.put_partial.Lts as lts
-use Rattle.answers.proofs.put_1.Reads as put-1-reads
 
 enum-told : tie.Need-enum-told
 enum-told c = search needs

@@ -1,10 +1,8 @@
+-- `answers::put_projected` meets its contract.
 use borrow.Author.Needs.{needs}
 use Rattle.answers.specs.Answers.{projectedIn}
 use Rattle.answers.proofs.put_projected.Statement.{statement}
 use Rattle.answers.proofs.put_projected.Tie as tie
-use Rattle.answers.proofs.put_projected.Reads as reads
-use Rattle.answers.proofs.put_projected.Lts as lts
-use Rattle.answers.proofs.put_2.Reads as put-2-reads
 
 enum-known-projected : tie.Need-enum-known-projected
 enum-known-projected c = search needs

@@ -1,10 +1,8 @@
+-- `answers::put_read` meets its contract.
 use borrow.Author.Needs.{needs}
 use Rattle.answers.specs.Answers.{readIn}
 use Rattle.answers.proofs.put_read.Statement.{statement}
 use Rattle.answers.proofs.put_read.Tie as tie
-use Rattle.answers.proofs.put_read.Reads as reads
-use Rattle.answers.proofs.put_read.Lts as lts
-use Rattle.answers.proofs.put_3.Reads as put-3-reads
 
 enum-known-read : tie.Need-enum-known-read
 enum-known-read c = search needs

@@ -1,12 +1,8 @@
+-- `answers::put_record` meets its contract.
 use borrow.Author.Needs.{needs}
 use Rattle.answers.specs.Answers.{itemIn}
 use Rattle.answers.proofs.put_record.Statement.{statement}
 use Rattle.answers.proofs.put_record.Tie as tie
-use Rattle.answers.proofs.put_record.Reads as reads
-use Rattle.answers.proofs.put_record.Lts as lts
-use Rattle.answers.proofs.put_item.Reads as put-item-reads
-use Rattle.arena.proofs.cells.wide.Reads as wide-reads
-use Rattle.states.proofs.numbers.widened.Reads as widened-reads
 
 enum-known-item : tie.Need-enum-known-item
 enum-known-item c = search needs

@@ -1,11 +1,9 @@
+-- `answers::put_sorted` meets its contract.
 use borrow.Author.Needs.{needs}
 use borrow.Author.Tests.{eq-eqb, ne-eqb}
 use Rattle.answers.specs.Answers.{sortedIn}
 use Rattle.answers.proofs.put_sorted.Statement.{statement}
 use Rattle.answers.proofs.put_sorted.Tie as tie
-use Rattle.answers.proofs.put_sorted.Reads as reads
-use Rattle.answers.proofs.put_sorted.Lts as lts
-use Rattle.answers.proofs.put_one.Reads as put-one-reads
 
 returns : tie.Need-returns
 unfolding sortedIn

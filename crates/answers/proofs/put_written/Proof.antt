@@ -1,10 +1,8 @@
+-- `answers::put_written` meets its contract.
 use borrow.Author.Needs.{needs}
 use Rattle.answers.specs.Answers.{writtenIn}
 use Rattle.answers.proofs.put_written.Statement.{statement}
 use Rattle.answers.proofs.put_written.Tie as tie
-use Rattle.answers.proofs.put_written.Reads as reads
-use Rattle.answers.proofs.put_written.Lts as lts
-use Rattle.answers.proofs.put_size.Reads as put-size-reads
 
 enum-known-written : tie.Need-enum-known-written
 enum-known-written c = search needs

@@ -1,11 +1,8 @@
+-- `galthumir::expressions::galthumir_add_column` meets its contract.
 use borrow.Author.Needs.{needs}
 use Rattle.galthumir.proofs.Shapes.{on-first}
 use Rattle.galthumir.proofs.expressions.galthumir_add_column.Statement.{statement}
 use Rattle.galthumir.proofs.expressions.galthumir_add_column.Tie as tie
-use Rattle.galthumir.proofs.expressions.galthumir_add_column.Reads as reads
-use Rattle.galthumir.proofs.expressions.galthumir_add_column.Lts as lts
-use Rattle.answers.proofs.put_added.Reads as put-added-reads
-use Rattle.arena.proofs.add_column.Reads as add-column-reads
 
 add-column-requires : tie.Need-add-column-requires
 add-column-requires c κs = search needs

@@ -1,11 +1,8 @@
+-- `galthumir::expressions::galthumir_add_literal` meets its contract.
 use borrow.Author.Needs.{needs}
 use Rattle.galthumir.proofs.Shapes.{on-first}
 use Rattle.galthumir.proofs.expressions.galthumir_add_literal.Statement.{statement}
 use Rattle.galthumir.proofs.expressions.galthumir_add_literal.Tie as tie
-use Rattle.galthumir.proofs.expressions.galthumir_add_literal.Reads as reads
-use Rattle.galthumir.proofs.expressions.galthumir_add_literal.Lts as lts
-use Rattle.answers.proofs.put_added.Reads as put-added-reads
-use Rattle.arena.proofs.add_literal.Reads as add-literal-reads
 
 add-literal-requires : tie.Need-add-literal-requires
 add-literal-requires c κs = search needs

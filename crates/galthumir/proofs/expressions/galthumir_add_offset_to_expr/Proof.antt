@@ -1,12 +1,9 @@
+-- `galthumir::expressions::galthumir_add_offset_to_expr` meets its contract.
 use borrow.Author.Needs.{needs}
 use mir.Facts.{toZ-ofZ}
 use Rattle.galthumir.proofs.Shapes.{on-first}
 use Rattle.galthumir.proofs.expressions.galthumir_add_offset_to_expr.Statement.{statement}
 use Rattle.galthumir.proofs.expressions.galthumir_add_offset_to_expr.Tie as tie
-use Rattle.galthumir.proofs.expressions.galthumir_add_offset_to_expr.Reads as reads
-use Rattle.galthumir.proofs.expressions.galthumir_add_offset_to_expr.Lts as lts
-use Rattle.answers.proofs.put_added.Reads as put-added-reads
-use Rattle.arena.proofs.add_offset_to_expr.Reads as add-offset-to-expr-reads
 
 add-offset-to-expr-requires : tie.Need-add-offset-to-expr-requires
 add-offset-to-expr-requires c κs = search needs

@@ -1,11 +1,8 @@
+-- `galthumir::expressions::galthumir_add_operation` meets its contract.
 use borrow.Author.Needs.{needs}
 use Rattle.galthumir.proofs.Shapes.{on-first}
 use Rattle.galthumir.proofs.expressions.galthumir_add_operation.Statement.{statement}
 use Rattle.galthumir.proofs.expressions.galthumir_add_operation.Tie as tie
-use Rattle.galthumir.proofs.expressions.galthumir_add_operation.Reads as reads
-use Rattle.galthumir.proofs.expressions.galthumir_add_operation.Lts as lts
-use Rattle.answers.proofs.put_added.Reads as put-added-reads
-use Rattle.arena.proofs.add_operation.Reads as add-operation-reads
 
 add-operation-requires : tie.Need-add-operation-requires
 add-operation-requires c κs = search needs

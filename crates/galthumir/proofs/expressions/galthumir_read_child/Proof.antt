@@ -1,10 +1,7 @@
+-- `galthumir::expressions::galthumir_read_child` meets its contract.
 use borrow.Author.Needs.{needs}
 use Rattle.galthumir.proofs.expressions.galthumir_read_child.Statement.{statement}
 use Rattle.galthumir.proofs.expressions.galthumir_read_child.Tie as tie
-use Rattle.galthumir.proofs.expressions.galthumir_read_child.Reads as reads
-use Rattle.galthumir.proofs.expressions.galthumir_read_child.Lts as lts
-use Rattle.answers.proofs.put_child.Reads as put-child-reads
-use Rattle.arena.proofs.read_child.Reads as read-child-reads
 
 read-child-requires : tie.Need-read-child-requires
 read-child-requires c κs = search needs

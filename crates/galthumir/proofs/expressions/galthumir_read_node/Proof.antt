@@ -1,10 +1,7 @@
+-- `galthumir::expressions::galthumir_read_node` meets its contract.
 use borrow.Author.Needs.{needs}
 use Rattle.galthumir.proofs.expressions.galthumir_read_node.Statement.{statement}
 use Rattle.galthumir.proofs.expressions.galthumir_read_node.Tie as tie
-use Rattle.galthumir.proofs.expressions.galthumir_read_node.Reads as reads
-use Rattle.galthumir.proofs.expressions.galthumir_read_node.Lts as lts
-use Rattle.answers.proofs.put_read.Reads as put-read-reads
-use Rattle.arena.proofs.read_node.Reads as read-node-reads
 
 read-node-requires : tie.Need-read-node-requires
 read-node-requires c κs = search needs

@@ -1,14 +1,10 @@
-use borrow.Author.Needs.{needs}
+-- `galthumir::groups::galthumir_add_constant` meets its contract.
 use mathlib.Core.Path.{sym, subst}
+use borrow.Author.Needs.{needs}
 use Rattle.states.specs.Inner.{FitsIfDone}
 use Rattle.state_laws.proofs.GroupFit.{constant-fits}
 use Rattle.galthumir.proofs.groups.galthumir_add_constant.Statement.{statement}
 use Rattle.galthumir.proofs.groups.galthumir_add_constant.Tie as tie
-use Rattle.galthumir.proofs.groups.galthumir_add_constant.Reads as reads
-use Rattle.galthumir.proofs.groups.galthumir_add_constant.Lts as lts
-use Rattle.conditions.proofs.add_constant.Reads as add-constant-reads
-use Rattle.states.proofs.groups.load_group.Reads as load-group-reads
-use Rattle.states.proofs.groups.store_group.Reads as store-group-reads
 
 load-group-requires : tie.Need-load-group-requires
 load-group-requires c κs = search needs

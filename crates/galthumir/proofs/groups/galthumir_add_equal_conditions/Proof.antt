@@ -1,14 +1,10 @@
-use borrow.Author.Needs.{needs}
+-- `galthumir::groups::galthumir_add_equal_conditions` meets its contract.
 use mathlib.Core.Path.{sym, subst}
+use borrow.Author.Needs.{needs}
 use Rattle.states.specs.Inner.{FitsIfDone}
 use Rattle.state_laws.proofs.GroupFit.{equal-fits}
 use Rattle.galthumir.proofs.groups.galthumir_add_equal_conditions.Statement.{statement}
 use Rattle.galthumir.proofs.groups.galthumir_add_equal_conditions.Tie as tie
-use Rattle.galthumir.proofs.groups.galthumir_add_equal_conditions.Reads as reads
-use Rattle.galthumir.proofs.groups.galthumir_add_equal_conditions.Lts as lts
-use Rattle.answers.proofs.put_changed.Reads as put-changed-reads
-use Rattle.conditions.proofs.add_equal_conditions.Reads as add-equal-conditions-reads
-use Rattle.states.proofs.groups.load_group.Reads as load-group-reads
 
 load-group-requires : tie.Need-load-group-requires
 load-group-requires c κs = search needs

@@ -1,10 +1,7 @@
+-- `galthumir::groups::galthumir_check_group` meets its contract.
 use borrow.Author.Needs.{needs}
 use Rattle.galthumir.proofs.groups.galthumir_check_group.Statement.{statement}
 use Rattle.galthumir.proofs.groups.galthumir_check_group.Tie as tie
-use Rattle.galthumir.proofs.groups.galthumir_check_group.Reads as reads
-use Rattle.galthumir.proofs.groups.galthumir_check_group.Lts as lts
-use Rattle.classes.proofs.check.Reads as check-reads
-use Rattle.states.proofs.groups.load_group.Reads as load-group-reads
 
 load-group-requires : tie.Need-load-group-requires
 load-group-requires c κs = search needs

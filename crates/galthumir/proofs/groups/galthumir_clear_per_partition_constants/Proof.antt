@@ -1,16 +1,10 @@
-use borrow.Author.Needs.{needs}
+-- `galthumir::groups::galthumir_clear_per_partition_constants` meets its contract.
 use mathlib.Core.Path.{sym, subst}
+use borrow.Author.Needs.{needs}
 use Rattle.states.specs.Inner.{FitsIfDone}
 use Rattle.state_laws.proofs.GroupFit.{clear-fits}
-use Rattle.galthumir.proofs.groups.galthumir_clear_per_partition_constants.Statement.{
-  statement,
-}
+use Rattle.galthumir.proofs.groups.galthumir_clear_per_partition_constants.Statement.{statement}
 use Rattle.galthumir.proofs.groups.galthumir_clear_per_partition_constants.Tie as tie
-use Rattle.galthumir.proofs.groups.galthumir_clear_per_partition_constants.Reads as reads
-use Rattle.galthumir.proofs.groups.galthumir_clear_per_partition_constants.Lts as lts
-use Rattle.answers.proofs.put_changed.Reads as put-changed-reads
-use Rattle.conditions.proofs.clear_per_partition_constants.Reads as clear-per-partition-constants-reads
-use Rattle.states.proofs.groups.load_group.Reads as load-group-reads
 
 load-group-requires : tie.Need-load-group-requires
 load-group-requires c κs = search needs

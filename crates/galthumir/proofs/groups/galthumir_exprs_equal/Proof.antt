@@ -1,11 +1,7 @@
+-- `galthumir::groups::galthumir_exprs_equal` meets its contract.
 use borrow.Author.Needs.{needs}
 use Rattle.galthumir.proofs.groups.galthumir_exprs_equal.Statement.{statement}
 use Rattle.galthumir.proofs.groups.galthumir_exprs_equal.Tie as tie
-use Rattle.galthumir.proofs.groups.galthumir_exprs_equal.Reads as reads
-use Rattle.galthumir.proofs.groups.galthumir_exprs_equal.Lts as lts
-use Rattle.answers.proofs.put_answer.Reads as put-answer-reads
-use Rattle.questions.proofs.exprs_equal.Reads as exprs-equal-reads
-use Rattle.states.proofs.groups.load_group.Reads as load-group-reads
 
 load-group-requires : tie.Need-load-group-requires
 load-group-requires c κs = search needs

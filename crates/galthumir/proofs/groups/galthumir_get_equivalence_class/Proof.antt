@@ -1,11 +1,7 @@
+-- `galthumir::groups::galthumir_get_equivalence_class` meets its contract.
 use borrow.Author.Needs.{needs}
 use Rattle.galthumir.proofs.groups.galthumir_get_equivalence_class.Statement.{statement}
 use Rattle.galthumir.proofs.groups.galthumir_get_equivalence_class.Tie as tie
-use Rattle.galthumir.proofs.groups.galthumir_get_equivalence_class.Reads as reads
-use Rattle.galthumir.proofs.groups.galthumir_get_equivalence_class.Lts as lts
-use Rattle.answers.proofs.put_class_is.Reads as put-class-is-reads
-use Rattle.classes.proofs.get_equivalence_class.Reads as get-equivalence-class-reads
-use Rattle.states.proofs.groups.load_group.Reads as load-group-reads
 
 load-group-requires : tie.Need-load-group-requires
 load-group-requires c κs = search needs

@@ -1,11 +1,7 @@
+-- `galthumir::groups::galthumir_is_expr_constant` meets its contract.
 use borrow.Author.Needs.{needs}
 use Rattle.galthumir.proofs.groups.galthumir_is_expr_constant.Statement.{statement}
 use Rattle.galthumir.proofs.groups.galthumir_is_expr_constant.Tie as tie
-use Rattle.galthumir.proofs.groups.galthumir_is_expr_constant.Reads as reads
-use Rattle.galthumir.proofs.groups.galthumir_is_expr_constant.Lts as lts
-use Rattle.answers.proofs.put_constant.Reads as put-constant-reads
-use Rattle.questions.proofs.is_expr_constant.Reads as is-expr-constant-reads
-use Rattle.states.proofs.groups.load_group.Reads as load-group-reads
 
 load-group-requires : tie.Need-load-group-requires
 load-group-requires c κs = search needs

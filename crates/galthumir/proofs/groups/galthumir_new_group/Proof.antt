@@ -1,13 +1,10 @@
-use borrow.Author.Needs.{needs}
+-- `galthumir::groups::galthumir_new_group` meets its contract.
 use mathlib.Core.Path.{sym, subst}
+use borrow.Author.Needs.{needs}
 use Rattle.states.specs.Inner.{FitsIfDone}
 use Rattle.state_laws.proofs.GroupFit.{new-fits}
 use Rattle.galthumir.proofs.groups.galthumir_new_group.Statement.{statement}
 use Rattle.galthumir.proofs.groups.galthumir_new_group.Tie as tie
-use Rattle.galthumir.proofs.groups.galthumir_new_group.Reads as reads
-use Rattle.galthumir.proofs.groups.galthumir_new_group.Lts as lts
-use Rattle.merging.proofs.new.Reads as new-reads
-use Rattle.states.proofs.groups.store_group.Reads as store-group-reads
 
 new-requires : tie.Need-new-requires
 new-requires c κs = search needs

@@ -1,17 +1,13 @@
-use borrow.Author.Needs.{needs}
-use mathlib.Core.Path.{sym, subst}
+-- `galthumir::groups::galthumir_normalize_sort_exprs` meets its contract.
 use Prim.Native.Nat.{ℕ, _<_}
+use mathlib.Core.Path.{sym, subst}
 use mathlib.Core.List.{List}
+use borrow.Author.Needs.{needs}
 use Rattle.normal.specs.declared.Sorted.{Sorted}
 use Rattle.state_laws.proofs.ListFit.{sorted-fits}
 use Rattle.galthumir.proofs.Shapes.{on-first}
 use Rattle.galthumir.proofs.groups.galthumir_normalize_sort_exprs.Statement.{statement}
 use Rattle.galthumir.proofs.groups.galthumir_normalize_sort_exprs.Tie as tie
-use Rattle.galthumir.proofs.groups.galthumir_normalize_sort_exprs.Reads as reads
-use Rattle.galthumir.proofs.groups.galthumir_normalize_sort_exprs.Lts as lts
-use Rattle.answers.proofs.put_sorted.Reads as put-sorted-reads
-use Rattle.normal.proofs.normalize_sort_exprs.Reads as normalize-sort-exprs-reads
-use Rattle.states.proofs.groups.load_group.Reads as load-group-reads
 
 load-group-requires : tie.Need-load-group-requires
 load-group-requires c κs = search needs

@@ -1,14 +1,10 @@
-use borrow.Author.Needs.{needs}
+-- `galthumir::groups::galthumir_open_group` meets its contract.
 use mathlib.Core.Path.{sym, subst}
+use borrow.Author.Needs.{needs}
 use Rattle.states.specs.Inner.{FitsIfDone}
 use Rattle.state_laws.proofs.GroupFit.{opened-fits}
 use Rattle.galthumir.proofs.groups.galthumir_open_group.Statement.{statement}
 use Rattle.galthumir.proofs.groups.galthumir_open_group.Tie as tie
-use Rattle.galthumir.proofs.groups.galthumir_open_group.Reads as reads
-use Rattle.galthumir.proofs.groups.galthumir_open_group.Lts as lts
-use Rattle.arena.proofs.cells.wide.Reads as wide-reads
-use Rattle.classes.proofs.open_group.Reads as open-group-reads
-use Rattle.states.proofs.groups.store_group.Reads as store-group-reads
 
 wide-requires : tie.Need-wide-requires
 wide-requires c κs = search needs

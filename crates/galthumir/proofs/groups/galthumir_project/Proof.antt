@@ -1,18 +1,14 @@
-use borrow.Author.Needs.{needs}
-use mathlib.Core.Path.{sym, subst}
+-- `galthumir::groups::galthumir_project` meets its contract.
 use Prim.Native.Nat.{ℕ}
+use mathlib.Core.Path.{sym, subst}
 use mathlib.Core.List.{List}
+use borrow.Author.Needs.{needs}
 use Rattle.classes.specs.declared.Changed.{Changed}
 use Rattle.states.specs.Inner.{FitsIfDone}
 use Rattle.state_laws.proofs.GroupFit.{project-fits}
 use Rattle.galthumir.proofs.Shapes.{on-first}
 use Rattle.galthumir.proofs.groups.galthumir_project.Statement.{statement}
 use Rattle.galthumir.proofs.groups.galthumir_project.Tie as tie
-use Rattle.galthumir.proofs.groups.galthumir_project.Reads as reads
-use Rattle.galthumir.proofs.groups.galthumir_project.Lts as lts
-use Rattle.group_projection.proofs.project.Reads as project-reads
-use Rattle.states.proofs.groups.load_group.Reads as load-group-reads
-use Rattle.states.proofs.groups.store_group.Reads as store-group-reads
 
 load-group-requires : tie.Need-load-group-requires
 load-group-requires c κs = search needs

@@ -1,12 +1,8 @@
+-- `galthumir::groups::galthumir_project_expr` meets its contract.
 use borrow.Author.Needs.{needs}
 use Rattle.galthumir.proofs.Shapes.{on-first}
 use Rattle.galthumir.proofs.groups.galthumir_project_expr.Statement.{statement}
 use Rattle.galthumir.proofs.groups.galthumir_project_expr.Tie as tie
-use Rattle.galthumir.proofs.groups.galthumir_project_expr.Reads as reads
-use Rattle.galthumir.proofs.groups.galthumir_project_expr.Lts as lts
-use Rattle.answers.proofs.put_projected.Reads as put-projected-reads
-use Rattle.projection.proofs.project_expr.Reads as project-expr-reads
-use Rattle.states.proofs.groups.load_group.Reads as load-group-reads
 
 load-group-requires : tie.Need-load-group-requires
 load-group-requires c κs = search needs

@@ -1,10 +1,7 @@
+-- `galthumir::groups::galthumir_project_expressions` meets its contract.
 use borrow.Author.Needs.{needs}
 use Rattle.galthumir.proofs.groups.galthumir_project_expressions.Statement.{statement}
 use Rattle.galthumir.proofs.groups.galthumir_project_expressions.Tie as tie
-use Rattle.galthumir.proofs.groups.galthumir_project_expressions.Reads as reads
-use Rattle.galthumir.proofs.groups.galthumir_project_expressions.Lts as lts
-use Rattle.projection.proofs.project_expressions.Reads as project-expressions-reads
-use Rattle.states.proofs.groups.load_group.Reads as load-group-reads
 
 load-group-requires : tie.Need-load-group-requires
 load-group-requires c κs = search needs

@@ -1,10 +1,7 @@
+-- `galthumir::maps::galthumir_check_map` meets its contract.
 use borrow.Author.Needs.{needs}
 use Rattle.galthumir.proofs.maps.galthumir_check_map.Statement.{statement}
 use Rattle.galthumir.proofs.maps.galthumir_check_map.Tie as tie
-use Rattle.galthumir.proofs.maps.galthumir_check_map.Reads as reads
-use Rattle.galthumir.proofs.maps.galthumir_check_map.Lts as lts
-use Rattle.dependencies.proofs.check.Reads as check-reads
-use Rattle.states.proofs.maps.load_map.Reads as load-map-reads
 
 load-map-requires : tie.Need-load-map-requires
 load-map-requires c κs = search needs

@@ -1,14 +1,8 @@
+-- `galthumir::maps::galthumir_generate_dependency_orderings` meets its contract.
 use borrow.Author.Needs.{needs}
 use Rattle.galthumir.proofs.Shapes.{on-first}
-use Rattle.galthumir.proofs.maps.galthumir_generate_dependency_orderings.Statement.{
-  statement,
-}
+use Rattle.galthumir.proofs.maps.galthumir_generate_dependency_orderings.Statement.{statement}
 use Rattle.galthumir.proofs.maps.galthumir_generate_dependency_orderings.Tie as tie
-use Rattle.galthumir.proofs.maps.galthumir_generate_dependency_orderings.Reads as reads
-use Rattle.galthumir.proofs.maps.galthumir_generate_dependency_orderings.Lts as lts
-use Rattle.answers.proofs.put_enumerated.Reads as put-enumerated-reads
-use Rattle.dependency_orderings.proofs.generate_dependency_orderings.Reads as generate-dependency-orderings-reads
-use Rattle.states.proofs.maps.load_map.Reads as load-map-reads
 
 load-map-requires : tie.Need-load-map-requires
 load-map-requires c κs = search needs

@@ -1,15 +1,10 @@
-use borrow.Author.Needs.{needs}
+-- `galthumir::maps::galthumir_insert` meets its contract.
 use mathlib.Core.Path.{sym, subst}
+use borrow.Author.Needs.{needs}
 use Rattle.states.specs.Inner.{MapFitsIfDone}
 use Rattle.state_laws.proofs.MapFit.{insert-fits}
 use Rattle.galthumir.proofs.maps.galthumir_insert.Statement.{statement}
 use Rattle.galthumir.proofs.maps.galthumir_insert.Tie as tie
-use Rattle.galthumir.proofs.maps.galthumir_insert.Reads as reads
-use Rattle.galthumir.proofs.maps.galthumir_insert.Lts as lts
-use Rattle.answers.proofs.given_from.Reads as given-from-reads
-use Rattle.dependencies.proofs.insert.Reads as insert-reads
-use Rattle.states.proofs.maps.load_map.Reads as load-map-reads
-use Rattle.states.proofs.maps.store_map.Reads as store-map-reads
 
 load-map-requires : tie.Need-load-map-requires
 load-map-requires c κs = search needs

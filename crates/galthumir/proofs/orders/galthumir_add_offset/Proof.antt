@@ -1,19 +1,15 @@
-use borrow.Author.Needs.{needs}
-use mathlib.Core.Path.{sym, subst}
+-- `galthumir::orders::galthumir_add_offset` meets its contract.
 use Prim.Native.Nat.{ℕ}
+use mathlib.Core.Path.{sym, subst}
 use mathlib.Core.List.{List}
+use borrow.Author.Needs.{needs}
+use mir.Facts.{toZ-ofZ}
 use Rattle.orderings.specs.declared.Listed.{Listed}
 use Rattle.states.specs.Inner.{ListFitsIfDone}
 use Rattle.state_laws.proofs.ListFit.{offset-fits}
-use mir.Facts.{toZ-ofZ}
 use Rattle.galthumir.proofs.Shapes.{on-first}
 use Rattle.galthumir.proofs.orders.galthumir_add_offset.Statement.{statement}
 use Rattle.galthumir.proofs.orders.galthumir_add_offset.Tie as tie
-use Rattle.galthumir.proofs.orders.galthumir_add_offset.Reads as reads
-use Rattle.galthumir.proofs.orders.galthumir_add_offset.Lts as lts
-use Rattle.ordering_joins.proofs.add_offset.Reads as add-offset-reads
-use Rattle.states.proofs.orders.load_orderings.Reads as load-orderings-reads
-use Rattle.states.proofs.orders.store_orderings.Reads as store-orderings-reads
 
 load-orderings-requires : tie.Need-load-orderings-requires
 load-orderings-requires c κs = search needs

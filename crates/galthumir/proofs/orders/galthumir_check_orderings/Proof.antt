@@ -1,10 +1,7 @@
+-- `galthumir::orders::galthumir_check_orderings` meets its contract.
 use borrow.Author.Needs.{needs}
 use Rattle.galthumir.proofs.orders.galthumir_check_orderings.Statement.{statement}
 use Rattle.galthumir.proofs.orders.galthumir_check_orderings.Tie as tie
-use Rattle.galthumir.proofs.orders.galthumir_check_orderings.Reads as reads
-use Rattle.galthumir.proofs.orders.galthumir_check_orderings.Lts as lts
-use Rattle.orderings.proofs.check.Reads as check-reads
-use Rattle.states.proofs.orders.load_orderings.Reads as load-orderings-reads
 
 load-orderings-requires : tie.Need-load-orderings-requires
 load-orderings-requires c κs = search needs

@@ -1,14 +1,10 @@
-use borrow.Author.Needs.{needs}
+-- `galthumir::orders::galthumir_clear_orderings` meets its contract.
 use mathlib.Core.Path.{sym, subst}
+use borrow.Author.Needs.{needs}
 use Rattle.states.specs.Inner.{ListFitsIfDone}
 use Rattle.state_laws.proofs.ListFit.{clear-fits}
 use Rattle.galthumir.proofs.orders.galthumir_clear_orderings.Statement.{statement}
 use Rattle.galthumir.proofs.orders.galthumir_clear_orderings.Tie as tie
-use Rattle.galthumir.proofs.orders.galthumir_clear_orderings.Reads as reads
-use Rattle.galthumir.proofs.orders.galthumir_clear_orderings.Lts as lts
-use Rattle.orderings.proofs.clear.Reads as clear-reads
-use Rattle.states.proofs.orders.load_orderings.Reads as load-orderings-reads
-use Rattle.states.proofs.orders.store_orderings.Reads as store-orderings-reads
 
 load-orderings-requires : tie.Need-load-orderings-requires
 load-orderings-requires c κs = search needs

@@ -1,11 +1,7 @@
+-- `galthumir::orders::galthumir_get_options` meets its contract.
 use borrow.Author.Needs.{needs}
 use Rattle.galthumir.proofs.orders.galthumir_get_options.Statement.{statement}
 use Rattle.galthumir.proofs.orders.galthumir_get_options.Tie as tie
-use Rattle.galthumir.proofs.orders.galthumir_get_options.Reads as reads
-use Rattle.galthumir.proofs.orders.galthumir_get_options.Lts as lts
-use Rattle.answers.proofs.put_options.Reads as put-options-reads
-use Rattle.orderings.proofs.get_options.Reads as get-options-reads
-use Rattle.states.proofs.orders.load_orderings.Reads as load-orderings-reads
 
 load-orderings-requires : tie.Need-load-orderings-requires
 load-orderings-requires c κs = search needs

@@ -1,11 +1,7 @@
+-- `galthumir::orders::galthumir_is_expr_partial_const` meets its contract.
 use borrow.Author.Needs.{needs}
 use Rattle.galthumir.proofs.orders.galthumir_is_expr_partial_const.Statement.{statement}
 use Rattle.galthumir.proofs.orders.galthumir_is_expr_partial_const.Tie as tie
-use Rattle.galthumir.proofs.orders.galthumir_is_expr_partial_const.Reads as reads
-use Rattle.galthumir.proofs.orders.galthumir_is_expr_partial_const.Lts as lts
-use Rattle.answers.proofs.put_partial.Reads as put-partial-reads
-use Rattle.orderings.proofs.is_expr_partial_const.Reads as is-expr-partial-const-reads
-use Rattle.states.proofs.orders.load_orderings.Reads as load-orderings-reads
 
 load-orderings-requires : tie.Need-load-orderings-requires
 load-orderings-requires c κs = search needs

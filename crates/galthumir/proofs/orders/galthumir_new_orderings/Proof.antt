@@ -1,13 +1,10 @@
-use borrow.Author.Needs.{needs}
+-- `galthumir::orders::galthumir_new_orderings` meets its contract.
 use mathlib.Core.Path.{sym, subst}
+use borrow.Author.Needs.{needs}
 use Rattle.states.specs.Inner.{ListFitsIfDone}
 use Rattle.state_laws.proofs.ListFit.{new-fits}
 use Rattle.galthumir.proofs.orders.galthumir_new_orderings.Statement.{statement}
 use Rattle.galthumir.proofs.orders.galthumir_new_orderings.Tie as tie
-use Rattle.galthumir.proofs.orders.galthumir_new_orderings.Reads as reads
-use Rattle.galthumir.proofs.orders.galthumir_new_orderings.Lts as lts
-use Rattle.reduction.proofs.new.Reads as new-reads
-use Rattle.states.proofs.orders.store_orderings.Reads as store-orderings-reads
 
 new-requires : tie.Need-new-requires
 new-requires c κs = search needs

@@ -1,15 +1,11 @@
-use borrow.Author.Needs.{needs}
-use mathlib.Core.Path.{sym, subst}
+-- `galthumir::orders::galthumir_output_ordering` meets its contract.
 use Prim.Native.Nat.{_<_}
+use mathlib.Core.Path.{sym, subst}
+use borrow.Author.Needs.{needs}
 use Rattle.ordering_joins.specs.declared.Output.{Output}
 use Rattle.state_laws.proofs.ListFit.{output-fits}
 use Rattle.galthumir.proofs.orders.galthumir_output_ordering.Statement.{statement}
 use Rattle.galthumir.proofs.orders.galthumir_output_ordering.Tie as tie
-use Rattle.galthumir.proofs.orders.galthumir_output_ordering.Reads as reads
-use Rattle.galthumir.proofs.orders.galthumir_output_ordering.Lts as lts
-use Rattle.answers.proofs.put_output.Reads as put-output-reads
-use Rattle.ordering_joins.proofs.output_ordering.Reads as output-ordering-reads
-use Rattle.states.proofs.orders.load_orderings.Reads as load-orderings-reads
 
 load-orderings-requires : tie.Need-load-orderings-requires
 load-orderings-requires c κs = search needs

@@ -1,17 +1,10 @@
-use borrow.Author.Needs.{needs}
+-- `galthumir::sessions::galthumir_chosen` meets its contract.
 use mathlib.Core.Path.{sym}
 use native.Mathlib.Omega.{arith}
+use borrow.Author.Needs.{needs}
 use Rattle.galthumir.proofs.Shapes.{chosen-large, chosen-refused, chosen-done}
 use Rattle.galthumir.proofs.sessions.galthumir_chosen.Statement.{statement}
 use Rattle.galthumir.proofs.sessions.galthumir_chosen.Tie as tie
-use Rattle.galthumir.proofs.sessions.galthumir_chosen.Reads as reads
-use Rattle.galthumir.proofs.sessions.galthumir_chosen.Lts as lts
-use Rattle.answers.proofs.put_sizes.Reads as put-sizes-reads
-use Rattle.arena.proofs.cells.wide.Reads as wide-reads
-use Rattle.galthumir.proofs.sessions.side_of.Reads as side-of-reads
-use Rattle.records.proofs.chosen.Reads as chosen-reads
-use Rattle.records.proofs.chosen_number.Reads as chosen-number-reads
-use Rattle.states.proofs.numbers.short.Reads as short-reads
 
 returns : tie.Need-returns
 returns c = let s = c .before .before .before in

@@ -1,13 +1,10 @@
-use borrow.Author.Needs.{needs}
+-- `galthumir::sessions::galthumir_read_group` meets its contract.
 use mathlib.Core.Path.{sym, subst}
+use borrow.Author.Needs.{needs}
 use Rattle.states.specs.Inner.{FitsIfDone}
 use Rattle.state_laws.proofs.GroupFit.{read-fits}
 use Rattle.galthumir.proofs.sessions.galthumir_read_group.Statement.{statement}
 use Rattle.galthumir.proofs.sessions.galthumir_read_group.Tie as tie
-use Rattle.galthumir.proofs.sessions.galthumir_read_group.Reads as reads
-use Rattle.galthumir.proofs.sessions.galthumir_read_group.Lts as lts
-use Rattle.group_records.proofs.read_group.Reads as read-group-reads
-use Rattle.states.proofs.groups.store_group.Reads as store-group-reads
 
 read-group-requires : tie.Need-read-group-requires
 read-group-requires c κs = search needs

@@ -1,10 +1,7 @@
+-- `galthumir::sessions::galthumir_read_record` meets its contract.
 use borrow.Author.Needs.{needs}
 use Rattle.galthumir.proofs.sessions.galthumir_read_record.Statement.{statement}
 use Rattle.galthumir.proofs.sessions.galthumir_read_record.Tie as tie
-use Rattle.galthumir.proofs.sessions.galthumir_read_record.Reads as reads
-use Rattle.galthumir.proofs.sessions.galthumir_read_record.Lts as lts
-use Rattle.answers.proofs.put_record.Reads as put-record-reads
-use Rattle.records.proofs.read_record.Reads as read-record-reads
 
 read-record-requires : tie.Need-read-record-requires
 read-record-requires c κs = search needs

@@ -1,11 +1,8 @@
+-- `galthumir::sessions::galthumir_session` meets its contract.
 use borrow.Author.Needs.{needs}
 use Rattle.galthumir.proofs.Shapes.{on-first}
 use Rattle.galthumir.proofs.sessions.galthumir_session.Statement.{statement}
 use Rattle.galthumir.proofs.sessions.galthumir_session.Tie as tie
-use Rattle.galthumir.proofs.sessions.galthumir_session.Reads as reads
-use Rattle.galthumir.proofs.sessions.galthumir_session.Lts as lts
-use Rattle.answers.proofs.put_written.Reads as put-written-reads
-use Rattle.transcript.proofs.session.Reads as session-reads
 
 session-requires : tie.Need-session-requires
 session-requires c κs = search needs

@@ -1,10 +1,8 @@
-use borrow.Author.Needs.{needs}
+-- `galthumir::sessions::side_of` meets its contract.
 use borrow.Author.Tests.{lt-ltb, le-ltb}
 use Rattle.answers.specs.Answers.{side}
 use Rattle.galthumir.proofs.sessions.side_of.Statement.{statement}
 use Rattle.galthumir.proofs.sessions.side_of.Tie as tie
-use Rattle.galthumir.proofs.sessions.side_of.Reads as reads
-use Rattle.galthumir.proofs.sessions.side_of.Lts as lts
 
 returns : tie.Need-returns
 unfolding side

@@ -3,7 +3,7 @@
 use Prim.Native.Nat.{ℕ, _<_}
 use mathlib.Core.Bool.{Bool, true, false}
 use mathlib.Core.List.{List, [], _∷_}
-use mathlib.Core.Path.{_≡_, refl, sym, ap, _∙_, subst}
+use mathlib.Core.Path.{_≡_, refl, ap, _∙_}
 use lib.Dec.{eqb, leb}
 use lib.IntN.{ℤ}
 use lib.ListN.{length}
@@ -36,8 +36,8 @@ use Rattle.merging_laws.proofs.HandedBack.{refusal-keeps-join}
 use Rattle.projection.specs.Calls.{projectedExpr}
 use Rattle.projection.specs.declared.Projected.{Projected}
 use Rattle.projection.specs.declared.Projected.the-variants.{Number as Projected-Number, Nothing as Projected-Nothing, Refused as Projected-Refused}
-use Rattle.projection_laws.proofs.ProjectedCalls.{expr-refused}
 use Rattle.group_projection.specs.Calls.{projectAnswer}
+use Rattle.projection_laws.proofs.ProjectedCalls.{expr-refused}
 use Rattle.projection_laws.proofs.GroupHanded.{refusal-keeps-project}
 use Rattle.orderings.specs.declared.Listed.{Listed}
 use Rattle.orderings.specs.declared.Orderings.{Orderings}

@@ -1,0 +1,2 @@
+-- Theorems on answers in numbers.
+pub mod Refused

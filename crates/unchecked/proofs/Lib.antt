@@ -1,0 +1,2 @@
+-- Laws of the exported inner functions.
+pub mod Carried
