@@ -1,0 +1,138 @@
+-- Two results that meet a contract are equal: the public functions of merging, joins, mappings, projection and group_projection.
+use Rattle.laws.proofs.Determined.{one-result}
+use denote.Ref.{now}
+use Rattle.promises.proofs.Once.{OneAnswer, OneWith, OneWithBoth}
+use Rattle.merging.proofs.bridging.drop_trivial.Reads as MergingBridgingDropTrivial
+use Rattle.merging.proofs.bridging.bridge_classes.Reads as MergingBridgingBridgeClasses
+use Rattle.merging.proofs.bridging.from_classes.Reads as MergingBridgingFromClasses
+use Rattle.merging.proofs.bridging.made.Reads as MergingBridgingMade
+use Rattle.merging.proofs.extending.class_holds.Reads as MergingExtendingClassHolds
+use Rattle.merging.proofs.extending.contains_any.Reads as MergingExtendingContainsAny
+use Rattle.merging.proofs.extending.is_trivial.Reads as MergingExtendingIsTrivial
+use Rattle.merging.proofs.extending.one_empty.Reads as MergingExtendingOneEmpty
+use Rattle.merging.proofs.extending.extend.Reads as MergingExtendingExtend
+use Rattle.merging.proofs.extending.push.Reads as MergingExtendingPush
+use Rattle.merging.proofs.lent.number_at.Reads as MergingLentNumberAt
+use Rattle.merging.proofs.lent.new_number.Reads as MergingLentNewNumber
+use Rattle.merging.proofs.lent.lent_classes.Reads as MergingLentLentClasses
+use Rattle.merging.proofs.new.Reads as MergingNew
+use Rattle.joins.proofs.joining.join_number.Reads as JoinsJoiningJoinNumber
+use Rattle.joins.proofs.joining.join_by.Reads as JoinsJoiningJoinBy
+use Rattle.joins.proofs.kinds.kind_of.Reads as JoinsKindsKindOf
+use Rattle.joins.proofs.join.Reads as JoinsJoin
+use Rattle.joins.proofs.shifting.members_move.Reads as JoinsShiftingMembersMove
+use Rattle.joins.proofs.shifting.rights_move.Reads as JoinsShiftingRightsMove
+use Rattle.joins.proofs.shifting.add_class_from.Reads as JoinsShiftingAddClassFrom
+use Rattle.joins.proofs.shifting.add_shifted.Reads as JoinsShiftingAddShifted
+use Rattle.mappings.proofs.lent.project_number.Reads as MappingsLentProjectNumber
+use Rattle.projection.proofs.project_expr.Reads as ProjectionProjectExpr
+use Rattle.projection.proofs.project_expressions.Reads as ProjectionProjectExpressions
+use Rattle.projection.proofs.listing.project_list.Reads as ProjectionListingProjectList
+use Rattle.projection.proofs.walking.project_in.Reads as ProjectionWalkingProjectIn
+use Rattle.group_projection.proofs.constants.source_constants.Reads as GroupProjectionConstantsSourceConstants
+use Rattle.group_projection.proofs.project.Reads as GroupProjectionProject
+use Rattle.group_projection.proofs.listing.projected_list.Reads as GroupProjectionListingProjectedList
+use Rattle.group_projection.proofs.projecting.project_in.Reads as GroupProjectionProjectingProjectIn
+
+-- ---- merging
+
+pub merging-bridging-drop-trivial : (κs : _) (a : _) → OneAnswer (MergingBridgingDropTrivial.Learnt κs a)
+merging-bridging-drop-trivial κs a r r′ s s′ = one-result
+
+pub merging-bridging-bridge-classes : (κs : _) (a : _) → OneAnswer (MergingBridgingBridgeClasses.Learnt κs a)
+merging-bridging-bridge-classes κs a r r′ s s′ = one-result
+
+pub merging-bridging-from-classes : (κs : _) (a : _) → OneAnswer (MergingBridgingFromClasses.Learnt κs a)
+merging-bridging-from-classes κs a r r′ s s′ = one-result
+
+pub merging-bridging-made : (κs : _) (a : _) → OneAnswer (MergingBridgingMade.Learnt κs a)
+merging-bridging-made κs a r r′ s s′ = one-result
+
+pub merging-extending-class-holds : (κs : _) (a : _) → OneAnswer (MergingExtendingClassHolds.Learnt κs a)
+merging-extending-class-holds κs a r r′ s s′ = one-result
+
+pub merging-extending-contains-any : (κs : _) (a : _) → OneAnswer (MergingExtendingContainsAny.Learnt κs a)
+merging-extending-contains-any κs a r r′ s s′ = one-result
+
+pub merging-extending-is-trivial : (κs : _) (a : _) → OneAnswer (MergingExtendingIsTrivial.Learnt κs a)
+merging-extending-is-trivial κs a r r′ s s′ = one-result
+
+pub merging-extending-one-empty : (κs : _) (a : _) → OneAnswer (MergingExtendingOneEmpty.Learnt κs a)
+merging-extending-one-empty κs a r r′ s s′ = one-result
+
+pub merging-extending-extend : (κs : _) (a : _) → OneAnswer (MergingExtendingExtend.Learnt κs a)
+merging-extending-extend κs a r r′ s s′ = one-result
+
+pub merging-extending-push : (κs : _) (a : _) → OneAnswer (MergingExtendingPush.Learnt κs a)
+merging-extending-push κs a r r′ s s′ = one-result
+
+pub merging-lent-number-at : (κs : _) (a : _) → OneAnswer (MergingLentNumberAt.Learnt κs a)
+merging-lent-number-at κs a r r′ s s′ = one-result
+
+pub merging-lent-new-number : (κs : _) (a : _) → OneAnswer (MergingLentNewNumber.Learnt κs a)
+merging-lent-new-number κs a r r′ s s′ = one-result
+
+pub merging-lent-lent-classes : (κs : _) (a : _) → OneAnswer (MergingLentLentClasses.Learnt κs a)
+merging-lent-lent-classes κs a r r′ s s′ = one-result
+
+pub merging-new : (κs : _) (a : _) → OneAnswer (MergingNew.Learnt κs a)
+merging-new κs a r r′ s s′ = one-result
+
+-- ---- joins
+
+pub joins-joining-join-number : (κs : _) (a : _) → OneAnswer (JoinsJoiningJoinNumber.Learnt κs a)
+joins-joining-join-number κs a r r′ s s′ = one-result
+
+pub joins-joining-join-by : (κs : _) (a : _) → OneWith (λ s. now (s .0)) (JoinsJoiningJoinBy.Learnt κs a)
+joins-joining-join-by κs a r r′ s s′ = one-result
+
+pub joins-kinds-kind-of : (κs : _) (a : _) → OneAnswer (JoinsKindsKindOf.Learnt κs a)
+joins-kinds-kind-of κs a r r′ s s′ = one-result
+
+pub joins-join : (κs : _) (a : _) → OneWith (λ s. now (s .0)) (JoinsJoin.Learnt κs a)
+joins-join κs a r r′ s s′ = one-result
+
+pub joins-shifting-members-move : (κs : _) (a : _) → OneAnswer (JoinsShiftingMembersMove.Learnt κs a)
+joins-shifting-members-move κs a r r′ s s′ = one-result
+
+pub joins-shifting-rights-move : (κs : _) (a : _) → OneAnswer (JoinsShiftingRightsMove.Learnt κs a)
+joins-shifting-rights-move κs a r r′ s s′ = one-result
+
+pub joins-shifting-add-class-from : (κs : _) (a : _) → OneAnswer (JoinsShiftingAddClassFrom.Learnt κs a)
+joins-shifting-add-class-from κs a r r′ s s′ = one-result
+
+pub joins-shifting-add-shifted : (κs : _) (a : _) → OneAnswer (JoinsShiftingAddShifted.Learnt κs a)
+joins-shifting-add-shifted κs a r r′ s s′ = one-result
+
+-- ---- mappings
+
+pub mappings-lent-project-number : (κs : _) (a : _) → OneAnswer (MappingsLentProjectNumber.Learnt κs a)
+mappings-lent-project-number κs a r r′ s s′ = one-result
+
+-- ---- projection
+
+pub projection-project-expr : (κs : _) (a : _) → OneWith (λ s. now (s .0)) (ProjectionProjectExpr.Learnt κs a)
+projection-project-expr κs a r r′ s s′ = one-result
+
+pub projection-project-expressions : (κs : _) (a : _) → OneWithBoth (λ s. now (s .1 .1 .1 .1 .0)) (λ s. now (s .0)) (ProjectionProjectExpressions.Learnt κs a)
+projection-project-expressions κs a r r′ s s′ = one-result
+
+pub projection-listing-project-list : (κs : _) (a : _) → OneWithBoth (λ s. now (s .1 .1 .1 .1 .0)) (λ s. now (s .0)) (ProjectionListingProjectList.Learnt κs a)
+projection-listing-project-list κs a r r′ s s′ = one-result
+
+pub projection-walking-project-in : (κs : _) (a : _) → OneWith (λ s. now (s .0)) (ProjectionWalkingProjectIn.Learnt κs a)
+projection-walking-project-in κs a r r′ s s′ = one-result
+
+-- ---- group_projection
+
+pub group-projection-constants-source-constants : (κs : _) (a : _) → OneAnswer (GroupProjectionConstantsSourceConstants.Learnt κs a)
+group-projection-constants-source-constants κs a r r′ s s′ = one-result
+
+pub group-projection-project : (κs : _) (a : _) → OneWith (λ s. now (s .0)) (GroupProjectionProject.Learnt κs a)
+group-projection-project κs a r r′ s s′ = one-result
+
+pub group-projection-listing-projected-list : (κs : _) (a : _) → OneAnswer (GroupProjectionListingProjectedList.Learnt κs a)
+group-projection-listing-projected-list κs a r r′ s s′ = one-result
+
+pub group-projection-projecting-project-in : (κs : _) (a : _) → OneWith (λ s. now (s .0)) (GroupProjectionProjectingProjectIn.Learnt κs a)
+group-projection-projecting-project-in κs a r r′ s s′ = one-result
