@@ -6,8 +6,10 @@
  */
 #include "answers.h"
 #include "broken.h"
+#include "dependency_cases.h"
 #include "expecting.h"
 #include "good.h"
+#include "ordering_cases.h"
 #include "records.h"
 
 int main(void)
@@ -21,5 +23,7 @@ int main(void)
     read_groups();
     choices();
     session();
+    ordering_cases();
+    dependency_cases();
     return print_counts() ? 0 : 1;
 }
