@@ -10,6 +10,7 @@
 #include "expecting.h"
 #include "good.h"
 #include "ordering_cases.h"
+#include "record_cases.h"
 #include "records.h"
 
 int main(void)
@@ -25,5 +26,8 @@ int main(void)
     session();
     ordering_cases();
     dependency_cases();
+    record_cases();
+    choice_cases();
+    group_record_cases();
     return print_counts() ? 0 : 1;
 }
