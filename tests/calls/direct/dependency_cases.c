@@ -433,8 +433,8 @@ static void no_orderings(void)
 
 /* ---- 5, 6 and 7 before 8 ---- */
 
-/* Keys 0 to 16 are a chain down to 17. Keys 20 to 22 depend on three keys, 23 on two keys of 16 and 3. Keys 40 to 56 each
- * depend on key 17. Key 60 leads to 6, key 61 to 7. */
+/* Keys 0 to 16 are a chain down to 17. Keys 20 and 21 depend on three keys each, 22 on 16, 23 on 21 and 22. Keys 40 to 56
+ * each depend on key 17. Key 60 leads to 6, key 61 to 7. */
 static void make_long_walks(void)
 {
     empty_map();
