@@ -127,13 +127,13 @@ static void break_cells(void)
 /* The first key counts one dependency more than a key can have. */
 static void break_size(void)
 {
-    map[CELL_OF_MAP(0, SIZE)] = GALTHUMIR_MAX_DEPENDENCIES + 1;
+    map[MAP_NODE(0, SIZE)] = GALTHUMIR_MAX_DEPENDENCIES + 1;
 }
 
 /* The last key is of an expression that is not in the arena. */
 static void break_key(void)
 {
-    map[CELL_OF_MAP(2, KEY)] = GALTHUMIR_KEY(NODES, 0);
+    map[MAP_NODE(2, KEY)] = GALTHUMIR_KEY(NODES, 0);
 }
 
 /* ---- What is expected ---- */
@@ -184,11 +184,11 @@ static void expect_sound(const char *what)
 static void sound(void)
 {
     expect_every(GALTHUMIR_DONE, "sound");
-    map[CELL_OF_MAP(1, TARGET)] = GALTHUMIR_KEY(NODES - 1, 3) + 1;
+    map[MAP_NODE(1, TARGET)] = GALTHUMIR_KEY(NODES - 1, 3) + 1;
     expect_every(GALTHUMIR_DONE, "a target of the last node");
-    map[CELL_OF_MAP(0, SIZE)] = 3;
+    map[MAP_NODE(0, SIZE)] = 3;
     expect_every(GALTHUMIR_DONE, "a third dependency, on the key itself, whose number is 0");
-    map[CELL_OF_MAP(1, TARGET)] = 0;
+    map[MAP_NODE(1, TARGET)] = 0;
     expect_all(GALTHUMIR_DONE, GALTHUMIR_REFUSED_NO_TARGET, "a dependency without target");
     empty_map();
     expect_sound("an empty map");
@@ -229,7 +229,7 @@ static const struct {
     {"a node more is counted than there are", GALTHUMIR_ARENA_COUNT, NODES + 1},
     {"1,025 nodes are counted", GALTHUMIR_ARENA_COUNT, GALTHUMIR_MAX_NODES + 1},
     {"the last cell is used", GALTHUMIR_ARENA_CELLS - 1, 1},
-    {"two nodes are the same column", CELL_OF_NODE(1, PAYLOAD), 0},
+    {"two nodes are the same column", NODE(1, PAYLOAD), 0},
 };
 
 static const struct {
@@ -242,25 +242,25 @@ static const struct {
     {"65,535 keys are counted", STATE, GALTHUMIR_MAP_COUNT, UINT16_MAX},
     {"4 keys of 3 are counted", STATE, GALTHUMIR_MAP_COUNT, 4},
     {"2 keys of 3 are counted", STATE, GALTHUMIR_MAP_COUNT, 2},
-    {"a key twice", STATE, CELL_OF_MAP(1, KEY), GALTHUMIR_KEY(0, 0)},
-    {"a key twice, apart", STATE, CELL_OF_MAP(2, KEY), GALTHUMIR_KEY(0, 0)},
-    {"a dependency twice", STATE, CELL_OF_MAP(0, DEPENDENCIES) + 1, GALTHUMIR_KEY(1, 0)},
-    {"size 17", STATE, CELL_OF_MAP(0, SIZE), GALTHUMIR_MAX_DEPENDENCIES + 1},
-    {"size 65,535", STATE, CELL_OF_MAP(0, SIZE), UINT16_MAX},
-    {"size 1 over two dependencies", STATE, CELL_OF_MAP(0, SIZE), 1},
-    {"size 4 over two dependencies", STATE, CELL_OF_MAP(0, SIZE), 4},
-    {"a dependency after the last", STATE, CELL_OF_MAP(0, DEPENDENCIES) + 2, GALTHUMIR_KEY(3, 0)},
-    {"a dependency at the last place", STATE, CELL_OF_MAP(0, DEPENDENCIES) + 15, 1},
-    {"a key after the keys", STATE, CELL_OF_MAP(3, KEY), 1},
-    {"a key at the last place", STATE, CELL_OF_MAP(63, KEY), GALTHUMIR_KEY(3, 0)},
-    {"a target after the keys", STATE, CELL_OF_MAP(3, TARGET), GALTHUMIR_KEY(0, 0) + 1},
-    {"a target at the last place", STATE, CELL_OF_MAP(63, TARGET), GALTHUMIR_KEY(0, 1) + 1},
-    {"a size after the keys", STATE, CELL_OF_MAP(63, SIZE), 1},
-    {"a dependency after the keys", STATE, CELL_OF_MAP(3, DEPENDENCIES) + 15, 1},
-    {"a key of the first expression past the nodes", EXPRESSION, CELL_OF_MAP(2, KEY), GALTHUMIR_KEY(NODES, 0)},
-    {"a key of the largest expression", EXPRESSION, CELL_OF_MAP(2, KEY), UINT16_MAX},
-    {"an unknown target", EXPRESSION, CELL_OF_MAP(1, TARGET), GALTHUMIR_KEY(NODES, 0) + 1},
-    {"an unknown dependency", EXPRESSION, CELL_OF_MAP(0, DEPENDENCIES) + 1, GALTHUMIR_KEY(NODES, 3)},
+    {"a key twice", STATE, MAP_NODE(1, KEY), GALTHUMIR_KEY(0, 0)},
+    {"a key twice, apart", STATE, MAP_NODE(2, KEY), GALTHUMIR_KEY(0, 0)},
+    {"a dependency twice", STATE, MAP_NODE(0, DEPENDENCIES) + 1, GALTHUMIR_KEY(1, 0)},
+    {"size 17", STATE, MAP_NODE(0, SIZE), GALTHUMIR_MAX_DEPENDENCIES + 1},
+    {"size 65,535", STATE, MAP_NODE(0, SIZE), UINT16_MAX},
+    {"size 1 over two dependencies", STATE, MAP_NODE(0, SIZE), 1},
+    {"size 4 over two dependencies", STATE, MAP_NODE(0, SIZE), 4},
+    {"a dependency after the last", STATE, MAP_NODE(0, DEPENDENCIES) + 2, GALTHUMIR_KEY(3, 0)},
+    {"a dependency at the last place", STATE, MAP_NODE(0, DEPENDENCIES) + 15, 1},
+    {"a key after the keys", STATE, MAP_NODE(3, KEY), 1},
+    {"a key at the last place", STATE, MAP_NODE(63, KEY), GALTHUMIR_KEY(3, 0)},
+    {"a target after the keys", STATE, MAP_NODE(3, TARGET), GALTHUMIR_KEY(0, 0) + 1},
+    {"a target at the last place", STATE, MAP_NODE(63, TARGET), GALTHUMIR_KEY(0, 1) + 1},
+    {"a size after the keys", STATE, MAP_NODE(63, SIZE), 1},
+    {"a dependency after the keys", STATE, MAP_NODE(3, DEPENDENCIES) + 15, 1},
+    {"a key of the first expression past the nodes", EXPRESSION, MAP_NODE(2, KEY), GALTHUMIR_KEY(NODES, 0)},
+    {"a key of the largest expression", EXPRESSION, MAP_NODE(2, KEY), UINT16_MAX},
+    {"an unknown target", EXPRESSION, MAP_NODE(1, TARGET), GALTHUMIR_KEY(NODES, 0) + 1},
+    {"an unknown dependency", EXPRESSION, MAP_NODE(0, DEPENDENCIES) + 1, GALTHUMIR_KEY(NODES, 3)},
 };
 
 static void broken_states(void)
@@ -314,7 +314,7 @@ static void eleven_before_one(void)
     expect_eleven("11 before 1: cells that are no arena");
     break_size();
     expect_eleven("11 before 1: 17 dependencies");
-    map[CELL_OF_MAP(0, DEPENDENCIES) + 1] = GALTHUMIR_KEY(1, 0);
+    map[MAP_NODE(0, DEPENDENCIES) + 1] = GALTHUMIR_KEY(1, 0);
     break_key();
     expect_eleven("11 before 1: a dependency twice");
     expect_generate(STATE, (struct keys){3, {NODES, 0, 0}}, PLACES, "11 before 1: a key that is cut");

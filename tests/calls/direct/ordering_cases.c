@@ -73,7 +73,7 @@ static void mend(void)
 /* A key of the first ordering of a list. */
 static void put_key(uint16_t *orderings, size_t place, uint16_t key)
 {
-    orderings[CELL_OF_ORDERING(0) + 1 + place] = key;
+    orderings[ORDERING(0) + 1 + place] = key;
 }
 
 /* One node more is counted than there are. */
@@ -91,7 +91,7 @@ static void break_count(uint16_t *orderings)
 /* The first ordering has no key. */
 static void break_size(uint16_t *orderings)
 {
-    orderings[CELL_OF_ORDERING(0)] = 0;
+    orderings[ORDERING(0)] = 0;
 }
 
 /* A key of the first ordering is of an expression that is not in the arena. */
@@ -277,8 +277,8 @@ static const struct {
     {"a node more is counted than there are", GALTHUMIR_ARENA_COUNT, NODES + 1},
     {"1,025 nodes are counted", GALTHUMIR_ARENA_COUNT, GALTHUMIR_MAX_NODES + 1},
     {"the last cell is used", GALTHUMIR_ARENA_CELLS - 1, 1},
-    {"an operation is its own child", CELL_OF_NODE(PAIR, CHILDREN), PAIR},
-    {"two nodes are the same column", CELL_OF_NODE(1, PAYLOAD), 0},
+    {"an operation is its own child", NODE(PAIR, CHILDREN), PAIR},
+    {"two nodes are the same column", NODE(1, PAYLOAD), 0},
 };
 
 static void broken_arenas(void)
@@ -300,18 +300,18 @@ static const struct {
     {"65,535 orderings are counted", STATE, GALTHUMIR_ORDERINGS_COUNT, UINT16_MAX},
     {"3 orderings of 2 are counted", STATE, GALTHUMIR_ORDERINGS_COUNT, 3},
     {"1 ordering of 2 is counted", STATE, GALTHUMIR_ORDERINGS_COUNT, 1},
-    {"size 0 over two keys", STATE, CELL_OF_ORDERING(0), 0},
-    {"size 17", STATE, CELL_OF_ORDERING(0), GALTHUMIR_MAX_KEYS + 1},
-    {"size 65,535", STATE, CELL_OF_ORDERING(0), UINT16_MAX},
-    {"size 1 over two keys", STATE, CELL_OF_ORDERING(0), 1},
-    {"an expression twice", STATE, CELL_OF_ORDERING(0) + 2, GALTHUMIR_KEY(0, 0)},
-    {"an expression twice, with other options", STATE, CELL_OF_ORDERING(0) + 2, GALTHUMIR_KEY(0, 3)},
-    {"a key after the last", STATE, CELL_OF_ORDERING(0) + 3, GALTHUMIR_KEY(3, 0)},
-    {"a key at the last place", STATE, CELL_OF_ORDERING(0) + 16, 1},
-    {"a size after the orderings", STATE, CELL_OF_ORDERING(31), 1},
-    {"a key after the orderings", STATE, CELL_OF_ORDERING(2) + 16, 1},
-    {"a key of the first expression past the nodes", EXPRESSION, CELL_OF_ORDERING(0) + 2, GALTHUMIR_KEY(NODES, 3)},
-    {"a key of the largest expression", EXPRESSION, CELL_OF_ORDERING(0) + 1, UINT16_MAX},
+    {"size 0 over two keys", STATE, ORDERING(0), 0},
+    {"size 17", STATE, ORDERING(0), GALTHUMIR_MAX_KEYS + 1},
+    {"size 65,535", STATE, ORDERING(0), UINT16_MAX},
+    {"size 1 over two keys", STATE, ORDERING(0), 1},
+    {"an expression twice", STATE, ORDERING(0) + 2, GALTHUMIR_KEY(0, 0)},
+    {"an expression twice, with other options", STATE, ORDERING(0) + 2, GALTHUMIR_KEY(0, 3)},
+    {"a key after the last", STATE, ORDERING(0) + 3, GALTHUMIR_KEY(3, 0)},
+    {"a key at the last place", STATE, ORDERING(0) + 16, 1},
+    {"a size after the orderings", STATE, ORDERING(31), 1},
+    {"a key after the orderings", STATE, ORDERING(2) + 16, 1},
+    {"a key of the first expression past the nodes", EXPRESSION, ORDERING(0) + 2, GALTHUMIR_KEY(NODES, 3)},
+    {"a key of the largest expression", EXPRESSION, ORDERING(0) + 1, UINT16_MAX},
 };
 
 static void broken_lists(void)
