@@ -3,6 +3,7 @@
 #include <stddef.h>
 #include <stdint.h>
 
+#include "columns.h"
 #include "every_call.h"
 #include "expecting.h"
 #include "galthumir.h"
@@ -18,9 +19,6 @@ struct broken {
     } put[2];
 };
 
-#define NODE(expr, part) (GALTHUMIR_ARENA_NODES + GALTHUMIR_NODE_CELLS * (expr) + GALTHUMIR_NODE_##part)
-#define ORDERING(place) (GALTHUMIR_ORDERINGS_LIST + GALTHUMIR_ORDERING_CELLS * (place))
-#define MAP_NODE(place, part) (GALTHUMIR_MAP_LIST + GALTHUMIR_MAP_NODE_CELLS * (place) + GALTHUMIR_MAP_NODE_##part)
 #define ONCE(cell, value) {{cell, value}, {cell, value}}
 
 #define STATE GALTHUMIR_REFUSED_STATE

@@ -6,8 +6,11 @@
  */
 #include "answers.h"
 #include "broken.h"
+#include "dependency_cases.h"
 #include "expecting.h"
 #include "good.h"
+#include "ordering_cases.h"
+#include "record_cases.h"
 #include "records.h"
 
 int main(void)
@@ -21,5 +24,10 @@ int main(void)
     read_groups();
     choices();
     session();
+    ordering_cases();
+    dependency_cases();
+    record_cases();
+    choice_cases();
+    group_record_cases();
     return print_counts() ? 0 : 1;
 }
