@@ -20,10 +20,11 @@ use Rattle.laws.proofs.Each.{each-holds}
 use Rattle.arena.specs.Node.{Node}
 use Rattle.arena.specs.Expression.{expressionAt}
 use Rattle.arena.specs.Arena.{Sound, Placed, placed, full, andThen, addExpression}
-use Rattle.arena.specs.Shift.{moved, canMove}
+use Rattle.shifting.specs.Shift.{moved, canMove}
 use Rattle.arena.specs.Layout.{lawful, encode as encodeNodes, decode as nodes}
 use Rattle.arena.specs.Calls.{inCells}
-use Rattle.arena.specs.Inner.{Holds, Known, Memo, Walked, Ready, lifted, shiftedBy, told}
+use Rattle.arena.specs.Inner.{Holds, Known, Memo, Walked, told}
+use Rattle.shifting.specs.Inner.{Ready, lifted, shiftedBy}
 use Rattle.arena.specs.declared.Added.{Added}
 use Rattle.arena.specs.declared.Added.the-variants.{Number, Refused}
 use Rattle.arena.proofs.Nodes.{extends-none, extends-both, extends-longer}

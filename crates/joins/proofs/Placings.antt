@@ -17,19 +17,20 @@ use Rattle.laws.proofs.Each.{each-all, each-holds}
 use Rattle.arena.specs.Node.{Node}
 use Rattle.arena.specs.Expression.{Expression, expressionAt}
 use Rattle.arena.specs.Arena.{Sound, Extends, Small, Placed, placed, full, andThen, addExpression}
-use Rattle.arena.specs.Shift.{within, moved, canMove, shifted}
+use Rattle.shifting.specs.Shift.{within, moved, canMove, shifted}
 use Rattle.arena.specs.Layout.{decode as nodes}
-use Rattle.arena.specs.Inner.{Holds, Memo, Walked, Ready, lifted, shiftedBy, told}
+use Rattle.arena.specs.Inner.{Holds, Memo, Walked, told}
+use Rattle.shifting.specs.Inner.{Ready, lifted, shiftedBy}
 use Rattle.arena.specs.declared.Added.{Added}
 use Rattle.arena.specs.declared.Added.the-variants.{Number, Refused}
 use Rattle.arena.proofs.Nodes.{extends-none, extends-both, extends-longer}
 use Rattle.arena.proofs.Trees.{expression-kept, expression-small}
-use Rattle.arena.proofs.Values.{canMove-cong, shifted-cong, shifted-small}
+use Rattle.shifting.proofs.Values.{canMove-cong, shifted-cong, shifted-small}
 use Rattle.arena.proofs.Growing.{between, add-expression, add-expression-old}
 use Rattle.arena.proofs.Layouts.{length-decode}
 use Rattle.arena.proofs.Walking.{prefixed, prefixed-none, prefixed-more}
-use Rattle.arena.proofs.Lifts.{lifted-high, lifted-some}
-use Rattle.arena.proofs.Shifts.{lifted-within}
+use Rattle.shifting.proofs.Lifts.{lifted-high, lifted-some}
+use Rattle.shifting.proofs.Shifts.{lifted-within}
 use Rattle.merging.specs.Inner.{AllBelow}
 use Rattle.joins.specs.Joining.{allMove, shiftedNumbers}
 use Rattle.joins.specs.Inner.{ReadyAll, ShiftedAll, toldNumbers}

@@ -8,9 +8,9 @@ use lib.ListN.{length, take, drop, length-drop}
 use lib.Seq.{length-take-le}
 use Rattle.arena.specs.Node.{Node}
 use Rattle.arena.specs.Arena.{Sound, Extends, placed}
-use Rattle.arena.specs.Inner.{lifted}
+use Rattle.shifting.specs.Inner.{lifted}
 use Rattle.arena.proofs.Nodes.{extends-both}
-use Rattle.arena.proofs.Shifts.{lifted-within}
+use Rattle.shifting.proofs.Shifts.{lifted-within}
 use Rattle.classes.specs.Class.{Class}
 use Rattle.classes.specs.Group.{total}
 use Rattle.classes.specs.Good.{flat, Distinct, Good}

@@ -11,13 +11,13 @@ use Rattle.laws.proofs.Booleans.{true-not-false, and-left, and-right}
 use Rattle.arena.specs.Node.{Node}
 use Rattle.arena.specs.Expression.{Expression, Expressions, col, lit, op, ∅, _▹_, expressionAt}
 use Rattle.arena.specs.Arena.{Sound, Extends, placed, andThen, addExpression}
-use Rattle.arena.specs.Shift.{canMove, shifted, allShifted, allMove as childrenMove}
-use Rattle.arena.specs.Inner.{lifted}
+use Rattle.shifting.specs.Shift.{canMove, shifted, allShifted, allMove as childrenMove}
+use Rattle.shifting.specs.Inner.{lifted}
 use Rattle.arena.proofs.Nodes.{extends-none, extends-both, extends-longer}
 use Rattle.arena.proofs.Trees.{expression-kept, expression-small, distinct-expressions}
 use Rattle.arena.proofs.Growing.{between, add-expression}
-use Rattle.arena.proofs.Values.{shifted-small}
-use Rattle.arena.proofs.Shifts.{index-moves}
+use Rattle.shifting.proofs.Values.{shifted-small}
+use Rattle.shifting.proofs.Shifts.{index-moves}
 use Rattle.classes.specs.Good.{Distinct}
 use Rattle.merging.specs.Inner.{AllBelow}
 use Rattle.joins.specs.Joining.{allMove, shiftedNumbers}

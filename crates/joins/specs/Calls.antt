@@ -9,7 +9,7 @@ use lib.ListN.{length}
 use Rattle.laws.specs.Tests.{if_then_else_}
 use Rattle.arena.specs.Node.{Node}
 use Rattle.arena.specs.Arena.{Placed, placed, full}
-use Rattle.arena.specs.Shift.{moved}
+use Rattle.shifting.specs.Shift.{moved}
 use Rattle.arena.specs.Layout.{lawful, decode as nodes}
 use Rattle.arena.specs.Calls.{inCells}
 use Rattle.classes.specs.Class.{Class}

@@ -9,7 +9,8 @@ use Rattle.laws.specs.Tests.{if_then_else_}
 use Rattle.arena.specs.Node.{Node}
 use Rattle.arena.specs.Arena.{Extends, Placed, placed, full}
 use Rattle.arena.specs.Layout.{decode as nodes}
-use Rattle.arena.specs.Inner.{Holds, Memo, lifted, shiftedBy}
+use Rattle.arena.specs.Inner.{Holds, Memo}
+use Rattle.shifting.specs.Inner.{lifted, shiftedBy}
 use Rattle.classes.specs.Class.{Class}
 use Rattle.classes.specs.Layout.{decode, membersInside}
 use Rattle.classes.specs.Inner.{Held}

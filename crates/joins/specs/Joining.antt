@@ -8,7 +8,7 @@ use Rattle.laws.specs.Tests.{if_then_else_}
 use Rattle.arena.specs.Node.{Node}
 use Rattle.arena.specs.Expression.{expressionAt}
 use Rattle.arena.specs.Arena.{Placed, placed, andThen, addExpression}
-use Rattle.arena.specs.Shift.{canMove, shifted}
+use Rattle.shifting.specs.Shift.{canMove, shifted}
 use Rattle.classes.specs.Class.{Class}
 use Rattle.classes.specs.Group.{equalCondition}
 use Rattle.classes.specs.Good.{flat}

@@ -6,7 +6,7 @@
 // crates above, which hold an arena and groups that are checked already.
 pub mod joining;
 pub mod kinds;
-pub mod shifting;
+pub mod right_side;
 
 use classes::Changed;
 use classes::Group;

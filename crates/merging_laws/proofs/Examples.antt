@@ -9,7 +9,7 @@ use Rattle.laws.specs.Lists.{table}
 use Rattle.arena.specs.Node.{Node, column, literal, made, madeAfter, sameNode}
 use Rattle.arena.specs.Expression.{expressions, over, those}
 use Rattle.arena.specs.Arena.{andThen, find, placedAt, add, addExpression}
-use Rattle.arena.specs.Shift.{within, moved, canMove, shifted}
+use Rattle.shifting.specs.Shift.{within, moved, canMove, shifted}
 use Rattle.classes.specs.Class.{noConstant, heterogeneous, unknown, known, Class, isUniform, taken, carried, single, merged, isConstant}
 use Rattle.classes.specs.Group.{among, classOf, total, removed, mergedAt, joined, equated, equalCondition}
 use Rattle.classes.specs.Good.{flat}

@@ -17,7 +17,7 @@ use Rattle.laws.proofs.Booleans.{and-left, and-right, and-both}
 use Rattle.laws.proofs.Each.{each-holds}
 use Rattle.arena.specs.Node.{Node}
 use Rattle.arena.specs.Arena.{Sound, Placed, placed, full}
-use Rattle.arena.specs.Shift.{moved}
+use Rattle.shifting.specs.Shift.{moved}
 use Rattle.arena.specs.Layout.{lawful, decode as nodes, encode as cellsOf}
 use Rattle.arena.specs.Calls.{inCells}
 use Rattle.arena.proofs.Layouts.{coded-cells, holds-lawful, encode-holds, lawful-holds, decode-encode as nodes-cells}

@@ -18,9 +18,10 @@ use Rattle.arena.specs.Node.{Node}
 use Rattle.arena.specs.Expression.{Expression, Expressions, col, lit, op, ∅, _▹_, expressionAt}
 use Rattle.arena.specs.Value.{Meaning, Row, value, values}
 use Rattle.arena.specs.Arena.{Sound, Placed, placed, full}
-use Rattle.arena.specs.Shift.{within, moved, canMove, shifted, allShifted, allMove as childrenMove}
+use Rattle.shifting.specs.Shift.{within, moved, canMove, shifted, allShifted, allMove as childrenMove}
 use Rattle.arena.proofs.Nodes.{extends-longer}
-use Rattle.arena.proofs.Values.{value-kept, moved-within}
+use Rattle.arena.proofs.Values.{value-kept}
+use Rattle.shifting.proofs.Values.{moved-within}
 use Rattle.classes.specs.Class.{Class, single}
 use Rattle.classes.specs.Group.{among, classAt, total, removed, length-removed, equalCondition, Together}
 use Rattle.classes.specs.Good.{flat, Good}
