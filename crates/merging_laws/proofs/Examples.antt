@@ -20,7 +20,8 @@ use Rattle.merging.specs.Merging.{droppedAt, dropBelow, keptClasses, meetingBel
 use Rattle.merging.specs.Lent.{nextClass, classLent, classesLent}
 use Rattle.merging.specs.Calls.{madeGroup, refusedGroup, madeOrRefused}
 use Rattle.joins.specs.Kinds.{joinKind}
-use Rattle.joins.specs.Joining.{allMove, shiftedNumbers, shiftedClasses, withRights, equatedAll, joinedClasses, toShift, joinedOver}
+use Rattle.shifted_classes.specs.Shifting.{allMove, shiftedNumbers, shiftedClasses}
+use Rattle.joins.specs.Joining.{withRights, equatedAll, joinedClasses, toShift, joinedOver}
 use Rattle.joins.specs.Calls.{joinPlaced, joinShifted, joinBy}
 
 -- a class without a constant

@@ -35,9 +35,10 @@ use Rattle.merging.specs.Lent.{classesLent}
 use Rattle.merging.specs.Calls.{newNumber, madeGroup, newAnswer, refusedGroup, madeOrRefused}
 use Rattle.merging.proofs.ListCounts.{fits-few, fits-small}
 use Rattle.merging.proofs.Reaching.{from-good}
-use Rattle.joins.specs.Lent.{paired, sidesBelow, pairsLent}
+use Rattle.shifted_classes.specs.Lent.{paired, sidesBelow, pairsLent}
 use Rattle.joins.specs.Kinds.{joinKind}
-use Rattle.joins.specs.Joining.{allMove, shiftedNumbers, toShift, joinedOver}
+use Rattle.shifted_classes.specs.Shifting.{allMove, shiftedNumbers}
+use Rattle.joins.specs.Joining.{toShift, joinedOver}
 use Rattle.joins.specs.Calls.{joinNumber, joinPlaced, joinShifted, joinBy, joinAnswer}
 use Rattle.merging_laws.proofs.FairLent.{list-checked, lent-fair}
 use Rattle.merging_laws.proofs.JoinLaws.{from-fits, SidesBelow, made-to, made-good}

@@ -40,11 +40,12 @@ use Rattle.merging.specs.Calls.{madeGroup, refusedGroup, madeOrRefused}
 use Rattle.merging.specs.Inner.{Fair, AllBelow}
 use Rattle.merging.proofs.Overlaps.{length-without, extended-from, Meets, bridge-keeps, meets-low, Within}
 use Rattle.merging.proofs.Reaching.{Sane, sane-fair, from-good, all-append, good-sane, flat-below}
-use Rattle.joins.specs.Joining.{allMove, shiftedNumbers, shiftedClasses, withRights, equatedAll, joinedClasses, toShift, joinedOver}
+use Rattle.shifted_classes.specs.Shifting.{allMove, shiftedNumbers, shiftedClasses}
+use Rattle.joins.specs.Joining.{withRights, equatedAll, joinedClasses, toShift, joinedOver}
 use Rattle.joins.specs.Calls.{joinPlaced, joinShifted}
-use Rattle.joins.proofs.ShiftOnce.{each-moves, ShiftedTo, numbers-shifted}
-use Rattle.joins.proofs.Reaching.{sane-shifted}
-use Rattle.joins.proofs.ShiftedParts.{length-shifted}
+use Rattle.shifted_classes.proofs.ShiftOnce.{each-moves, ShiftedTo, numbers-shifted}
+use Rattle.shifted_classes.proofs.Reaching.{sane-shifted}
+use Rattle.shifted_classes.proofs.ShiftedParts.{length-shifted}
 use Rattle.merging_laws.proofs.BridgingTheorems.{new-agrees}
 
 -- ---- `new` makes neither more members nor more classes

@@ -22,7 +22,7 @@ use Rattle.merging.specs.Extending.{missing, extended, pushed, classFrom}
 use Rattle.merging.specs.Inner.{AllBelow}
 use Rattle.merging.proofs.PushedClass.{from-more, from-none, class-few}
 use Rattle.merging.proofs.ListCounts.{total-append}
-use Rattle.joins.specs.Joining.{shiftedClasses}
+use Rattle.shifted_classes.specs.Shifting.{shiftedClasses}
 
 -- ---- what stands in the struct
 

@@ -17,8 +17,8 @@ use Rattle.classes.specs.Good.{flat, Distinct, Good}
 use Rattle.classes.proofs.Places.{All, length-flat}
 use Rattle.merging.specs.Inner.{Fair, AllBelow}
 use Rattle.merging.proofs.Reaching.{Sane, sane-fair, sane-from, members-from, distinct-take, distinct-drop, below-take, below-drop, all-append, good-sane, flat-below}
-use Rattle.joins.specs.Joining.{allMove, shiftedNumbers, shiftedClasses}
-use Rattle.joins.proofs.ShiftOnce.{lifted-injective, stand-kept, ShiftedTo, numbers-shifted, stand-apart}
+use Rattle.shifted_classes.specs.Shifting.{allMove, shiftedNumbers, shiftedClasses}
+use Rattle.shifted_classes.proofs.ShiftOnce.{lifted-injective, stand-kept, ShiftedTo, numbers-shifted, stand-apart}
 
 -- classes built from numbers of the arena are such as a fair list has
 pub sane-shifted : (os : List Node) (rs : List Class) (ks : List ℕ) → AllBelow (length os) ks → All (Sane os) (shiftedClasses os rs ks)

@@ -1,4 +1,4 @@
--- `joins::right_side::shift_members` meets its contract.
+-- `shifted_classes::right_side::shift_members` meets its contract.
 use Prim.Native.Nat.{ℕ, _-_, _<_, _+_}
 use mathlib.Core.List.{List, [], _∷_, _++_}
 use mathlib.Core.Path.{_≡_, sym, _∙_, subst}
@@ -8,12 +8,12 @@ use lib.ListN.{length, take, set, length-set, length-replicate}
 use lib.Seq.{take-suc-set}
 use Rattle.classes.specs.Good.{flat}
 use Rattle.classes.specs.Layout.{decode}
-use Rattle.joins.proofs.ShiftedParts.{member-flat, length-used}
-use Rattle.joins.specs.Inner.{ShiftedAll}
-use Rattle.joins.proofs.Placings.{NumbersTo, walk-begin, walk-ready, walk-more, walk-fail, walk-end}
+use Rattle.shifted_classes.proofs.ShiftedParts.{member-flat, length-used}
+use Rattle.shifted_classes.specs.Inner.{ShiftedAll}
+use Rattle.shifted_classes.proofs.Placings.{NumbersTo, walk-begin, walk-ready, walk-more, walk-fail, walk-end}
 use borrow.Author.Needs.{needs}
-use Rattle.joins.proofs.right_side.shift_members.Statement.{statement}
-use Rattle.joins.proofs.right_side.shift_members.Tie as tie
+use Rattle.shifted_classes.proofs.right_side.shift_members.Statement.{statement}
+use Rattle.shifted_classes.proofs.right_side.shift_members.Tie as tie
 
 abbrev Inv-loop : tie.InvT-loop
 Inv-loop cells₀ memo₀ lift g n members₀ k₀ cells memo members k = (n ≡ g .used) × (length members ≡ 256) × NumbersTo lift cells₀ cells memo (flat (decode g)) (take k members) k

@@ -1,4 +1,4 @@
--- `joins::right_side::members_move` meets its contract.
+-- `shifted_classes::right_side::members_move` meets its contract.
 use Prim.Native.Nat.{ℕ, _-_, _≤_, _<_}
 use mathlib.Core.Bool.{Bool, true, false}
 use mathlib.Core.List.{List}
@@ -11,10 +11,10 @@ use Rattle.laws.proofs.Each.{each-none, each-more, each-stops, each-ends}
 use Rattle.classes.specs.Good.{flat}
 use Rattle.classes.specs.Layout.{decode}
 use Rattle.classes.specs.declared.Group.{Group}
-use Rattle.joins.proofs.ShiftedParts.{member-flat, length-used}
+use Rattle.shifted_classes.proofs.ShiftedParts.{member-flat, length-used}
 use borrow.Author.Needs.{needs}
-use Rattle.joins.proofs.right_side.members_move.Statement.{statement}
-use Rattle.joins.proofs.right_side.members_move.Tie as tie
+use Rattle.shifted_classes.proofs.right_side.members_move.Statement.{statement}
+use Rattle.shifted_classes.proofs.right_side.members_move.Tie as tie
 
 -- member k can move, by the table
 abbrev Moves : List Bool → Group → ℕ → Bool

@@ -1,4 +1,4 @@
--- `joins::right_side::add_shifted` meets its contract.
+-- `shifted_classes::right_side::add_shifted` meets its contract.
 use Prim.Native.Nat.{_-_, _≤_, _<_}
 use mathlib.Core.Path.{_≡_}
 use native.Mathlib.Omega.{arith}
@@ -7,10 +7,10 @@ use Rattle.arena.specs.Layout.{decode as nodes}
 use Rattle.classes.specs.Group.{total}
 use Rattle.classes.specs.Layout.{decode}
 use Rattle.classes.proofs.Codec.{size-is}
-use Rattle.joins.proofs.ShiftedParts.{AddedTo, add-begins, add-room, add-next, add-ends, part-inside, part-next, part-below, total-none}
+use Rattle.shifted_classes.proofs.ShiftedParts.{AddedTo, add-begins, add-room, add-next, add-ends, part-inside, part-next, part-below, total-none}
 use borrow.Author.Needs.{needs}
-use Rattle.joins.proofs.right_side.add_shifted.Statement.{statement}
-use Rattle.joins.proofs.right_side.add_shifted.Tie as tie
+use Rattle.shifted_classes.proofs.right_side.add_shifted.Statement.{statement}
+use Rattle.shifted_classes.proofs.right_side.add_shifted.Tie as tie
 
 abbrev Inv-loop : tie.InvT-loop
 Inv-loop cells members right n out₀ start₀ j₀ out start j = (n ≡ right .count) × (j ≤ n) × (start ≡ total (take j (decode right))) × AddedTo (nodes cells) out₀ right members j out

@@ -32,8 +32,8 @@ use Rattle.arena.proofs.Walking.{prefixed, prefixed-none, prefixed-more}
 use Rattle.shifting.proofs.Lifts.{lifted-high, lifted-some}
 use Rattle.shifting.proofs.Shifts.{lifted-within}
 use Rattle.merging.specs.Inner.{AllBelow}
-use Rattle.joins.specs.Joining.{allMove, shiftedNumbers}
-use Rattle.joins.specs.Inner.{ReadyAll, ShiftedAll, toldNumbers}
+use Rattle.shifted_classes.specs.Shifting.{allMove, shiftedNumbers}
+use Rattle.shifted_classes.specs.Inner.{ReadyAll, ShiftedAll, toldNumbers}
 
 -- ---- the test
 

@@ -1,4 +1,4 @@
--- `joins::right_side::add_class_from` meets its contract.
+-- `shifted_classes::right_side::add_class_from` meets its contract.
 use Prim.Native.Nat.{_+_, _-_, _≤_}
 use mathlib.Core.Path.{_≡_, _∙_}
 use native.Mathlib.Omega.{arith}
@@ -6,10 +6,10 @@ use lib.ListN.{length, getD, take, drop, length-drop}
 use lib.Seq.{length-take-le, getD-take, getD-drop}
 use Rattle.arena.specs.Layout.{decode as nodes}
 use Rattle.arena.proofs.Layouts.{length-decode}
-use Rattle.joins.proofs.ShiftedParts.{PushedTo, push-begins, push-asks, push-more, push-ends}
+use Rattle.shifted_classes.proofs.ShiftedParts.{PushedTo, push-begins, push-asks, push-more, push-ends}
 use borrow.Author.Needs.{needs}
-use Rattle.joins.proofs.right_side.add_class_from.Statement.{statement}
-use Rattle.joins.proofs.right_side.add_class_from.Tie as tie
+use Rattle.shifted_classes.proofs.right_side.add_class_from.Statement.{statement}
+use Rattle.shifted_classes.proofs.right_side.add_class_from.Tie as tie
 
 abbrev Inv-loop : tie.InvT-loop
 Inv-loop cells start n members next₀ k₀ next k = (k ≤ n) × PushedTo (nodes cells) next₀ (take n (drop start members)) k next

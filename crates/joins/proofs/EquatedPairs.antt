@@ -1,58 +1,18 @@
--- Lent pairs by their places: their right sides, and pairs with other right sides.
-use Prim.Native.Nat.{ℕ, zero, suc, _+_, _*_, _/_, _<_, _≤_}
+-- Pairs with other right sides by their places, and pairs as equal conditions from a place on.
+use Prim.Native.Nat.{ℕ, zero, suc, _+_, _<_, _≤_}
 use mathlib.Core.Bool.{true, false}
 use mathlib.Core.List.{List, [], _∷_}
 use mathlib.Core.Path.{_≡_, refl, ap, _∙_}
 use native.Mathlib.Numerals.{add-one}
 use native.Mathlib.Omega.{arith}
-use lib.ListN.{length, getD, drop, length-map, drop-of-length-le, List·getD-map}
+use lib.ListN.{length, getD, drop, drop-of-length-le}
 use lib.Seq.{drop-cons}
-use Rattle.laws.proofs.Table.{length-table, getD-table}
 use Rattle.arena.specs.Node.{Node}
 use Rattle.classes.specs.Class.{Class}
 use Rattle.classes.specs.Group.{equalCondition}
 use Rattle.classes.specs.Steps.{fits}
-use Rattle.merging.specs.Inner.{AllBelow}
-use Rattle.joins.specs.Lent.{pairsLent}
 use Rattle.joins.specs.Joining.{withRights, equatedAll}
-use Rattle.joins.specs.Inner.{rightsLent}
-
--- no pair
-abbrev pub nowhere : ℕ × ℕ
-nowhere = (0, 0)
-
-module _ (numbers : List ℕ) where
-  -- half as many pairs as numbers
-  pub length-pairs : length (pairsLent numbers) ≡ length numbers / 2
-  unfolding pairsLent
-  length-pairs = length-table (λ k. (getD numbers (2 * k) 0, getD numbers (2 * k + 1) 0)) (length numbers / 2)
-
-  -- both sides of pair k
-  pub pair-at : (k : ℕ) → k < length numbers / 2 → getD (pairsLent numbers) k nowhere ≡ (getD numbers (2 * k) 0, getD numbers (2 * k + 1) 0)
-  unfolding pairsLent
-  pair-at k l = getD-table (λ k. (getD numbers (2 * k) 0, getD numbers (2 * k + 1) 0)) (length numbers / 2) k nowhere l
-
-  -- as many right sides
-  pub length-rights : length (rightsLent numbers) ≡ length numbers / 2
-  unfolding rightsLent
-  length-rights = length-map (pairsLent numbers) (λ (p : ℕ × ℕ). p .1) ∙ length-pairs
-
-  -- right side k
-  pub right-at : (k : ℕ) → k < length numbers / 2 → getD (rightsLent numbers) k 0 ≡ getD numbers (2 * k + 1) 0
-  unfolding rightsLent
-  right-at k l = List·getD-map (λ (p : ℕ × ℕ). p .1) (pairsLent numbers) k nowhere ∙ ap (λ (p : ℕ × ℕ). p .1) (pair-at k l)
-
-  -- both sides are places of what is lent
-  pub right-inside : (k : ℕ) → k < length numbers / 2 → 2 * k + 1 < length numbers
-  right-inside k l = omega arith
-
-  -- the right sides are below what all numbers are below
-  pub rights-below : (n : ℕ) → AllBelow n numbers → AllBelow n (rightsLent numbers)
-  rights-below n h k l =
-      let p : k < length numbers / 2 = omega (arith, length-rights) in
-      let e = right-at k p in
-      let b = h (2 * k + 1) (right-inside k p) in
-      omega arith
+use Rattle.shifted_classes.proofs.PairPlaces.{nowhere}
 
 -- pairs with other right sides, as many
 pub length-with : (ps : List (ℕ × ℕ)) (ks : List ℕ) → length ks ≡ length ps → length (withRights ps ks) ≡ length ps

@@ -1,9 +1,9 @@
--- `joins::right_side::lift_of_size` meets its contract.
+-- `shifted_classes::right_side::lift_of_size` meets its contract.
 use native.Mathlib.Omega.{arith}
-use Rattle.joins.proofs.Placings.{size-over, size-moves}
+use Rattle.shifted_classes.proofs.Placings.{size-over, size-moves}
 use borrow.Author.Needs.{needs}
-use Rattle.joins.proofs.right_side.lift_of_size.Statement.{statement}
-use Rattle.joins.proofs.right_side.lift_of_size.Tie as tie
+use Rattle.shifted_classes.proofs.right_side.lift_of_size.Statement.{statement}
+use Rattle.shifted_classes.proofs.right_side.lift_of_size.Tie as tie
 
 returns : tie.Need-returns
 returns c = (search needs, size-over (c .before .args .size) (c .if1 .taken))

@@ -1,8 +1,8 @@
--- `joins::right_side::open_empty` meets its contract.
-use Rattle.joins.proofs.ShiftedParts.{opened-empty}
+-- `shifted_classes::right_side::open_empty` meets its contract.
+use Rattle.shifted_classes.proofs.ShiftedParts.{opened-empty}
 use borrow.Author.Needs.{needs}
-use Rattle.joins.proofs.right_side.open_empty.Statement.{statement}
-use Rattle.joins.proofs.right_side.open_empty.Tie as tie
+use Rattle.shifted_classes.proofs.right_side.open_empty.Statement.{statement}
+use Rattle.shifted_classes.proofs.right_side.open_empty.Tie as tie
 
 add-next : tie.Need-add-next
 add-next c = search needs

@@ -1,4 +1,4 @@
--- `joins::right_side::rights_move` meets its contract.
+-- `shifted_classes::right_side::rights_move` meets its contract.
 use Prim.Native.Nat.{ℕ, _-_, _/_, _≤_, _<_}
 use mathlib.Core.Bool.{Bool, true, false}
 use mathlib.Core.List.{List}
@@ -8,11 +8,11 @@ use borrow.Author.Tests.{not-true, not-false}
 use lib.ListN.{length, getD}
 use Rattle.laws.specs.Tests.{each}
 use Rattle.laws.proofs.Each.{each-none, each-more, each-stops, each-ends}
-use Rattle.joins.specs.Inner.{rightsLent}
-use Rattle.joins.proofs.PairPlaces.{length-rights, right-at, right-inside}
+use Rattle.shifted_classes.specs.Inner.{rightsLent}
+use Rattle.shifted_classes.proofs.PairPlaces.{length-rights, right-at, right-inside}
 use borrow.Author.Needs.{needs}
-use Rattle.joins.proofs.right_side.rights_move.Statement.{statement}
-use Rattle.joins.proofs.right_side.rights_move.Tie as tie
+use Rattle.shifted_classes.proofs.right_side.rights_move.Statement.{statement}
+use Rattle.shifted_classes.proofs.right_side.rights_move.Tie as tie
 
 -- right side k can move, by the table
 abbrev Moves : List Bool → List ℕ → ℕ → Bool

@@ -23,8 +23,8 @@ ghost use Rattle.classes.specs.Layout.{encode, decode};
 ghost use Rattle.classes.specs.Inner.{Coded};
 ghost use Rattle.merging.specs.Extending.{classFrom};
 ghost use Rattle.merging.specs.Inner.{AllBelow};
-ghost use Rattle.joins.specs.Joining.{shiftedClasses};
-ghost use Rattle.joins.specs.Inner.{rightsLent, ReadyAll, ShiftedAll};
+ghost use Rattle.shifted_classes.specs.Shifting.{shiftedClasses};
+ghost use Rattle.shifted_classes.specs.Inner.{rightsLent, ReadyAll, ShiftedAll};
 
 // The lift of a shift by a number of columns: 65,535 more, and 200,000 for one that no index can follow.
 pub fn lift_of_size(size: usize) -> u32

@@ -20,7 +20,7 @@ use Rattle.shifting.proofs.Values.{shifted-small}
 use Rattle.shifting.proofs.Shifts.{index-moves}
 use Rattle.classes.specs.Good.{Distinct}
 use Rattle.merging.specs.Inner.{AllBelow}
-use Rattle.joins.specs.Joining.{allMove, shiftedNumbers}
+use Rattle.shifted_classes.specs.Shifting.{allMove, shiftedNumbers}
 
 -- two indices that can move don't move to one place
 abbrev pub Injective : (ℕ → Option ℕ) → Type 0

@@ -1,15 +1,15 @@
--- `joins::right_side::shift_rights` meets its contract.
+-- `shifted_classes::right_side::shift_rights` meets its contract.
 use Prim.Native.Nat.{ℕ, _-_, _/_, _<_}
 use mathlib.Core.List.{List, [], _∷_, _++_}
 use mathlib.Core.Path.{_≡_}
 use native.Mathlib.Omega.{arith}
 use lib.ListN.{length}
-use Rattle.joins.specs.Inner.{rightsLent}
-use Rattle.joins.proofs.PairPlaces.{length-rights, right-at, right-inside}
-use Rattle.joins.proofs.Placings.{NumbersTo, walk-begin, walk-ready, walk-more, walk-fail, walk-end}
+use Rattle.shifted_classes.specs.Inner.{rightsLent}
+use Rattle.shifted_classes.proofs.PairPlaces.{length-rights, right-at, right-inside}
+use Rattle.shifted_classes.proofs.Placings.{NumbersTo, walk-begin, walk-ready, walk-more, walk-fail, walk-end}
 use borrow.Author.Needs.{needs}
-use Rattle.joins.proofs.right_side.shift_rights.Statement.{statement}
-use Rattle.joins.proofs.right_side.shift_rights.Tie as tie
+use Rattle.shifted_classes.proofs.right_side.shift_rights.Statement.{statement}
+use Rattle.shifted_classes.proofs.right_side.shift_rights.Tie as tie
 
 abbrev Inv-loop : tie.InvT-loop
 Inv-loop cells₀ memo₀ pairs lift n k₀ cells memo k = (n ≡ length pairs / 2) × ((done : List ℕ) × NumbersTo lift cells₀ cells memo (rightsLent pairs) done k)
