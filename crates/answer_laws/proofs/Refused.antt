@@ -43,10 +43,10 @@ use Rattle.projection_laws.proofs.ProjectedCalls.{expr-refused}
 use Rattle.projection_laws.proofs.GroupHanded.{refusal-keeps-project}
 use Rattle.orderings.specs.declared.Listed.{Listed}
 use Rattle.orderings.specs.declared.Orderings.{Orderings}
-use Rattle.orderings.specs.declared.OptionsAre.{OptionsAre}
-use Rattle.orderings.specs.declared.OptionsAre.the-variants.{Are, Absent as Options-Absent, Refused as Options-Refused}
-use Rattle.orderings.specs.declared.PartialIs.{PartialIs}
-use Rattle.orderings.specs.declared.PartialIs.the-variants.{Yes as Partial-Yes, No as Partial-No, Refused as Partial-Refused}
+use Rattle.ordering_questions.specs.declared.OptionsAre.{OptionsAre}
+use Rattle.ordering_questions.specs.declared.OptionsAre.the-variants.{Are, Absent as Options-Absent, Refused as Options-Refused}
+use Rattle.ordering_questions.specs.declared.PartialIs.{PartialIs}
+use Rattle.ordering_questions.specs.declared.PartialIs.the-variants.{Yes as Partial-Yes, No as Partial-No, Refused as Partial-Refused}
 use Rattle.ordering_joins.specs.declared.Output.{Output}
 use Rattle.ordering_joins.specs.Calls.{offsetAnswer}
 use Rattle.ordering_laws.proofs.OffsetLaws.{offset-keeps}

@@ -1,17 +1,17 @@
--- `orderings::questions::options_in` meets its contract.
+-- `ordering_questions::questions::options_in` meets its contract.
 use Prim.Native.Nat.{_-_, _≤_}
 use mathlib.Core.Path.{_≡_, refl, sym, ap, _∙_}
 use borrow.Author.Needs.{needs}
 use lib.ListN.{drop}
-use Rattle.orderings.specs.Lists.{getOptions}
+use Rattle.ordering_questions.specs.Questions.{getOptions}
 use Rattle.orderings.specs.Layout.{decode}
-use Rattle.orderings.specs.Calls.{optionsAre}
-use Rattle.orderings.proofs.Leads.{options-hit, options-on, options-end}
-use Rattle.orderings.proofs.questions.options_in.Statement.{statement}
-use Rattle.orderings.proofs.questions.options_in.Tie as tie
-use Rattle.orderings.proofs.questions.options_in.Reads as reads
-use Rattle.orderings.proofs.questions.options_in.Lts as lts
-use Rattle.orderings.proofs.questions.leading.Reads as leading-reads
+use Rattle.ordering_questions.specs.Calls.{optionsAre}
+use Rattle.ordering_questions.proofs.Leads.{options-hit, options-on, options-end}
+use Rattle.ordering_questions.proofs.questions.options_in.Statement.{statement}
+use Rattle.ordering_questions.proofs.questions.options_in.Tie as tie
+use Rattle.ordering_questions.proofs.questions.options_in.Reads as reads
+use Rattle.ordering_questions.proofs.questions.options_in.Lts as lts
+use Rattle.ordering_questions.proofs.questions.leading.Reads as leading-reads
 
 abbrev Inv-loop : tie.InvT-loop
 Inv-loop g e n i₀ i = (i ≤ n) × ((n ≡ g .count) × (getOptions (decode g) e ≡ getOptions (drop i (decode g)) e))

@@ -1,12 +1,12 @@
--- `orderings::questions::leads_both` meets its contract.
+-- `ordering_questions::questions::leads_both` meets its contract.
 use mathlib.Core.Path.{sym, _∙_}
 use borrow.Author.Needs.{needs}
 use borrow.Author.Tests.{not-true, not-false}
-use Rattle.orderings.proofs.questions.leads_both.Statement.{statement}
-use Rattle.orderings.proofs.questions.leads_both.Tie as tie
-use Rattle.orderings.proofs.questions.leads_both.Reads as reads
-use Rattle.orderings.proofs.questions.leads_both.Lts as lts
-use Rattle.orderings.proofs.questions.leads_with.Reads as leads-with-reads
+use Rattle.ordering_questions.proofs.questions.leads_both.Statement.{statement}
+use Rattle.ordering_questions.proofs.questions.leads_both.Tie as tie
+use Rattle.ordering_questions.proofs.questions.leads_both.Reads as reads
+use Rattle.ordering_questions.proofs.questions.leads_both.Lts as lts
+use Rattle.ordering_questions.proofs.questions.leads_with.Reads as leads-with-reads
 
 leads-with-requires : tie.Need-leads-with-requires
 leads-with-requires c κs = search needs

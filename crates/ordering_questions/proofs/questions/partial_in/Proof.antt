@@ -1,16 +1,16 @@
--- `orderings::questions::partial_in` meets its contract.
+-- `ordering_questions::questions::partial_in` meets its contract.
 use Prim.Native.Nat.{ℕ}
 use mathlib.Core.Bool.{Bool, true, false, _&&_}
 use mathlib.Core.Path.{_≡_, sym, _∙_}
 use borrow.Author.Needs.{needs}
-use Rattle.orderings.specs.Lists.{leadsWith, partialConst}
+use Rattle.ordering_questions.specs.Questions.{leadsWith, partialConst}
 use Rattle.orderings.specs.Layout.{decode}
 use Rattle.orderings.specs.declared.Orderings.{Orderings}
-use Rattle.orderings.proofs.questions.partial_in.Statement.{statement}
-use Rattle.orderings.proofs.questions.partial_in.Tie as tie
-use Rattle.orderings.proofs.questions.partial_in.Reads as reads
-use Rattle.orderings.proofs.questions.partial_in.Lts as lts
-use Rattle.orderings.proofs.questions.leads_both.Reads as leads-both-reads
+use Rattle.ordering_questions.proofs.questions.partial_in.Statement.{statement}
+use Rattle.ordering_questions.proofs.questions.partial_in.Tie as tie
+use Rattle.ordering_questions.proofs.questions.partial_in.Reads as reads
+use Rattle.ordering_questions.proofs.questions.partial_in.Lts as lts
+use Rattle.ordering_questions.proofs.questions.leads_both.Reads as leads-both-reads
 
 -- an expression leads with one of two options and with the other
 abbrev Both : Orderings → ℕ → ℕ → ℕ → Bool

@@ -1,17 +1,17 @@
--- `orderings::questions::leads_with` meets its contract.
+-- `ordering_questions::questions::leads_with` meets its contract.
 use Prim.Native.Nat.{_-_, _≤_}
 use mathlib.Core.Path.{_≡_, refl, sym, _∙_}
 use borrow.Author.Needs.{needs}
 use lib.ListN.{drop}
-use Rattle.orderings.specs.Lists.{leadsWith}
+use Rattle.ordering_questions.specs.Questions.{leadsWith}
 use Rattle.orderings.specs.Layout.{decode}
-use Rattle.orderings.proofs.Leads.{leads-hit, leads-on, leads-end}
-use Rattle.orderings.proofs.questions.leads_with.Statement.{statement}
-use Rattle.orderings.proofs.questions.leads_with.Tie as tie
-use Rattle.orderings.proofs.questions.leads_with.Reads as reads
-use Rattle.orderings.proofs.questions.leads_with.Lts as lts
-use Rattle.orderings.proofs.questions.leading.Reads as leading-reads
-use Rattle.orderings.proofs.questions.led_by.Reads as led-by-reads
+use Rattle.ordering_questions.proofs.Leads.{leads-hit, leads-on, leads-end}
+use Rattle.ordering_questions.proofs.questions.leads_with.Statement.{statement}
+use Rattle.ordering_questions.proofs.questions.leads_with.Tie as tie
+use Rattle.ordering_questions.proofs.questions.leads_with.Reads as reads
+use Rattle.ordering_questions.proofs.questions.leads_with.Lts as lts
+use Rattle.ordering_questions.proofs.questions.leading.Reads as leading-reads
+use Rattle.ordering_questions.proofs.questions.led_by.Reads as led-by-reads
 
 abbrev Inv-loop : tie.InvT-loop
 Inv-loop g e options n i₀ i = (i ≤ n) × ((n ≡ g .count) × (leadsWith (decode g) e options ≡ leadsWith (drop i (decode g)) e options))

@@ -10,12 +10,13 @@ use borrow.Author.Tests.{eq-eqb, ne-eqb}
 use lib.Dec.{eqb}
 use lib.ListN.{getD, drop, drop-of-length-le}
 use lib.Seq.{drop-cons}
 use Rattle.orderings.specs.Ordering.{exprOf, optionsOf}
-use Rattle.orderings.specs.Lists.{orderingAt, getOptions, leadsWith}
+use Rattle.orderings.specs.Lists.{orderingAt}
+use Rattle.ordering_questions.specs.Questions.{getOptions, leadsWith}
 use Rattle.orderings.specs.Layout.{decode}
 use Rattle.orderings.specs.Inner.{Held}
 use Rattle.orderings.specs.declared.Orderings.{Orderings}
 use Rattle.orderings.proofs.Codec.{key-is, length-decode, placeIn, place-size, place-keys, good-at}
 
 -- the key that leads an ordering, as it is read
 pub leading-read : (g : Orderings) → Held g → (i : ℕ) → i < g .count → getD (placeIn g i .keys) 0 0 ≡ getD (orderingAt (decode g) i) 0 0

@@ -1,16 +1,17 @@
 // The two questions on a list that is checked already.
 use crate::OptionsAre;
-use crate::Orderings;
+use orderings::Orderings;
 ghost use mathlib.Core.Bool.{_&&_};
 ghost use mathlib.Core.Path.{_≡_};
 ghost use Prim.Native.Nat.{_<_};
 ghost use lib.Dec.{eqb};
 ghost use lib.ListN.{getD};
 ghost use Rattle.orderings.specs.Ordering.{exprOf, optionsOf};
-ghost use Rattle.orderings.specs.Lists.{orderingAt, getOptions, leadsWith, partialConst};
+ghost use Rattle.orderings.specs.Lists.{orderingAt};
+ghost use Rattle.ordering_questions.specs.Questions.{getOptions, leadsWith, partialConst};
 ghost use Rattle.orderings.specs.Layout.{decode};
-ghost use Rattle.orderings.specs.Calls.{optionsAre};
+ghost use Rattle.ordering_questions.specs.Calls.{optionsAre};
 ghost use Rattle.orderings.specs.Inner.{Held};
 
 // A key as a number of an expression's width.
 fn wide_key(key: u16) -> u32

@@ -1,13 +1,13 @@
--- `orderings::questions::leading` meets its contract.
+-- `ordering_questions::questions::leading` meets its contract.
 use mathlib.Core.Path.{_∙_}
 use borrow.Author.Needs.{needs}
 use Rattle.orderings.proofs.Codec.{count-few}
-use Rattle.orderings.proofs.Leads.{leading-read}
-use Rattle.orderings.proofs.questions.leading.Statement.{statement}
-use Rattle.orderings.proofs.questions.leading.Tie as tie
-use Rattle.orderings.proofs.questions.leading.Reads as reads
-use Rattle.orderings.proofs.questions.leading.Lts as lts
-use Rattle.orderings.proofs.questions.wide_key.Reads as wide-key-reads
+use Rattle.ordering_questions.proofs.Leads.{leading-read}
+use Rattle.ordering_questions.proofs.questions.leading.Statement.{statement}
+use Rattle.ordering_questions.proofs.questions.leading.Tie as tie
+use Rattle.ordering_questions.proofs.questions.leading.Reads as reads
+use Rattle.ordering_questions.proofs.questions.leading.Lts as lts
+use Rattle.ordering_questions.proofs.questions.wide_key.Reads as wide-key-reads
 
 mul-o : tie.Need-mul-o
 mul-o c = let b = count-few (c .args .t1) (c .pre .0) in search needs

@@ -1,11 +1,11 @@
--- `orderings::questions::led_by` meets its contract.
+-- `ordering_questions::questions::led_by` meets its contract.
 use Prim.Native.Nat.{_/_}
 use borrow.Author.Tests.{eq-eqb, ne-eqb}
 use Rattle.orderings.specs.Ordering.{exprOf, optionsOf}
-use Rattle.orderings.proofs.questions.led_by.Statement.{statement}
-use Rattle.orderings.proofs.questions.led_by.Tie as tie
-use Rattle.orderings.proofs.questions.led_by.Reads as reads
-use Rattle.orderings.proofs.questions.led_by.Lts as lts
+use Rattle.ordering_questions.proofs.questions.led_by.Statement.{statement}
+use Rattle.ordering_questions.proofs.questions.led_by.Tie as tie
+use Rattle.ordering_questions.proofs.questions.led_by.Reads as reads
+use Rattle.ordering_questions.proofs.questions.led_by.Lts as lts
 
 returns : tie.Need-returns
 unfolding exprOf

@@ -1,22 +1,23 @@
--- `orderings::get_options` meets its contract.
+-- `ordering_questions::get_options` meets its contract.
 use mathlib.Core.Path.{sym, ap, _∙_}
 use native.Mathlib.Omega.{arith}
 use borrow.Author.Needs.{needs}
 use Rattle.arena.specs.Layout.{count}
 use Rattle.orderings.specs.Layout.{decode}
-use Rattle.orderings.specs.Calls.{optionsAnswer}
-use Rattle.orderings.specs.declared.OptionsAre.the-variants.{Refused}
-use Rattle.orderings.proofs.Asking.{ask-refused, ask-passed, options-unknown, options-known}
+use Rattle.ordering_questions.specs.Calls.{optionsAnswer}
+use Rattle.ordering_questions.specs.declared.OptionsAre.the-variants.{Refused}
+use Rattle.orderings.proofs.Asking.{ask-refused, ask-passed}
+use Rattle.ordering_questions.proofs.Asking.{options-unknown, options-known}
 use Rattle.orderings.proofs.ListChecks.{sized}
 use Rattle.orderings.proofs.ListHeld.{number-held}
-use Rattle.orderings.proofs.get_options.Statement.{statement}
-use Rattle.orderings.proofs.get_options.Tie as tie
-use Rattle.orderings.proofs.get_options.Reads as reads
-use Rattle.orderings.proofs.get_options.Lts as lts
+use Rattle.ordering_questions.proofs.get_options.Statement.{statement}
+use Rattle.ordering_questions.proofs.get_options.Tie as tie
+use Rattle.ordering_questions.proofs.get_options.Reads as reads
+use Rattle.ordering_questions.proofs.get_options.Lts as lts
 use Rattle.arena.proofs.cells.node_count.Reads as node-count-reads
 use Rattle.arena.proofs.cells.wide.Reads as wide-reads
 use Rattle.orderings.proofs.checking.check_list.Reads as check-list-reads
-use Rattle.orderings.proofs.questions.options_in.Reads as options-in-reads
+use Rattle.ordering_questions.proofs.questions.options_in.Reads as options-in-reads
 
 check-list-requires : tie.Need-check-list-requires
 check-list-requires c κs = search needs
