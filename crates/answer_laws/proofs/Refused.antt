@@ -10,14 +10,16 @@ use lib.ListN.{length}
 use Rattle.laws.specs.Tests.{if_then_else_}
 use Rattle.arena.specs.Node.{Node}
 use Rattle.arena.specs.Arena.{Sound}
-use Rattle.arena.specs.Calls.{addedNumber, lent, addColumn, addLiteral, addOperation, addOffset}
+use Rattle.arena.specs.Calls.{addedNumber, lent, addColumn, addLiteral, addOperation}
+use Rattle.shifting.specs.Calls.{addOffset}
 use Rattle.arena.specs.declared.Added.{Added}
 use Rattle.arena.specs.declared.Added.the-variants.{Number as Added-Number, Refused as Added-Refused}
 use Rattle.arena.specs.declared.Read.{Read}
 use Rattle.arena.specs.declared.Read.the-variants.{Column as Read-Column, Literal as Read-Literal, Operation as Read-Operation, Refused as Read-Refused}
 use Rattle.arena.specs.declared.Child.{Child}
 use Rattle.arena.specs.declared.Child.the-variants.{Number as Child-Number, Absent as Child-Absent, Refused as Child-Refused}
-use Rattle.arena.proofs.Promises.{Kept, column-kept, literal-kept, operation-kept, offset-kept, lent-refused}
+use Rattle.arena.proofs.Promises.{Kept, column-kept, literal-kept, operation-kept, lent-refused}
+use Rattle.shifting.proofs.Promises.{offset-kept}
 use Rattle.classes.specs.declared.Group.{Group}
 use Rattle.classes.specs.declared.Changed.{Changed}
 use Rattle.classes.specs.declared.ClassIs.{ClassIs}
@@ -41,10 +43,10 @@ use Rattle.projection_laws.proofs.ProjectedCalls.{expr-refused}
 use Rattle.projection_laws.proofs.GroupHanded.{refusal-keeps-project}
 use Rattle.orderings.specs.declared.Listed.{Listed}
 use Rattle.orderings.specs.declared.Orderings.{Orderings}
-use Rattle.orderings.specs.declared.OptionsAre.{OptionsAre}
-use Rattle.orderings.specs.declared.OptionsAre.the-variants.{Are, Absent as Options-Absent, Refused as Options-Refused}
-use Rattle.orderings.specs.declared.PartialIs.{PartialIs}
-use Rattle.orderings.specs.declared.PartialIs.the-variants.{Yes as Partial-Yes, No as Partial-No, Refused as Partial-Refused}
+use Rattle.ordering_questions.specs.declared.OptionsAre.{OptionsAre}
+use Rattle.ordering_questions.specs.declared.OptionsAre.the-variants.{Are, Absent as Options-Absent, Refused as Options-Refused}
+use Rattle.ordering_questions.specs.declared.PartialIs.{PartialIs}
+use Rattle.ordering_questions.specs.declared.PartialIs.the-variants.{Yes as Partial-Yes, No as Partial-No, Refused as Partial-Refused}
 use Rattle.ordering_joins.specs.declared.Output.{Output}
 use Rattle.ordering_joins.specs.Calls.{offsetAnswer}
 use Rattle.ordering_laws.proofs.OffsetLaws.{offset-keeps}

@@ -23,10 +23,10 @@ use Rattle.normal.specs.declared.KeyIs.the-variants.{Is as Key-Is, Refused as K
 use Rattle.normal.specs.declared.Sorted.{Sorted}
 use Rattle.projection.specs.declared.Projected.{Projected}
 use Rattle.projection.specs.declared.Projected.the-variants.{Number as Projected-Number, Nothing as Projected-Nothing, Refused as Projected-Refused}
-use Rattle.orderings.specs.declared.OptionsAre.{OptionsAre}
-use Rattle.orderings.specs.declared.OptionsAre.the-variants.{Are, Absent as Options-Absent, Refused as Options-Refused}
-use Rattle.orderings.specs.declared.PartialIs.{PartialIs}
-use Rattle.orderings.specs.declared.PartialIs.the-variants.{Yes as Partial-Yes, No as Partial-No, Refused as Partial-Refused}
+use Rattle.ordering_questions.specs.declared.OptionsAre.{OptionsAre}
+use Rattle.ordering_questions.specs.declared.OptionsAre.the-variants.{Are, Absent as Options-Absent, Refused as Options-Refused}
+use Rattle.ordering_questions.specs.declared.PartialIs.{PartialIs}
+use Rattle.ordering_questions.specs.declared.PartialIs.the-variants.{Yes as Partial-Yes, No as Partial-No, Refused as Partial-Refused}
 use Rattle.ordering_joins.specs.declared.Output.{Output}
 use Rattle.dependencies.specs.declared.Given.{Given}
 use Rattle.dependencies.specs.declared.Given.the-variants.{Key as Given-Key, Nothing as Given-Nothing}

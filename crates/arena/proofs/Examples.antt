@@ -1,34 +1,13 @@
 -- The definitions of specs/, tried on small arenas by computing them.
-use mathlib.Core.List.{List, [], _∷_, _++_}
+use mathlib.Core.List.{List, [], _∷_}
 use mathlib.Core.Path.{_≡_, refl}
-use lib.IntN.{pos, negsuc}
-use Rattle.laws.specs.Tests.{first, firstFrom, isSome}
-use Rattle.laws.specs.Lists.{table, sameNumbers}
-use Rattle.arena.specs.Node.{Node, column, operation, sameNode, made, madeAfter}
-use Rattle.arena.specs.Expression.{expressions, over, those}
-use Rattle.arena.specs.Arena.{andThen, find, placedAt, add, addExpression, addExpressions}
-use Rattle.arena.specs.Shift.{within, moved, canMove, allMove, shifted, allShifted}
+use Rattle.laws.specs.Lists.{table}
+use Rattle.arena.specs.Node.{Node, column, operation}
 use Rattle.arena.specs.Layout.{row, rows, encode, decode, rowOf, childrenOf, nodeOf}
-use Rattle.arena.specs.Calls.{answered, shiftedOutcome, addOffset}
-use Rattle.arena.specs.declared.Added.the-variants.{Number, Refused}
 
 -- columns a and b, and f(a, b, a)
-abbrev three : List Node
+abbrev pub three : List Node
 three = column 0 0 ∷ column 1 1 ∷ operation 7 (0 ∷ 1 ∷ 0 ∷ []) ∷ []
-
--- shifted by 5: the moved columns first, left to right, then the operation over them
-shift-five : addOffset 2 (pos 5) three ≡ (Number 5, three ++ (column 0 5 ∷ column 1 6 ∷ operation 7 (3 ∷ 4 ∷ 3 ∷ []) ∷ []))
-unfolding addOffset shiftedOutcome canMove allMove shifted allShifted moved within isSome expressions made madeAfter over those addExpression addExpressions andThen add placedAt find first firstFrom sameNode sameNumbers answered
-shift-five = refl
-
--- by 0 it is the old number; below 0 it is refused
-shift-none : addOffset 2 (pos 0) three ≡ (Number 2, three)
-unfolding addOffset shiftedOutcome canMove allMove shifted allShifted moved within isSome expressions made madeAfter over those addExpression addExpressions andThen add placedAt find first firstFrom sameNode sameNumbers answered
-shift-none = refl
-
-shift-below : addOffset 2 (negsuc 0) three ≡ (Refused 10, three)
-unfolding addOffset shiftedOutcome canMove allMove shifted allShifted moved within isSome expressions made madeAfter over those addExpression addExpressions andThen add placedAt find first firstFrom sameNode sameNumbers answered
-shift-below = refl
 
 -- laid out and read back, it is the arena again
 read-back : decode (encode three) ≡ three

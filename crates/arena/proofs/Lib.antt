@@ -7,10 +7,8 @@ pub mod Layouts
 pub mod Placing
 pub mod NodeCells
 pub mod Lending
-pub mod Lifts
-pub mod Moves
+pub mod Children
 pub mod Walking
-pub mod Shifts
 pub mod Nodes
 pub mod Made
 pub mod Trees

@@ -2,29 +2,24 @@
 use Prim.Native.Nat.{ℕ, _+_, _<_, _≤_}
 use mathlib.Core.Bool.{Bool, true, false}
 use mathlib.Core.List.{List, [], _∷_, _++_}
-use mathlib.Core.Option.{Option, none, some, Option·getD}
-use mathlib.Core.Path.{_≡_, refl, ap, ap₂, _∙_}
+use mathlib.Core.Option.{Option, none, some}
+use mathlib.Core.Path.{_≡_, refl, ap, _∙_}
 use native.Mathlib.Omega.{arith}
 use borrow.Author.Tests.{ltb-true, ltb-false, lt-ltb, le-ltb, leb-true, le-leb}
 use lib.Dec.{ltb, leb}
-use lib.IntN.{ℤ, pos}
 use lib.ListN.{length, getD}
-use Rattle.laws.specs.Tests.{if_then_else_, each, isSome}
-use Rattle.laws.proofs.Booleans.{and-both}
+use Rattle.laws.specs.Tests.{if_then_else_, each}
 use Rattle.laws.proofs.Each.{each-holds, each-all}
 use Rattle.arena.specs.Node.{Node, column, operation, nodeAt}
-use Rattle.arena.specs.Expression.{Expression, Expressions, col, lit, op, ∅, _▹_, those, over, expressions, expressionAt}
-use Rattle.arena.specs.Value.{Row, Meaning, value}
+use Rattle.arena.specs.Expression.{Expression, Expressions, col, lit, op, those, over, expressions, expressionAt}
 use Rattle.arena.specs.Arena.{Allowed, Sound, Extends, Small, Placed, placed, full, find, placedAt, add, addExpression}
-use Rattle.arena.specs.Shift.{within, moved, canMove, allMove, shifted, allShifted}
 use Rattle.arena.specs.Layout.{encode, decode, lawful}
-use Rattle.arena.specs.Calls.{Outcome, answered, addColumn, addLiteral, addOperation, shiftedOutcome, addOffset, inCells, lent, addedNumber}
+use Rattle.arena.specs.Calls.{Outcome, answered, addColumn, addLiteral, addOperation, inCells, lent, addedNumber}
 use Rattle.arena.specs.declared.Added.{Added}
 use Rattle.arena.specs.declared.Added.the-variants.{Number, Refused}
 use Rattle.arena.proofs.Nodes.{find-some, find-none, extends-none, extends-longer, extends-node, AddedNode, add-node, add-old}
-use Rattle.arena.proofs.Trees.{those-cong, expression-kept, expression-is, expression-small}
+use Rattle.arena.proofs.Trees.{those-cong, expression-kept, expression-is}
 use Rattle.arena.proofs.Growing.{add-expression, add-expression-old}
-use Rattle.arena.proofs.Values.{value-shifted, shifted-small, canMove-cong, shifted-cong, moved-within}
 use Rattle.arena.proofs.Layouts.{encode-holds, coded-cells, holds-lawful, lawful-holds}
 use Rattle.arena.proofs.Lending.{on-none, on-arena}
 
@@ -35,7 +30,7 @@ pub record Kept (ns : List Node) (o : Outcome) : Type 0 where
   pub refused : (addedNumber (o .0) ≡ 0 → ⊥) → o .1 ≡ ns
 
 -- a call that adds nothing keeps the arena
-kept-none : (a : Added) (ns : List Node) → Sound ns → Kept ns (a, ns)
+pub kept-none : (a : Added) (ns : List Node) → Sound ns → Kept ns (a, ns)
 kept-none a ns s = record { sound = s; extends = extends-none ns; refused = λ h. refl }
 
 -- a call that answers a number keeps it too, in a sound extension
@@ -52,7 +47,7 @@ node-kept n ns s a = go (add n ns) refl
     go full e = kept-none (Refused 3) ns s
 
 -- adding a small expression keeps the arena
-tree-kept : (x : Expression) (ns : List Node) → Sound ns → Small x → Kept ns (answered ns (addExpression x ns))
+pub tree-kept : (x : Expression) (ns : List Node) → Sound ns → Small x → Kept ns (answered ns (addExpression x ns))
 unfolding answered
 tree-kept x ns s a = go (addExpression x ns) refl
   where
@@ -91,21 +86,6 @@ operation-kept label children ns s = go (allKnown children ns) refl (leb (length
     go true t false u = kept-none (Refused 2) ns s
     go false t b u = kept-none (Refused 1) ns s
 
--- a shifted expression that can move is small
-small-shifted : (e : ℕ) (offset : ℤ) (ns : List Node) → Sound ns → e < length ns → canMove (moved offset) (expressionAt ns e) ≡ true → Small (shifted (moved offset) (expressionAt ns e))
-small-shifted e offset ns s l c = shifted-small (moved offset) (moved-within offset) (expressionAt ns e) (expression-small ns s e l) c
-
--- adding a shifted expression keeps it
-pub offset-kept : (e : ℕ) (offset : ℤ) (ns : List Node) → Sound ns → Kept ns (addOffset e offset ns)
-unfolding addOffset shiftedOutcome
-offset-kept e offset ns s = go (ltb e (length ns)) refl (canMove (moved offset) (expressionAt ns e)) refl
-  where
-    go : (a : Bool) → ltb e (length ns) ≡ a → (b : Bool) → canMove (moved offset) (expressionAt ns e) ≡ b
-        → Kept ns (if a then (if b then answered ns (addExpression (shifted (moved offset) (expressionAt ns e)) ns) else (Refused 10, ns)) else (Refused 1, ns))
-    go true t true u = tree-kept (shifted (moved offset) (expressionAt ns e)) ns s (small-shifted e offset ns s (ltb-true e (length ns) t) u)
-    go true t false u = kept-none (Refused 10) ns s
-    go false t b u = kept-none (Refused 1) ns s
-
 -- a refusal is no number
 pub not-number : (k i : ℕ) (ns ms : List Node) → _≡_ {A = Outcome} (Refused k, ns) (Number i, ms) → ⊥
 not-number k i ns ms e =
@@ -122,7 +102,7 @@ was-placed ns (placed j os) i ms e =
 was-placed ns full i ms e = absurd (not-number 3 i ns ms e)
 
 -- the number that is answered for a small expression is the expression's
-tree-is : (x : Expression) (ns : List Node) (i : ℕ) (ms : List Node) → Sound ns → Small x → answered ns (addExpression x ns) ≡ (Number i, ms)
+pub tree-is : (x : Expression) (ns : List Node) (i : ℕ) (ms : List Node) → Sound ns → Small x → answered ns (addExpression x ns) ≡ (Number i, ms)
     → (i < length ms) × (expressionAt ms i ≡ x)
 tree-is x ns i ms s a e = let m = add-expression x ns s a i ms (was-placed ns (addExpression x ns) i ms e) in (m .below, m .is)
 
@@ -199,74 +179,6 @@ operation-again label children ns i ms s e os t y =
       each-all (λ k. ltb (getD children k 0) (length os)) (length children) (λ k b. lt-ltb (getD children k 0) (length os) (let c = o .below k b in omega arith)),
       le-leb (length children) 8 (o .few),
       add-old (operation label children) os t i (let c = o .node .below in omega arith) (extends-node y i (o .node .below) ∙ o .node .is),
-    )
-
--- the number that is answered for a shift is that of the expression with its columns moved
-pub offset-is : (e : ℕ) (offset : ℤ) (ns : List Node) (i : ℕ) (ms : List Node) → Sound ns → addOffset e offset ns ≡ (Number i, ms)
-    → (i < length ms) × (expressionAt ms i ≡ shifted (moved offset) (expressionAt ns e))
-unfolding addOffset shiftedOutcome
-offset-is e offset ns i ms s q = go (ltb e (length ns)) refl (canMove (moved offset) (expressionAt ns e)) refl q
-  where
-    x : Expression
-    x = shifted (moved offset) (expressionAt ns e)
-
-    go : (a : Bool) → ltb e (length ns) ≡ a → (b : Bool) → canMove (moved offset) (expressionAt ns e) ≡ b
-        → _≡_ {A = Outcome} (if a then (if b then answered ns (addExpression x ns) else (Refused 10, ns)) else (Refused 1, ns)) (Number i, ms)
-        → (i < length ms) × (expressionAt ms i ≡ x)
-    go true t true u q = tree-is x ns i ms s (small-shifted e offset ns s (ltb-true e (length ns) t) u) q
-    go true t false u q = absurd (not-number 10 i ns ms q)
-    go false t b u q = absurd (not-number 1 i ns ms q)
-
--- the value of a shifted expression on a row is the value of the original on the row whose columns are moved accordingly
-pub offset-value : {A : Type 0} (e : ℕ) (offset : ℤ) (ns : List Node) (i : ℕ) (ms : List Node) → Sound ns → addOffset e offset ns ≡ (Number i, ms) → (m : Meaning A) (row : Row A)
-    → value (expressionAt ms i) m row ≡ value (expressionAt ns e) m (λ name index. row name (Option·getD (moved offset index) index))
-offset-value e offset ns i ms s q m row =
-    ap (λ (x : Expression). value x m row) (offset-is e offset ns i ms s q .1) ∙ value-shifted (moved offset) (expressionAt ns e) m row
-
--- by 0 an index of 16 bits moves to itself
-moved-none : (index : ℕ) → index < 65536 → moved (pos 0) index ≡ some index
-unfolding moved within
-moved-none index l = let e : index + 0 ≡ index = omega arith in rw (e, lt-ltb index 65536 l)
-
-mutual
-  unfolding canMove allMove isSome
-
-  -- where every index moves to itself, every expression can move
-  stay-moves : (x : Expression) → canMove some x ≡ true
-  stay-moves (col name index) = refl
-  stay-moves (lit v) = refl
-  stay-moves (op label es) = all-stay-moves es
-
-  -- the same for expressions in a row
-  all-stay-moves : (es : Expressions) → allMove some es ≡ true
-  all-stay-moves ∅ = refl
-  all-stay-moves (x ▹ es) = and-both (stay-moves x) (all-stay-moves es)
-
-mutual
-  unfolding shifted allShifted
-
-  -- and is itself afterwards
-  stay-shifted : (x : Expression) → shifted some x ≡ x
-  stay-shifted (col name index) = refl
-  stay-shifted (lit v) = refl
-  stay-shifted (op label es) = ap (λ (c : Expressions). op label c) (all-stay-shifted es)
-
-  -- the same for expressions in a row
-  all-stay-shifted : (es : Expressions) → allShifted some es ≡ es
-  all-stay-shifted ∅ = refl
-  all-stay-shifted (x ▹ es) = ap₂ {C = Expressions} (λ a b. a ▹ b) (stay-shifted x) (all-stay-shifted es)
-
--- in a sound arena a shift by 0 of a known expression answers its own number and adds nothing
-pub offset-none : (e : ℕ) (ns : List Node) → Sound ns → e < length ns → addOffset e (pos 0) ns ≡ (Number e, ns)
-unfolding addOffset shiftedOutcome answered
-offset-none e ns s l =
-    let x = expressionAt ns e in
-    let h = expression-small ns s e l in
-    rw (
-      lt-ltb e (length ns) l,
-      canMove-cong (moved (pos 0)) some moved-none x h ∙ stay-moves x,
-      shifted-cong (moved (pos 0)) some moved-none x h ∙ stay-shifted x,
-      add-expression-old x ns s e l refl,
     )
 
 -- a call that keeps arenas, on lent cells

@@ -3,13 +3,10 @@
 use Prim.Native.Nat.{ℕ}
 use mathlib.Core.List.{List}
 use lib.Dec.{ltb, leb}
-use lib.IntN.{ℤ}
 use lib.ListN.{length, getD}
 use Rattle.laws.specs.Tests.{if_then_else_, each}
 use Rattle.arena.specs.Node.{Node, column, literal, operation, nodeAt, childNumbers}
-use Rattle.arena.specs.Expression.{expressionAt}
-use Rattle.arena.specs.Arena.{Placed, placed, full, add, addExpression}
-use Rattle.arena.specs.Shift.{moved, canMove, shifted}
+use Rattle.arena.specs.Arena.{Placed, placed, full, add}
 use Rattle.arena.specs.Layout.{encode, decode, lawful}
 use Rattle.arena.specs.declared.Added.{Added}
 use Rattle.arena.specs.declared.Added.the-variants.{Number, Refused}
@@ -41,15 +38,6 @@ addOperation label children ns =
     if each (λ k. ltb (getD children k 0) (length ns)) (length children) then
     (if leb (length children) 8 then answered ns (add (operation label children) ns) else (Refused 2, ns))
     else (Refused 1, ns)
-
--- shift an expression that is there: 10 where a column leaves 0..65,535, else the missing nodes of the shifted expression are added
-unfoldable pub shiftedOutcome : ℕ → ℤ → List Node → Outcome
-shiftedOutcome e offset ns =
-    if canMove (moved offset) (expressionAt ns e) then answered ns (addExpression (shifted (moved offset) (expressionAt ns e)) ns) else (Refused 10, ns)
-
--- shift an expression by an offset
-unfoldable pub addOffset : ℕ → ℤ → List Node → Outcome
-addOffset e offset ns = if ltb e (length ns) then shiftedOutcome e offset ns else (Refused 1, ns)
 
 -- a node as the answer of a call that reads it
 unfoldable pub readOf : Node → Read

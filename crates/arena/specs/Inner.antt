@@ -1,17 +1,16 @@
 -- What the inner functions ask and promise each other. The public contracts (Calls) cite nothing of this file.
 use Prim.Native.Nat.{ℕ, _+_, _-_, _*_, _<_, _≤_}
-use mathlib.Core.Bool.{Bool, true, false, _&&_}
+use mathlib.Core.Bool.{Bool, true, false}
 use mathlib.Core.List.{List}
 use mathlib.Core.Option.{Option, none, some}
 use mathlib.Core.Path.{_≡_}
-use lib.Dec.{ltb, leb}
+use lib.Dec.{ltb}
 use lib.ListN.{length, getD, set}
 use lib.Seq.{paste}
 use Rattle.laws.specs.Tests.{if_then_else_}
-use Rattle.arena.specs.Node.{Node, operation, nodeAt}
+use Rattle.arena.specs.Node.{Node, operation}
 use Rattle.arena.specs.Expression.{Expression, Expressions, ∅, _▹_, expressionAt, expressions, those}
 use Rattle.arena.specs.Arena.{Sound, Allowed, Extends, Placed, placed, full, addExpression, addExpressions}
-use Rattle.arena.specs.Shift.{canMove, shifted}
 use Rattle.arena.specs.Layout.{row, count, rowOf, nodeOf, childrenOf, decode}
 use Rattle.arena.specs.declared.Added.{Added}
 use Rattle.arena.specs.declared.Added.the-variants.{Number, Refused}
@@ -51,10 +50,6 @@ unfoldable pub appended : List ℕ → List ℕ → Added × List ℕ
 appended cells r =
     if ltb (count cells) 1024 then (Number (count cells), set (paste cells (1 + 11 * count cells) r 11) 0 (count cells + 1))
     else (Refused 3, cells)
-
--- where an index moves, by a lift that is 65,535 more than the offset
-unfoldable pub lifted : ℕ → ℕ → Option ℕ
-lifted lift index = if leb 65535 (index + lift) && ltb (index + lift) 131071 then some (index + lift - 65535) else none
 
 -- an answer and the arena as a placing
 unfoldable pub told : Added → List Node → Placed ℕ
@@ -113,20 +108,3 @@ pub record WalkedAll (F : Expression → Expression) (s t memo r r′ : List ℕ
   pub memo-true : Memo F (decode t) memo
   pub is : toldAll all r′ (decode t) ≡ addExpressions (mapAll F (those (expressions (decode s)) (childrenOf r))) (decode s)
   pub row-is : all ≡ true → r′ ≡ operationRow r (childrenOf r′)
-
--- the shift by a lift
-abbrev pub shiftedBy : ℕ → Expression → Expression
-shiftedBy lift e = shifted (lifted lift) e
-
--- what the shift asks at node e
-pub record Ready (lift : ℕ) (s memo : List ℕ) (e : ℕ) : Type 0 where
-  pub known : Known s e
-  pub small : lift ≤ 200000
-  pub moves : canMove (lifted lift) (expressionAt (decode s) e) ≡ true
-  pub memo-true : Memo (shiftedBy lift) (decode s) memo
-
--- what the shift of the children of node e asks: node e is an operation, and r its row
-pub record ReadyAll (lift : ℕ) (s memo r : List ℕ) (e : ℕ) : Type 0 where
-  pub ready : Ready lift s memo e
-  pub node : nodeAt (decode s) e ≡ operation (getD r 1 0) (childrenOf r)
-  pub row-is : r ≡ operationRow r (childrenOf r)

@@ -13,7 +13,6 @@ pub mod cells;
 pub mod checking;
 pub mod memo;
 pub mod reading;
-pub mod shifting;
 
 use adding::all_below;
 use adding::column_row;
@@ -26,9 +25,8 @@ use checking::lawful_arena;
 use reading::child_count;
 use reading::child_in;
 use reading::read_in;
-use shifting::shift_in;
 ghost use mathlib.Core.Path.{_≡_};
-ghost use Rattle.arena.specs.Calls.{checked, lent, onLent, addColumn, addLiteral, addOperation, addOffset, readNode, readChild};
+ghost use Rattle.arena.specs.Calls.{checked, lent, onLent, addColumn, addLiteral, addOperation, readNode, readChild};
 
 // What an addition answers: the number of the node, or of the refusal.
 pub enum Added {
@@ -139,19 +137,4 @@ pub fn read_child(cells: &[u32; 11265], expr: u32, place: u32) -> Child
         return Child::Absent;
     }
     Child::Number(child_in(cells, e, k))
-}
-
-// Shifts every column of an expression by an offset, names kept, and adds the missing nodes.
-// Refusals: 11, 1, 10, 3.
-pub fn add_offset_to_expr(cells: &mut [u32; 11265], expr: u32, offset: i64) -> Added
-    ensures { λ r. ⌜ (r, now (cells .exit)) ≡ lent (addOffset expr offset) (now (cells .entry)) ⌝ }
-{
-    if !lawful_arena(cells) {
-        return Added::Refused(11);
-    }
-    let n = node_count(cells);
-    if n <= wide(expr) {
-        return Added::Refused(1);
-    }
-    shift_in(cells, expr, offset)
 }

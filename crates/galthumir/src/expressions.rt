@@ -3,7 +3,8 @@ use answers::put_added;
 use answers::put_child;
 use answers::put_read;
 ghost use mathlib.Core.Path.{_≡_};
-ghost use Rattle.arena.specs.Calls.{checked, lent, onLent, addColumn, addLiteral, addOperation, addOffset, readNode, readChild};
+ghost use Rattle.arena.specs.Calls.{checked, lent, onLent, addColumn, addLiteral, addOperation, readNode, readChild};
+ghost use Rattle.shifting.specs.Calls.{addOffset};
 ghost use Rattle.arena.specs.declared.Read.{Read};
 ghost use Rattle.arena.specs.declared.Child.{Child};
 ghost use Rattle.answers.specs.Answers.{onFirst, addedIn, readIn, childIn};
@@ -88,6 +89,6 @@ pub extern "C" fn galthumir_add_offset_to_expr(
 ) -> u32
     ensures { λ r. ⌜ ((r, now (answer .exit)), now (arena .exit)) ≡ onFirst (addedIn (now (answer .entry))) (lent (addOffset expr offset) (now (arena .entry))) ⌝ }
 {
-    let added = arena::add_offset_to_expr(arena, expr, offset);
+    let added = shifting::add_offset_to_expr(arena, expr, offset);
     put_added(added, answer)
 }

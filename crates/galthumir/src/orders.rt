@@ -6,9 +6,10 @@ use states::orders::load_orderings;
 use states::orders::store_orderings;
 ghost use mathlib.Core.Path.{_≡_};
 ghost use Rattle.arena.specs.Layout.{count};
-ghost use Rattle.orderings.specs.Calls.{listNumber, askList, clearAnswer, optionsAnswer, partialAnswer};
-ghost use Rattle.orderings.specs.declared.OptionsAre.{OptionsAre};
-ghost use Rattle.orderings.specs.declared.PartialIs.{PartialIs};
+ghost use Rattle.orderings.specs.Calls.{listNumber, askList, clearAnswer};
+ghost use Rattle.ordering_questions.specs.Calls.{optionsAnswer, partialAnswer};
+ghost use Rattle.ordering_questions.specs.declared.OptionsAre.{OptionsAre};
+ghost use Rattle.ordering_questions.specs.declared.PartialIs.{PartialIs};
 ghost use Rattle.reduction.specs.Calls.{addAnswer, newAnswer, extendAnswer};
 ghost use Rattle.ordering_joins.specs.Calls.{offsetAnswer, outputAnswer, joinAnswer};
 ghost use Rattle.states.specs.Orders.{orderingsFrom, storedList};
@@ -81,7 +82,7 @@ pub extern "C" fn galthumir_get_options(
     ensures { λ r. ⌜ (r, now (answer .exit)) ≡ optionsIn (now (answer .entry)) (askList (λ k. OptionsAre.Refused k) (optionsAnswer (count (now (arena .entry))) expr) (now (arena .entry)) (orderingsFrom (now (orderings .entry)))) ⌝ }
 {
     put_options(
-        orderings::get_options(arena, load_orderings(orderings), expr),
+        ordering_questions::get_options(arena, load_orderings(orderings), expr),
         answer,
     )
 }
@@ -97,7 +98,7 @@ pub extern "C" fn galthumir_is_expr_partial_const(
     ensures { λ r. ⌜ (r, now (answer .exit)) ≡ partialIn (now (answer .entry)) (askList (λ k. PartialIs.Refused k) (partialAnswer (count (now (arena .entry))) expr) (now (arena .entry)) (orderingsFrom (now (orderings .entry)))) ⌝ }
 {
     put_partial(
-        orderings::is_expr_partial_const(arena, load_orderings(orderings), expr),
+        ordering_questions::is_expr_partial_const(arena, load_orderings(orderings), expr),
         answer,
     )
 }

@@ -14,7 +14,7 @@ use Rattle.arena.proofs.Layouts.{length-decode}
 use Rattle.classes.specs.Layout.{inSet, lawfulGroup, membersInside}
 use Rattle.classes.specs.declared.Group.{Group}
 use Rattle.classes.proofs.Checks.{limit-few, group-counts}
-use Rattle.joins.specs.Lent.{paired, sidesBelow}
+use Rattle.shifted_classes.specs.Lent.{paired, sidesBelow}
 use Rattle.joins.specs.Calls.{joinNumber}
 use Rattle.joins.specs.Inner.{sidesNumber}
 

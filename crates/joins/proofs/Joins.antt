@@ -20,10 +20,11 @@ use Rattle.laws.proofs.Each.{each-holds}
 use Rattle.arena.specs.Node.{Node}
 use Rattle.arena.specs.Expression.{expressionAt}
 use Rattle.arena.specs.Arena.{Sound, Placed, placed, full, andThen, addExpression}
-use Rattle.arena.specs.Shift.{moved, canMove}
+use Rattle.shifting.specs.Shift.{moved, canMove}
 use Rattle.arena.specs.Layout.{lawful, encode as encodeNodes, decode as nodes}
 use Rattle.arena.specs.Calls.{inCells}
-use Rattle.arena.specs.Inner.{Holds, Known, Memo, Walked, Ready, lifted, shiftedBy, told}
+use Rattle.arena.specs.Inner.{Holds, Known, Memo, Walked, told}
+use Rattle.shifting.specs.Inner.{Ready, lifted, shiftedBy}
 use Rattle.arena.specs.declared.Added.{Added}
 use Rattle.arena.specs.declared.Added.the-variants.{Number, Refused}
 use Rattle.arena.proofs.Nodes.{extends-none, extends-both, extends-longer}
@@ -51,16 +52,19 @@ use Rattle.merging.specs.Inner.{AllBelow}
 use Rattle.merging.proofs.Smaller.{from-few, from-small}
 use Rattle.merging.proofs.Reaching.{from-good}
 use Rattle.merging.proofs.ListCounts.{total-append}
-use Rattle.joins.specs.Lent.{paired, sidesBelow, pairsLent}
+use Rattle.shifted_classes.specs.Lent.{paired, sidesBelow, pairsLent}
 use Rattle.joins.specs.Kinds.{joinKind}
-use Rattle.joins.specs.Joining.{allMove, shiftedNumbers, shiftedClasses, withRights, equatedAll, joinedClasses, toShift, joinedOver}
+use Rattle.shifted_classes.specs.Shifting.{allMove, shiftedNumbers, shiftedClasses}
+use Rattle.joins.specs.Joining.{withRights, equatedAll, joinedClasses, toShift, joinedOver}
 use Rattle.joins.specs.Calls.{joinNumber, joinPlaced, joinShifted, joinBy, joinAnswer}
-use Rattle.joins.specs.Inner.{rightsLent, ReadyAll, toldNumbers, ShiftedAll, numbersOf, rightsIn, There, madeOr, equatedOf, BothHeld, JoinReady, Joined}
+use Rattle.shifted_classes.specs.Inner.{rightsLent, ReadyAll, toldNumbers, ShiftedAll}
+use Rattle.joins.specs.Inner.{numbersOf, rightsIn, There, madeOr, equatedOf, BothHeld, JoinReady, Joined}
 use Rattle.joins.specs.declared.JoinKind.{JoinKind}
-use Rattle.joins.proofs.Reaching.{shifted-total, list-fair}
-use Rattle.joins.proofs.Placings.{moves-each, moves-append, moves-table, afterList, numbers-append, grown-numbers, grown-moves, agree-numbers, agree-moves, numbers-added, numbers-again, numbers-there}
-use Rattle.joins.proofs.PairPlaces.{nowhere, length-pairs, pair-at, length-rights, right-at, right-inside, rights-below, length-with, with-at, equated-next, equated-over, equated-end}
-use Rattle.joins.proofs.ShiftedParts.{length-shifted, shifted-front}
+use Rattle.shifted_classes.proofs.Reaching.{shifted-total, list-fair}
+use Rattle.shifted_classes.proofs.Placings.{moves-each, moves-append, moves-table, afterList, numbers-append, grown-numbers, grown-moves, agree-numbers, agree-moves, numbers-added, numbers-again, numbers-there}
+use Rattle.shifted_classes.proofs.PairPlaces.{nowhere, length-pairs, pair-at, length-rights, right-at, right-inside, rights-below}
+use Rattle.joins.proofs.EquatedPairs.{length-with, with-at, equated-next, equated-over, equated-end}
+use Rattle.shifted_classes.proofs.ShiftedParts.{length-shifted, shifted-front}
 
 -- ---- the pairs
 

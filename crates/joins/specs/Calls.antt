@@ -9,7 +9,7 @@ use lib.ListN.{length}
 use Rattle.laws.specs.Tests.{if_then_else_}
 use Rattle.arena.specs.Node.{Node}
 use Rattle.arena.specs.Arena.{Placed, placed, full}
-use Rattle.arena.specs.Shift.{moved}
+use Rattle.shifting.specs.Shift.{moved}
 use Rattle.arena.specs.Layout.{lawful, decode as nodes}
 use Rattle.arena.specs.Calls.{inCells}
 use Rattle.classes.specs.Class.{Class}
@@ -17,9 +17,10 @@ use Rattle.classes.specs.Layout.{decode, inSet, lawfulGroup, membersInside}
 use Rattle.classes.specs.declared.Group.{Group}
 use Rattle.classes.specs.declared.Changed.{Changed}
 use Rattle.merging.specs.Calls.{madeGroup, refusedGroup, madeOrRefused}
-use Rattle.joins.specs.Lent.{paired, sidesBelow, pairsLent}
+use Rattle.shifted_classes.specs.Lent.{paired, sidesBelow, pairsLent}
 use Rattle.joins.specs.Kinds.{joinKind}
-use Rattle.joins.specs.Joining.{allMove, shiftedNumbers, toShift, joinedOver}
+use Rattle.shifted_classes.specs.Shifting.{allMove, shiftedNumbers}
+use Rattle.joins.specs.Joining.{toShift, joinedOver}
 
 -- the check of two lent groups, a kind and pairs: 12 for the kind or either group, 11 for the arena, either group or a left side alone, then 1 for a member of either or a side, else 0
 unfoldable pub joinNumber : List ℕ → Group → Group → ℕ → List ℕ → ℕ

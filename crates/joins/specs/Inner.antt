@@ -1,15 +1,16 @@
 -- What the inner functions ask and promise each other. The public contract cites nothing of this file.
 use Prim.Native.Nat.{ℕ, _≤_}
-use mathlib.Core.Bool.{Bool, true, false, _&&_}
-use mathlib.Core.List.{List, [], map}
+use mathlib.Core.Bool.{true, false, _&&_}
+use mathlib.Core.List.{List, []}
 use mathlib.Core.Option.{Option, none, some}
 use mathlib.Core.Path.{_≡_}
 use lib.ListN.{length}
 use Rattle.laws.specs.Tests.{if_then_else_}
 use Rattle.arena.specs.Node.{Node}
-use Rattle.arena.specs.Arena.{Extends, Placed, placed, full}
+use Rattle.arena.specs.Arena.{Placed, placed, full}
 use Rattle.arena.specs.Layout.{decode as nodes}
-use Rattle.arena.specs.Inner.{Holds, Memo, lifted, shiftedBy}
+use Rattle.arena.specs.Inner.{Holds}
+use Rattle.shifting.specs.Inner.{lifted}
 use Rattle.classes.specs.Class.{Class}
 use Rattle.classes.specs.Layout.{decode, membersInside}
 use Rattle.classes.specs.Inner.{Held}
@@ -17,37 +18,15 @@ use Rattle.classes.specs.declared.Group.{Group}
 use Rattle.classes.specs.declared.Changed.{Changed}
 use Rattle.merging.specs.Calls.{madeGroup}
 use Rattle.merging.specs.Inner.{AllBelow}
-use Rattle.joins.specs.Lent.{sidesBelow, pairsLent}
-use Rattle.joins.specs.Joining.{allMove, shiftedNumbers, withRights, equatedAll, toShift}
+use Rattle.shifted_classes.specs.Lent.{sidesBelow, pairsLent}
+use Rattle.shifted_classes.specs.Shifting.{allMove, shiftedNumbers}
+use Rattle.shifted_classes.specs.Inner.{rightsLent}
+use Rattle.joins.specs.Joining.{withRights, equatedAll, toShift}
 use Rattle.joins.specs.Calls.{joinPlaced}
-
--- the right sides of lent pairs
-unfoldable pub rightsLent : List ℕ → List ℕ
-rightsLent numbers = map (λ (p : ℕ × ℕ). p .1) (pairsLent numbers)
 
 -- members and sides are in the arena: 0, else 1
 unfoldable pub sidesNumber : List Node → Group → Group → List ℕ → ℕ
 sidesNumber ns left right numbers = if membersInside ns left && membersInside ns right && sidesBelow (length ns) numbers then 0 else 1
-
--- expressions that can be shifted by a lift, with a memo that is true
-pub record ReadyAll (lift : ℕ) (s memo es : List ℕ) : Type 0 where
-  pub holds : Holds s
-  pub small : lift ≤ 200000
-  pub known : AllBelow (length (nodes s)) es
-  pub moves : allMove (lifted lift) (nodes s) es ≡ true
-  pub memo-true : Memo (shiftedBy lift) (nodes s) memo
-
--- the numbers of what was shifted as a placing
-unfoldable pub toldNumbers : Bool → List ℕ → List Node → Placed (List ℕ)
-toldNumbers true ks ns = placed ks ns
-toldNumbers false ks ns = full
-
--- from the cells s to the cells t the expressions es were shifted and added, or there was no room
-pub record ShiftedAll (lift : ℕ) (s t memo es : List ℕ) (all : Bool) (ks : List ℕ) : Type 0 where
-  pub holds : Holds t
-  pub extends : Extends (nodes s) (nodes t)
-  pub memo-true : Memo (shiftedBy lift) (nodes t) memo
-  pub is : toldNumbers all ks (nodes t) ≡ shiftedNumbers (lifted lift) (nodes s) es (nodes s)
 
 -- the numbers that were placed; none where there was no room
 unfoldable pub numbersOf : Placed (List ℕ) → List ℕ

@@ -1,18 +1,10 @@
 // Join: the check of what is lent, the classes of both sides, and for Inner the pairs.
 use crate::kinds::kind_of;
-use crate::shifting::add_shifted;
-use crate::shifting::lift_of_size;
-use crate::shifting::members_move;
-use crate::shifting::rights_move;
-use crate::shifting::shift_members;
-use crate::shifting::shift_rights;
 use arena::Added;
 use arena::adding::all_below;
 use arena::cells::node_count;
 use arena::cells::wide;
 use arena::checking::lawful_arena;
-use arena::shifting::movable;
-use arena::shifting::shift;
 use classes::Changed;
 use classes::Group;
 use classes::building::empty;
@@ -23,6 +15,14 @@ use classes::refusing::refusal;
 use conditions::equating::equal_condition_in;
 use merging::bridging::from_classes;
 use merging::bridging::made;
+use shifted_classes::right_side::add_shifted;
+use shifted_classes::right_side::lift_of_size;
+use shifted_classes::right_side::members_move;
+use shifted_classes::right_side::rights_move;
+use shifted_classes::right_side::shift_members;
+use shifted_classes::right_side::shift_rights;
+use shifting::shifting::movable;
+use shifting::shifting::shift;
 ghost use mathlib.Core.Path.{_≡_};
 ghost use Prim.Native.Nat.{_≤_, _<_};
 ghost use lib.ListN.{length};
@@ -32,9 +32,10 @@ ghost use Rattle.arena.specs.Inner.{Holds};
 ghost use Rattle.classes.specs.Layout.{decode};
 ghost use Rattle.classes.specs.Inner.{Coded, Held};
 ghost use Rattle.merging.specs.Inner.{AllBelow};
-ghost use Rattle.joins.specs.Lent.{pairsLent};
+ghost use Rattle.shifted_classes.specs.Lent.{pairsLent};
 ghost use Rattle.joins.specs.Calls.{joinNumber, joinShifted, joinBy};
-ghost use Rattle.joins.specs.Inner.{rightsLent, sidesNumber, ReadyAll, There, BothHeld, JoinReady, equatedOf, Joined};
+ghost use Rattle.shifted_classes.specs.Inner.{rightsLent, ReadyAll};
+ghost use Rattle.joins.specs.Inner.{sidesNumber, There, BothHeld, JoinReady, equatedOf, Joined};
 
 // The check of two groups, a kind and pairs: 0, or 12, 11 or 1, whichever is first.
 pub fn join_number(cells: &[u32; 11265], left: Group, right: Group, kind: u32, pairs: &[u32]) -> u32

@@ -6,7 +6,6 @@
 // crates above, which hold an arena and groups that are checked already.
 pub mod joining;
 pub mod kinds;
-pub mod shifting;
 
 use classes::Changed;
 use classes::Group;
@@ -23,12 +22,6 @@ pub struct JoinKind {
     pub right: bool,
     pub shifted: bool,
     pub pairs: bool,
-}
-
-// The members of a group's classes, shifted, in a table of 256 places, or that the arena has no room.
-pub struct Members {
-    pub fits: bool,
-    pub members: [u32; 256],
 }
 
 // Combines the groups of the two sides of a join. The kinds are 0 Inner, 1 Left, 2 Full, 3 Right, 4 LeftSemi,

@@ -22,7 +22,7 @@ use Rattle.classes.proofs.HeldLaws.{number-fit}
 use Rattle.merging.specs.Merging.{fromClasses}
 use Rattle.merging.specs.Lent.{classesLent}
 use Rattle.merging.specs.Calls.{newNumber, madeGroup, newAnswer}
-use Rattle.joins.specs.Lent.{pairsLent}
+use Rattle.shifted_classes.specs.Lent.{pairsLent}
 use Rattle.joins.specs.Calls.{joinNumber, joinBy, joinAnswer}
 use Rattle.merging_laws.proofs.BridgingTheorems.{new-agrees}
 use Rattle.merging_laws.proofs.JoinLaws.{rowFrom}

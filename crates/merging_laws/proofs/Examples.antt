@@ -9,7 +9,7 @@ use Rattle.laws.specs.Lists.{table}
 use Rattle.arena.specs.Node.{Node, column, literal, made, madeAfter, sameNode}
 use Rattle.arena.specs.Expression.{expressions, over, those}
 use Rattle.arena.specs.Arena.{andThen, find, placedAt, add, addExpression}
-use Rattle.arena.specs.Shift.{within, moved, canMove, shifted}
+use Rattle.shifting.specs.Shift.{within, moved, canMove, shifted}
 use Rattle.classes.specs.Class.{noConstant, heterogeneous, unknown, known, Class, isUniform, taken, carried, single, merged, isConstant}
 use Rattle.classes.specs.Group.{among, classOf, total, removed, mergedAt, joined, equated, equalCondition}
 use Rattle.classes.specs.Good.{flat}
@@ -20,7 +20,8 @@ use Rattle.merging.specs.Merging.{droppedAt, dropBelow, keptClasses, meetingBel
 use Rattle.merging.specs.Lent.{nextClass, classLent, classesLent}
 use Rattle.merging.specs.Calls.{madeGroup, refusedGroup, madeOrRefused}
 use Rattle.joins.specs.Kinds.{joinKind}
-use Rattle.joins.specs.Joining.{allMove, shiftedNumbers, shiftedClasses, withRights, equatedAll, joinedClasses, toShift, joinedOver}
+use Rattle.shifted_classes.specs.Shifting.{allMove, shiftedNumbers, shiftedClasses}
+use Rattle.joins.specs.Joining.{withRights, equatedAll, joinedClasses, toShift, joinedOver}
 use Rattle.joins.specs.Calls.{joinPlaced, joinShifted, joinBy}
 
 -- a class without a constant

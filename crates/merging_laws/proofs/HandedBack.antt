@@ -17,7 +17,7 @@ use Rattle.laws.proofs.Booleans.{and-left, and-right, and-both}
 use Rattle.laws.proofs.Each.{each-holds}
 use Rattle.arena.specs.Node.{Node}
 use Rattle.arena.specs.Arena.{Sound, Placed, placed, full}
-use Rattle.arena.specs.Shift.{moved}
+use Rattle.shifting.specs.Shift.{moved}
 use Rattle.arena.specs.Layout.{lawful, decode as nodes, encode as cellsOf}
 use Rattle.arena.specs.Calls.{inCells}
 use Rattle.arena.proofs.Layouts.{coded-cells, holds-lawful, encode-holds, lawful-holds, decode-encode as nodes-cells}
@@ -35,9 +35,10 @@ use Rattle.merging.specs.Lent.{classesLent}
 use Rattle.merging.specs.Calls.{newNumber, madeGroup, newAnswer, refusedGroup, madeOrRefused}
 use Rattle.merging.proofs.ListCounts.{fits-few, fits-small}
 use Rattle.merging.proofs.Reaching.{from-good}
-use Rattle.joins.specs.Lent.{paired, sidesBelow, pairsLent}
+use Rattle.shifted_classes.specs.Lent.{paired, sidesBelow, pairsLent}
 use Rattle.joins.specs.Kinds.{joinKind}
-use Rattle.joins.specs.Joining.{allMove, shiftedNumbers, toShift, joinedOver}
+use Rattle.shifted_classes.specs.Shifting.{allMove, shiftedNumbers}
+use Rattle.joins.specs.Joining.{toShift, joinedOver}
 use Rattle.joins.specs.Calls.{joinNumber, joinPlaced, joinShifted, joinBy, joinAnswer}
 use Rattle.merging_laws.proofs.FairLent.{list-checked, lent-fair}
 use Rattle.merging_laws.proofs.JoinLaws.{from-fits, SidesBelow, made-to, made-good}

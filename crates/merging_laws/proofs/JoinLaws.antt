@@ -18,9 +18,10 @@ use Rattle.arena.specs.Node.{Node}
 use Rattle.arena.specs.Expression.{Expression, Expressions, col, lit, op, ∅, _▹_, expressionAt}
 use Rattle.arena.specs.Value.{Meaning, Row, value, values}
 use Rattle.arena.specs.Arena.{Sound, Placed, placed, full}
-use Rattle.arena.specs.Shift.{within, moved, canMove, shifted, allShifted, allMove as childrenMove}
+use Rattle.shifting.specs.Shift.{within, moved, canMove, shifted, allShifted, allMove as childrenMove}
 use Rattle.arena.proofs.Nodes.{extends-longer}
-use Rattle.arena.proofs.Values.{value-kept, moved-within}
+use Rattle.arena.proofs.Values.{value-kept}
+use Rattle.shifting.proofs.Values.{moved-within}
 use Rattle.classes.specs.Class.{Class, single}
 use Rattle.classes.specs.Group.{among, classAt, total, removed, length-removed, equalCondition, Together}
 use Rattle.classes.specs.Good.{flat, Good}
@@ -39,11 +40,12 @@ use Rattle.merging.specs.Calls.{madeGroup, refusedGroup, madeOrRefused}
 use Rattle.merging.specs.Inner.{Fair, AllBelow}
 use Rattle.merging.proofs.Overlaps.{length-without, extended-from, Meets, bridge-keeps, meets-low, Within}
 use Rattle.merging.proofs.Reaching.{Sane, sane-fair, from-good, all-append, good-sane, flat-below}
-use Rattle.joins.specs.Joining.{allMove, shiftedNumbers, shiftedClasses, withRights, equatedAll, joinedClasses, toShift, joinedOver}
+use Rattle.shifted_classes.specs.Shifting.{allMove, shiftedNumbers, shiftedClasses}
+use Rattle.joins.specs.Joining.{withRights, equatedAll, joinedClasses, toShift, joinedOver}
 use Rattle.joins.specs.Calls.{joinPlaced, joinShifted}
-use Rattle.joins.proofs.ShiftOnce.{each-moves, ShiftedTo, numbers-shifted}
-use Rattle.joins.proofs.Reaching.{sane-shifted}
-use Rattle.joins.proofs.ShiftedParts.{length-shifted}
+use Rattle.shifted_classes.proofs.ShiftOnce.{each-moves, ShiftedTo, numbers-shifted}
+use Rattle.shifted_classes.proofs.Reaching.{sane-shifted}
+use Rattle.shifted_classes.proofs.ShiftedParts.{length-shifted}
 use Rattle.merging_laws.proofs.BridgingTheorems.{new-agrees}
 
 -- ---- `new` makes neither more members nor more classes

@@ -8,16 +8,17 @@ use lib.ListN.{length, getD, drop, length-append}
 use Rattle.arena.specs.Node.{Node}
 use Rattle.arena.specs.Expression.{Expression, expressionAt}
 use Rattle.arena.specs.Arena.{Extends, Placed, placed, full, andThen, addExpression}
-use Rattle.arena.specs.Shift.{canMove}
+use Rattle.shifting.specs.Shift.{canMove}
 use Rattle.arena.specs.Layout.{decode as nodes}
-use Rattle.arena.specs.Inner.{Holds, Memo, Grew, Walked, Ready, lifted, shiftedBy, told}
+use Rattle.arena.specs.Inner.{Holds, Memo, Grew, Walked, told}
+use Rattle.shifting.specs.Inner.{Ready, lifted, shiftedBy}
 use Rattle.arena.specs.declared.Added.{Added}
 use Rattle.arena.specs.declared.Added.the-variants.{Number, Refused}
 use Rattle.arena.proofs.Nodes.{extends-none, extends-both, extends-longer}
 use Rattle.arena.proofs.Trees.{expression-kept}
 use Rattle.arena.proofs.Layouts.{length-decode as nodes-count}
 use Rattle.arena.proofs.Walking.{grew-number}
-use Rattle.arena.proofs.Shifts.{ready-small}
+use Rattle.shifting.proofs.Shifts.{ready-small}
 use Rattle.orderings.specs.Ordering.{exprOf, optionsOf, pushed, extended, built}
 use Rattle.orderings.specs.Lists.{orderingAt}
 use Rattle.ordering_joins.specs.Offset.{keysMove, shiftedKeys, shiftedLists}

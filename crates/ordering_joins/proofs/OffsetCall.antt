@@ -9,10 +9,10 @@ use lib.IntN.{ℤ}
 use lib.ListN.{length, getD, replicate}
 use Rattle.arena.specs.Arena.{Placed, placed, full, andThen}
 use Rattle.arena.specs.Expression.{expressionAt}
-use Rattle.arena.specs.Shift.{moved, canMove}
+use Rattle.shifting.specs.Shift.{moved, canMove}
 use Rattle.arena.specs.Layout.{count, decode as nodes, encode as encodeNodes}
 use Rattle.arena.specs.Calls.{inCells}
-use Rattle.arena.specs.Inner.{lifted, shiftedBy}
+use Rattle.shifting.specs.Inner.{lifted, shiftedBy}
 use Rattle.arena.proofs.Layouts.{coded-cells, lawful-holds}
 use Rattle.arena.proofs.Walking.{memo-none}
 use Rattle.orderings.specs.Lists.{orderingAt}

@@ -12,9 +12,9 @@ use Rattle.laws.proofs.Booleans.{and-left, and-right}
 use Rattle.arena.specs.Node.{Node}
 use Rattle.arena.specs.Expression.{Expression, expressionAt}
 use Rattle.arena.specs.Arena.{Sound, Extends, Placed, placed, full, andThen, addExpression}
-use Rattle.arena.specs.Shift.{canMove, shifted}
+use Rattle.shifting.specs.Shift.{canMove, shifted}
 use Rattle.arena.proofs.Trees.{expression-kept, expression-small}
-use Rattle.arena.proofs.Values.{canMove-cong, shifted-cong}
+use Rattle.shifting.proofs.Values.{canMove-cong, shifted-cong}
 use Rattle.orderings.specs.Ordering.{exprOf, optionsOf, built}
 use Rattle.orderings.specs.Lists.{orderingAt}
 use Rattle.ordering_joins.specs.Offset.{keysMove, listsMove, shiftedKeys, shiftedLists}

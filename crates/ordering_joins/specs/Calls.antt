@@ -8,7 +8,7 @@ use Rattle.laws.specs.Tests.{if_then_else_}
 use lib.IntN.{ℤ}
 use Rattle.arena.specs.Node.{Node}
 use Rattle.arena.specs.Arena.{Placed, placed, full}
-use Rattle.arena.specs.Shift.{moved}
+use Rattle.shifting.specs.Shift.{moved}
 use Rattle.arena.specs.Layout.{decode as nodes}
 use Rattle.arena.specs.Calls.{inCells}
 use Rattle.orderings.specs.Lists.{outputOrdering, joinSuffix}

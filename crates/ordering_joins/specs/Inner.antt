@@ -9,7 +9,8 @@ use Rattle.laws.specs.Tests.{if_then_else_}
 use Rattle.arena.specs.Node.{Node}
 use Rattle.arena.specs.Arena.{Extends, Placed, placed, full, andThen}
 use Rattle.arena.specs.Layout.{count as cellCount, decode as nodes}
-use Rattle.arena.specs.Inner.{Holds, Memo, lifted, shiftedBy}
+use Rattle.arena.specs.Inner.{Holds, Memo}
+use Rattle.shifting.specs.Inner.{lifted, shiftedBy}
 use Rattle.orderings.specs.Ordering.{exprOf, built}
 use Rattle.orderings.specs.Lists.{extendedAll, outputOrdering, suffixed, suffixedAll, orderingAt}
 use Rattle.ordering_joins.specs.Offset.{keysMove, listsMove, shiftedKeys, shiftedLists}

@@ -6,7 +6,7 @@ use mathlib.Core.Option.{Option}
 use Rattle.arena.specs.Node.{Node}
 use Rattle.arena.specs.Expression.{expressionAt}
 use Rattle.arena.specs.Arena.{Placed, placed, andThen, addExpression}
-use Rattle.arena.specs.Shift.{canMove, shifted}
+use Rattle.shifting.specs.Shift.{canMove, shifted}
 use Rattle.orderings.specs.Ordering.{exprOf, optionsOf, built}
 
 -- every key's expression can move

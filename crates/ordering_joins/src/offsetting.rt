@@ -1,9 +1,6 @@
 // Shifting the orderings of a list that is checked already.
 use arena::Added;
 use arena::cells::node_count;
-use arena::shifting::lift_of;
-use arena::shifting::movable;
-use arena::shifting::shift;
 use orderings::Extended;
 use orderings::Listed;
 use orderings::Ordering;
@@ -13,6 +10,9 @@ use orderings::making::append;
 use orderings::making::no_orderings;
 use orderings::making::nothing;
 use orderings::pushing::push;
+use shifting::shifting::lift_of;
+use shifting::shifting::movable;
+use shifting::shifting::shift;
 ghost use mathlib.Core.Path.{_≡_};
 ghost use Prim.Native.Nat.{_<_, _+_, _*_};
 ghost use Rattle.arena.specs.Layout.{decode as nodes};

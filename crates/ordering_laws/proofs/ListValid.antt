@@ -15,18 +15,20 @@ use Rattle.laws.proofs.Booleans.{and-left, and-right}
 use Rattle.laws.proofs.Each.{each-holds}
 use Rattle.arena.specs.Layout.{count, lawful}
 use Rattle.orderings.specs.Ordering.{exprOf, hasExpr, pushed, extended}
-use Rattle.orderings.specs.Lists.{orderingAt, extendedAll, outputOrdering, joinSuffix, getOptions, partialConst}
+use Rattle.orderings.specs.Lists.{orderingAt, extendedAll, outputOrdering, joinSuffix}
+use Rattle.ordering_questions.specs.Questions.{getOptions, partialConst}
 use Rattle.orderings.specs.Good.{Good}
 use Rattle.orderings.specs.Layout.{row, encode, decode, lawfulList, keysInside}
-use Rattle.orderings.specs.Calls.{listNumber, twoNumber, fits, askList, listed, optionsAre, optionsAnswer, optionsNumber, partialAnswer, partialNumber}
+use Rattle.orderings.specs.Calls.{listNumber, twoNumber, fits, askList, listed}
+use Rattle.ordering_questions.specs.Calls.{optionsAre, optionsAnswer, optionsNumber, partialAnswer, partialNumber}
 use Rattle.ordering_joins.specs.Calls.{noOutput, outputOf, outputAnswer, joinAnswer}
 use Rattle.orderings.specs.declared.Orderings.{Orderings}
 use Rattle.orderings.specs.declared.Listed.{Listed}
 use Rattle.ordering_joins.specs.declared.Output.{Output}
-use Rattle.orderings.specs.declared.OptionsAre.{OptionsAre}
-use Rattle.orderings.specs.declared.OptionsAre.the-variants.{Are, Absent, Refused as Options-Refused}
-use Rattle.orderings.specs.declared.PartialIs.{PartialIs}
-use Rattle.orderings.specs.declared.PartialIs.the-variants.{Yes, No, Refused as Partial-Refused}
+use Rattle.ordering_questions.specs.declared.OptionsAre.{OptionsAre}
+use Rattle.ordering_questions.specs.declared.OptionsAre.the-variants.{Are, Absent, Refused as Options-Refused}
+use Rattle.ordering_questions.specs.declared.PartialIs.{PartialIs}
+use Rattle.ordering_questions.specs.declared.PartialIs.the-variants.{Yes, No, Refused as Partial-Refused}
 use Rattle.orderings.proofs.ListChecks.{Sized, three}
 use Rattle.orderings.proofs.ListHeld.{Known, two-tests, two-lawful, two-held, held-number}
 use Rattle.ordering_joins.proofs.Suffixes.{joinSuffix-all}

@@ -11,13 +11,13 @@ use lib.ListN.{length, getD}
 use Rattle.arena.specs.Node.{Node}
 use Rattle.arena.specs.Expression.{expressionAt}
 use Rattle.arena.specs.Arena.{Sound, Small, Extends, Placed, placed, full, addExpression}
-use Rattle.arena.specs.Shift.{moved, shifted}
+use Rattle.shifting.specs.Shift.{moved, shifted}
 use Rattle.arena.specs.Layout.{count, decode as nodes, encode as encodeNodes}
 use Rattle.arena.specs.Calls.{inCells}
 use Rattle.arena.proofs.Nodes.{extends-none, extends-both, extends-longer}
 use Rattle.arena.proofs.Trees.{expression-kept, expression-small}
 use Rattle.arena.proofs.Growing.{between, add-expression}
-use Rattle.arena.proofs.Values.{shifted-small, moved-within}
+use Rattle.shifting.proofs.Values.{shifted-small, moved-within}
 use Rattle.arena.proofs.Layouts.{count-encode, encode-holds, holds-lawful, lawful-holds, coded-cells}
 use Rattle.orderings.specs.Ordering.{exprOf, optionsOf, built}
 use Rattle.orderings.specs.Lists.{orderingAt}

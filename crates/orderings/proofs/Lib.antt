@@ -2,7 +2,6 @@
 pub mod Codec
 pub mod OneOrdering
 pub mod Extending
-pub mod Leads
 pub mod Appending
 pub mod ListChecks
 pub mod ListHeld

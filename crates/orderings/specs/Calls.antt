@@ -3,19 +3,14 @@
 use Prim.Native.Nat.{ℕ}
 use mathlib.Core.Bool.{Bool, _&&_}
 use mathlib.Core.List.{List, []}
-use mathlib.Core.Option.{Option, none, some}
-use lib.Dec.{eqb, ltb, leb}
+use lib.Dec.{eqb, leb}
 use lib.ListN.{length}
 use Rattle.laws.specs.Tests.{if_then_else_, each}
 use Rattle.arena.specs.Layout.{count, lawful}
-use Rattle.orderings.specs.Lists.{orderingAt, getOptions, partialConst}
+use Rattle.orderings.specs.Lists.{orderingAt}
 use Rattle.orderings.specs.Layout.{encode, decode, lawfulList, keysInside}
 use Rattle.orderings.specs.declared.Orderings.{Orderings}
 use Rattle.orderings.specs.declared.Listed.{Listed}
-use Rattle.orderings.specs.declared.OptionsAre.{OptionsAre}
-use Rattle.orderings.specs.declared.OptionsAre.the-variants.{Are, Absent, Refused as Options-Refused}
-use Rattle.orderings.specs.declared.PartialIs.{PartialIs}
-use Rattle.orderings.specs.declared.PartialIs.the-variants.{Yes, No, Refused as Partial-Refused}
 
 -- the check of a lent list over a lent arena: 11 for the arena or the list, then 1, else 0
 unfoldable pub listNumber : List ℕ → Orderings → ℕ
@@ -46,28 +41,3 @@ listed g os = if fits os then record { number = 0; list = encode os } else recor
 -- an empty list
 unfoldable pub clearAnswer : List ℕ → Orderings → Listed
 clearAnswer cells g = askList (λ k. record { number = k; list = g }) (λ os. record { number = 0; list = encode [] }) cells g
-
--- the options that were found, or none
-unfoldable pub optionsAre : Option ℕ → OptionsAre
-optionsAre none = Absent
-optionsAre (some options) = Are options
-
--- the options of an expression that leads an ordering: 1 where it is unknown
-unfoldable pub optionsAnswer : ℕ → ℕ → List (List ℕ) → OptionsAre
-optionsAnswer n e os = if ltb e n then optionsAre (getOptions os e) else Options-Refused 1
-
--- whether an expression is partly constant: 1 where it is unknown
-unfoldable pub partialAnswer : ℕ → ℕ → List (List ℕ) → PartialIs
-partialAnswer n e os = if ltb e n then (if partialConst os e then Yes else No) else Partial-Refused 1
-
--- document 01's number of each answer: 0 is done
-abbrev pub optionsNumber : OptionsAre → ℕ
-optionsNumber (Are options) = 0
-optionsNumber Absent = 0
-optionsNumber (Options-Refused k) = k
-
--- of the question whether an expression is partly constant
-abbrev pub partialNumber : PartialIs → ℕ
-partialNumber Yes = 0
-partialNumber No = 0
-partialNumber (Partial-Refused k) = k

@@ -1,12 +1,8 @@
--- What document 01 says of a list of orderings: building it, adding to it, the ordering of all, joining with the orderings of another, and the two questions.
+-- What document 01 says of a list of orderings: building it, adding to it, the ordering of all, and joining with the orderings of another.
 use Prim.Native.Nat.{ℕ}
-use mathlib.Core.Bool.{Bool, true, false, _&&_, _||_}
 use mathlib.Core.List.{List, [], _∷_, _++_, map}
-use mathlib.Core.Option.{Option, none, some}
-use lib.Dec.{eqb}
 use lib.ListN.{getD}
-use Rattle.laws.specs.Tests.{if_then_else_}
-use Rattle.orderings.specs.Ordering.{exprOf, optionsOf, extended, built}
+use Rattle.orderings.specs.Ordering.{extended, built}
 
 -- the ordering at a place; past the end, which no call asks for, an empty one
 abbrev pub orderingAt : List (List ℕ) → ℕ → List ℕ
@@ -44,17 +40,3 @@ suffixedAll os (p ∷ ps) = suffixed os p ++ suffixedAll os ps
 unfoldable pub joinSuffix : List (List ℕ) → List (List ℕ) → List (List ℕ)
 joinSuffix os [] = os
 joinSuffix os (p ∷ ps) = suffixedAll os (p ∷ ps)
-
--- the options of the first ordering that an expression leads
-unfoldable pub getOptions : List (List ℕ) → ℕ → Option ℕ
-getOptions [] e = none
-getOptions (o ∷ os) e = if eqb (exprOf (getD o 0 0)) e then some (optionsOf (getD o 0 0)) else getOptions os e
-
--- an expression leads an ordering with these options
-unfoldable pub leadsWith : List (List ℕ) → ℕ → ℕ → Bool
-leadsWith [] e options = false
-leadsWith (o ∷ os) e options = (eqb (exprOf (getD o 0 0)) e && eqb (optionsOf (getD o 0 0)) options) || leadsWith os e options
-
--- an expression leads with options and with their opposite: ascending nulls last and descending nulls first, or ascending nulls first and descending nulls last
-unfoldable pub partialConst : List (List ℕ) → ℕ → Bool
-partialConst os e = (leadsWith os e 0 && leadsWith os e 3) || (leadsWith os e 1 && leadsWith os e 2)

@@ -5,18 +5,12 @@
 pub mod checking;
 pub mod making;
 pub mod pushing;
-pub mod questions;
 
-use arena::cells::node_count;
-use arena::cells::wide;
 use checking::check_list;
 use making::no_orderings;
 use making::refusal;
-use questions::options_in;
-use questions::partial_in;
 ghost use mathlib.Core.Path.{_≡_};
-ghost use Rattle.arena.specs.Layout.{count};
-ghost use Rattle.orderings.specs.Calls.{listNumber, askList, clearAnswer, optionsAnswer, partialAnswer};
+ghost use Rattle.orderings.specs.Calls.{listNumber, clearAnswer};
 
 // An ordering: how many keys it has, and the keys; unused places are 0.
 pub struct Ordering {
@@ -34,20 +28,6 @@ pub struct Orderings {
 pub struct Listed {
     pub number: u32,
     pub list: Orderings,
-}
-
-// What the question for an expression's options answers.
-pub enum OptionsAre {
-    Are(u32),
-    Absent,
-    Refused(u32),
-}
-
-// What the question whether an expression is partly constant answers.
-pub enum PartialIs {
-    Yes,
-    No,
-    Refused(u32),
 }
 
 // What extending an ordering answers: whether it has at most 16 keys, and the ordering, an empty one where it has more.
@@ -72,38 +52,4 @@ pub fn clear(cells: &[u32; 11265], list: Orderings) -> Listed
         return refusal(number, list);
     }
     refusal(0, no_orderings())
-}
-
-// The options of the first ordering that an expression leads. Refusals: 11, 1.
-pub fn get_options(cells: &[u32; 11265], list: Orderings, expr: u32) -> OptionsAre
-    ensures { λ r. ⌜ r ≡ askList (λ k. OptionsAre.Refused k) (optionsAnswer (count (now (cells .entry))) expr) (now (cells .entry)) list ⌝ }
-{
-    let number = check_list(cells, list);
-    if number != 0 {
-        return OptionsAre::Refused(number);
-    }
-    let n = node_count(cells);
-    if n <= wide(expr) {
-        return OptionsAre::Refused(1);
-    }
-    options_in(list, expr)
-}
-
-// An expression leads orderings with opposite options. Refusals: 11, 1.
-pub fn is_expr_partial_const(cells: &[u32; 11265], list: Orderings, expr: u32) -> PartialIs
-    ensures { λ r. ⌜ r ≡ askList (λ k. PartialIs.Refused k) (partialAnswer (count (now (cells .entry))) expr) (now (cells .entry)) list ⌝ }
-{
-    let number = check_list(cells, list);
-    if number != 0 {
-        return PartialIs::Refused(number);
-    }
-    let n = node_count(cells);
-    if n <= wide(expr) {
-        return PartialIs::Refused(1);
-    }
-    if partial_in(list, expr) {
-        PartialIs::Yes
-    } else {
-        PartialIs::No
-    }
 }

@@ -17,7 +17,7 @@ use Rattle.arena.specs.Layout.{count, cellOf, rowOf, nodeOf, decode as nodes}
 use Rattle.arena.specs.Inner.{Known}
 use Rattle.arena.proofs.Layouts.{length-decode, node-decode, at-row-of}
 use Rattle.arena.proofs.NodeCells.{node-column, node-literal, node-operation}
-use Rattle.arena.proofs.Moves.{child-below, known-lower}
+use Rattle.arena.proofs.Children.{child-below, known-lower}
 use Rattle.classes.specs.Class.{Constant, noConstant, heterogeneous, unknown, known, Class, carried, isConstant}
 use Rattle.classes.specs.Group.{classAt, classOf}
 use Rattle.classes.specs.Layout.{flavourOf, valueOf}

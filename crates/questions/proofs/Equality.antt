@@ -15,7 +15,7 @@ use Rattle.arena.specs.Node.{Node, nodeAt, childNumbers}
 use Rattle.arena.specs.Layout.{count, decode as nodes}
 use Rattle.arena.specs.Inner.{Known}
 use Rattle.arena.proofs.Layouts.{length-decode}
-use Rattle.arena.proofs.Moves.{child-below, known-lower}
+use Rattle.arena.proofs.Children.{child-below, known-lower}
 use Rattle.classes.specs.Class.{Class}
 use Rattle.classes.specs.Group.{sameClass}
 use Rattle.questions.specs.Questions.{equalBy, exprsEqual}

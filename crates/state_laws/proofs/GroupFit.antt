@@ -30,7 +30,7 @@ use Rattle.merging.specs.Merging.{fromClasses}
 use Rattle.merging.specs.Lent.{classesLent}
 use Rattle.merging.specs.Calls.{newNumber, madeGroup, newAnswer}
 use Rattle.merging.proofs.ListCounts.{fits-few, fits-small}
-use Rattle.joins.specs.Lent.{pairsLent}
+use Rattle.shifted_classes.specs.Lent.{pairsLent}
 use Rattle.joins.specs.Calls.{joinNumber, joinBy, joinAnswer}
 use Rattle.merging_laws.proofs.HandedBack.{new-valid, both-checked, kinds-handed, joinOut}
 use Rattle.mappings.specs.Lent.{mappingLent}

@@ -17,7 +17,7 @@ use Rattle.laws.proofs.Table.{getD-table}
 use Rattle.arena.specs.Node.{Node}
 use Rattle.arena.specs.Expression.{expressionAt}
 use Rattle.arena.specs.Arena.{Placed, placed, full, addExpression}
-use Rattle.arena.specs.Shift.{moved, shifted}
+use Rattle.shifting.specs.Shift.{moved, shifted}
 use Rattle.arena.specs.Layout.{count, lawful, decode as nodes}
 use Rattle.arena.specs.Calls.{inCells}
 use Rattle.arena.proofs.Growing.{between}

@@ -4,7 +4,7 @@ use mathlib.Core.Path.{_≡_, _∙_}
 use native.Mathlib.Omega.{arith}
 use lib.ListN.{length}
 use Rattle.classes.proofs.Judging.{refusal-is}
-use Rattle.joins.proofs.PairPlaces.{right-inside}
+use Rattle.shifted_classes.proofs.PairPlaces.{right-inside}
 use Rattle.joins.proofs.Joins.{EquatedTo, equate-begins, equate-ends, equate-ready, equate-never, equate-same, equate-asks, equate-over, equate-more}
 use borrow.Author.Needs.{needs}
 use Rattle.joins.proofs.joining.equate_pairs.Statement.{statement}

@@ -5,7 +5,7 @@ use native.Mathlib.Omega.{arith}
 use Rattle.arena.specs.Layout.{decode as nodes}
 use Rattle.arena.specs.Calls.{inCells}
 use Rattle.classes.specs.Layout.{decode}
-use Rattle.joins.specs.Lent.{pairsLent}
+use Rattle.shifted_classes.specs.Lent.{pairsLent}
 use Rattle.joins.specs.Kinds.{joinKind}
 use Rattle.joins.specs.Calls.{joinShifted}
 use Rattle.joins.proofs.Joins.{no-sides, no-pairs, by-pairs, by-shift, by-left, by-right, by-none, made-beside, empty-made, empty-coded}

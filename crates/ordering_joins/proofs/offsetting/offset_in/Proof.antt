@@ -6,8 +6,8 @@ use borrow.Author.Needs.{needs}
 use borrow.Author.Tests.{not-true, not-false}
 use lib.IntN.{ℤ}
 use mir.Facts.{toZ-ofZ}
-use Rattle.arena.specs.Shift.{moved}
-use Rattle.arena.specs.Inner.{lifted}
+use Rattle.shifting.specs.Shift.{moved}
+use Rattle.shifting.specs.Inner.{lifted}
 use Rattle.ordering_joins.proofs.KeyTests.{there-low}
 use Rattle.ordering_joins.proofs.OffsetCall.{table-moves, offset-out, offset-ready, offset-full, offset-done}
 use Rattle.ordering_joins.proofs.offsetting.offset_in.Statement.{statement}

@@ -12,7 +12,7 @@ use Rattle.laws.specs.Tests.{each}
 use Rattle.laws.proofs.Each.{each-none, each-more, each-stops, each-ends}
 use Rattle.arena.specs.Node.{nodeAt, childNumbers}
 use Rattle.arena.specs.Layout.{decode as nodes}
-use Rattle.arena.proofs.Moves.{child-place}
+use Rattle.arena.proofs.Children.{child-place}
 use Rattle.projection.proofs.table.children_project.Statement.{statement}
 use Rattle.projection.proofs.table.children_project.Tie as tie
 
