@@ -1,4 +1,4 @@
--- Two results that meet a contract are equal: the public functions of arena.
+-- Two results that meet a contract are equal: the public functions of arena and shifting.
 use Rattle.laws.proofs.Determined.{one-result}
 use denote.Ref.{now}
 use Rattle.promises.proofs.Once.{OneAnswer, OneLent, OneWith}
@@ -20,14 +20,14 @@ use Rattle.arena.proofs.add_literal.Reads as ArenaAddLiteral
 use Rattle.arena.proofs.add_operation.Reads as ArenaAddOperation
 use Rattle.arena.proofs.read_node.Reads as ArenaReadNode
 use Rattle.arena.proofs.read_child.Reads as ArenaReadChild
-use Rattle.arena.proofs.add_offset_to_expr.Reads as ArenaAddOffsetToExpr
 use Rattle.arena.proofs.memo.note.Reads as ArenaMemoNote
 use Rattle.arena.proofs.memo.refused.Reads as ArenaMemoRefused
 use Rattle.arena.proofs.reading.read_in.Reads as ArenaReadingReadIn
 use Rattle.arena.proofs.reading.child_count.Reads as ArenaReadingChildCount
 use Rattle.arena.proofs.reading.child_in.Reads as ArenaReadingChildIn
-use Rattle.arena.proofs.shifting.can_move.Reads as ArenaShiftingCanMove
-use Rattle.arena.proofs.shifting.shift_in.Reads as ArenaShiftingShiftIn
+use Rattle.shifting.proofs.add_offset_to_expr.Reads as ShiftingAddOffsetToExpr
+use Rattle.shifting.proofs.shifting.can_move.Reads as ShiftingShiftingCanMove
+use Rattle.shifting.proofs.shifting.shift_in.Reads as ShiftingShiftingShiftIn
 
 -- ---- arena
 
@@ -85,9 +85,6 @@ arena-read-node κs a r r′ s s′ = one-result
 pub arena-read-child : (κs : _) (a : _) → OneAnswer (ArenaReadChild.Learnt κs a)
 arena-read-child κs a r r′ s s′ = one-result
 
-pub arena-add-offset-to-expr : (κs : _) (a : _) → OneWith (λ s. now (s .0)) (ArenaAddOffsetToExpr.Learnt κs a)
-arena-add-offset-to-expr κs a r r′ s s′ = one-result
-
 pub arena-memo-note : (κs : _) (a : _) → OneLent (λ s. now (s .0)) (ArenaMemoNote.Learnt κs a)
 arena-memo-note κs a r r′ s s′ = one-result
 
@@ -103,8 +100,13 @@ arena-reading-child-count κs a r r′ s s′ = one-result
 pub arena-reading-child-in : (κs : _) (a : _) → OneAnswer (ArenaReadingChildIn.Learnt κs a)
 arena-reading-child-in κs a r r′ s s′ = one-result
 
-pub arena-shifting-can-move : (κs : _) (a : _) → OneAnswer (ArenaShiftingCanMove.Learnt κs a)
-arena-shifting-can-move κs a r r′ s s′ = one-result
+-- ---- shifting
 
-pub arena-shifting-shift-in : (κs : _) (a : _) → OneWith (λ s. now (s .0)) (ArenaShiftingShiftIn.Learnt κs a)
-arena-shifting-shift-in κs a r r′ s s′ = one-result
+pub shifting-add-offset-to-expr : (κs : _) (a : _) → OneWith (λ s. now (s .0)) (ShiftingAddOffsetToExpr.Learnt κs a)
+shifting-add-offset-to-expr κs a r r′ s s′ = one-result
+
+pub shifting-shifting-can-move : (κs : _) (a : _) → OneAnswer (ShiftingShiftingCanMove.Learnt κs a)
+shifting-shifting-can-move κs a r r′ s s′ = one-result
+
+pub shifting-shifting-shift-in : (κs : _) (a : _) → OneWith (λ s. now (s .0)) (ShiftingShiftingShiftIn.Learnt κs a)
+shifting-shifting-shift-in κs a r r′ s s′ = one-result

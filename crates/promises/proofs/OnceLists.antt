@@ -1,4 +1,4 @@
--- Two results that meet a contract are equal: the public functions of merging, joins, mappings, projection and group_projection.
+-- Two results that meet a contract are equal: the public functions of merging, shifted_classes, joins, mappings, projection and group_projection.
 use Rattle.laws.proofs.Determined.{one-result}
 use denote.Ref.{now}
 use Rattle.promises.proofs.Once.{OneAnswer, OneWith, OneWithBoth}
@@ -16,14 +16,14 @@ use Rattle.merging.proofs.lent.number_at.Reads as MergingLentNumberAt
 use Rattle.merging.proofs.lent.new_number.Reads as MergingLentNewNumber
 use Rattle.merging.proofs.lent.lent_classes.Reads as MergingLentLentClasses
 use Rattle.merging.proofs.new.Reads as MergingNew
+use Rattle.shifted_classes.proofs.right_side.members_move.Reads as ShiftedClassesRightSideMembersMove
+use Rattle.shifted_classes.proofs.right_side.rights_move.Reads as ShiftedClassesRightSideRightsMove
+use Rattle.shifted_classes.proofs.right_side.add_class_from.Reads as ShiftedClassesRightSideAddClassFrom
+use Rattle.shifted_classes.proofs.right_side.add_shifted.Reads as ShiftedClassesRightSideAddShifted
 use Rattle.joins.proofs.joining.join_number.Reads as JoinsJoiningJoinNumber
 use Rattle.joins.proofs.joining.join_by.Reads as JoinsJoiningJoinBy
 use Rattle.joins.proofs.kinds.kind_of.Reads as JoinsKindsKindOf
 use Rattle.joins.proofs.join.Reads as JoinsJoin
-use Rattle.joins.proofs.shifting.members_move.Reads as JoinsShiftingMembersMove
-use Rattle.joins.proofs.shifting.rights_move.Reads as JoinsShiftingRightsMove
-use Rattle.joins.proofs.shifting.add_class_from.Reads as JoinsShiftingAddClassFrom
-use Rattle.joins.proofs.shifting.add_shifted.Reads as JoinsShiftingAddShifted
 use Rattle.mappings.proofs.lent.project_number.Reads as MappingsLentProjectNumber
 use Rattle.projection.proofs.project_expr.Reads as ProjectionProjectExpr
 use Rattle.projection.proofs.project_expressions.Reads as ProjectionProjectExpressions
@@ -78,6 +78,20 @@ merging-lent-lent-classes κs a r r′ s s′ = one-result
 pub merging-new : (κs : _) (a : _) → OneAnswer (MergingNew.Learnt κs a)
 merging-new κs a r r′ s s′ = one-result
 
+-- ---- shifted_classes
+
+pub shifted-classes-right-side-members-move : (κs : _) (a : _) → OneAnswer (ShiftedClassesRightSideMembersMove.Learnt κs a)
+shifted-classes-right-side-members-move κs a r r′ s s′ = one-result
+
+pub shifted-classes-right-side-rights-move : (κs : _) (a : _) → OneAnswer (ShiftedClassesRightSideRightsMove.Learnt κs a)
+shifted-classes-right-side-rights-move κs a r r′ s s′ = one-result
+
+pub shifted-classes-right-side-add-class-from : (κs : _) (a : _) → OneAnswer (ShiftedClassesRightSideAddClassFrom.Learnt κs a)
+shifted-classes-right-side-add-class-from κs a r r′ s s′ = one-result
+
+pub shifted-classes-right-side-add-shifted : (κs : _) (a : _) → OneAnswer (ShiftedClassesRightSideAddShifted.Learnt κs a)
+shifted-classes-right-side-add-shifted κs a r r′ s s′ = one-result
+
 -- ---- joins
 
 pub joins-joining-join-number : (κs : _) (a : _) → OneAnswer (JoinsJoiningJoinNumber.Learnt κs a)
@@ -91,18 +105,6 @@ joins-kinds-kind-of κs a r r′ s s′ = one-result
 
 pub joins-join : (κs : _) (a : _) → OneWith (λ s. now (s .0)) (JoinsJoin.Learnt κs a)
 joins-join κs a r r′ s s′ = one-result
-
-pub joins-shifting-members-move : (κs : _) (a : _) → OneAnswer (JoinsShiftingMembersMove.Learnt κs a)
-joins-shifting-members-move κs a r r′ s s′ = one-result
-
-pub joins-shifting-rights-move : (κs : _) (a : _) → OneAnswer (JoinsShiftingRightsMove.Learnt κs a)
-joins-shifting-rights-move κs a r r′ s s′ = one-result
-
-pub joins-shifting-add-class-from : (κs : _) (a : _) → OneAnswer (JoinsShiftingAddClassFrom.Learnt κs a)
-joins-shifting-add-class-from κs a r r′ s s′ = one-result
-
-pub joins-shifting-add-shifted : (κs : _) (a : _) → OneAnswer (JoinsShiftingAddShifted.Learnt κs a)
-joins-shifting-add-shifted κs a r r′ s s′ = one-result
 
 -- ---- mappings
 

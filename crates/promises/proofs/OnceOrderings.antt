@@ -1,4 +1,4 @@
--- Two results that meet a contract are equal: the public functions of orderings, reduction and ordering_joins.
+-- Two results that meet a contract are equal: the public functions of orderings, ordering_questions, reduction and ordering_joins.
 use Rattle.laws.proofs.Determined.{one-result}
 use denote.Ref.{now}
 use Rattle.promises.proofs.Once.{OneAnswer, OneWith}
@@ -9,16 +9,16 @@ use Rattle.orderings.proofs.checking.check_list.Reads as OrderingsCheckingCheck
 use Rattle.orderings.proofs.checking.check_two.Reads as OrderingsCheckingCheckTwo
 use Rattle.orderings.proofs.check.Reads as OrderingsCheck
 use Rattle.orderings.proofs.clear.Reads as OrderingsClear
-use Rattle.orderings.proofs.get_options.Reads as OrderingsGetOptions
-use Rattle.orderings.proofs.is_expr_partial_const.Reads as OrderingsIsExprPartialConst
 use Rattle.orderings.proofs.making.nothing.Reads as OrderingsMakingNothing
 use Rattle.orderings.proofs.making.no_orderings.Reads as OrderingsMakingNoOrderings
 use Rattle.orderings.proofs.making.append.Reads as OrderingsMakingAppend
 use Rattle.orderings.proofs.making.refusal.Reads as OrderingsMakingRefusal
 use Rattle.orderings.proofs.pushing.push.Reads as OrderingsPushingPush
 use Rattle.orderings.proofs.pushing.extend.Reads as OrderingsPushingExtend
-use Rattle.orderings.proofs.questions.options_in.Reads as OrderingsQuestionsOptionsIn
-use Rattle.orderings.proofs.questions.partial_in.Reads as OrderingsQuestionsPartialIn
+use Rattle.ordering_questions.proofs.get_options.Reads as OrderingQuestionsGetOptions
+use Rattle.ordering_questions.proofs.is_expr_partial_const.Reads as OrderingQuestionsIsExprPartialConst
+use Rattle.ordering_questions.proofs.questions.options_in.Reads as OrderingQuestionsQuestionsOptionsIn
+use Rattle.ordering_questions.proofs.questions.partial_in.Reads as OrderingQuestionsQuestionsPartialIn
 use Rattle.reduction.proofs.lent.lent_number.Reads as ReductionLentLentNumber
 use Rattle.reduction.proofs.lent.extend_number.Reads as ReductionLentExtendNumber
 use Rattle.reduction.proofs.lent.add_in.Reads as ReductionLentAddIn
@@ -57,12 +57,6 @@ orderings-check κs a r r′ s s′ = one-result
 pub orderings-clear : (κs : _) (a : _) → OneAnswer (OrderingsClear.Learnt κs a)
 orderings-clear κs a r r′ s s′ = one-result
 
-pub orderings-get-options : (κs : _) (a : _) → OneAnswer (OrderingsGetOptions.Learnt κs a)
-orderings-get-options κs a r r′ s s′ = one-result
-
-pub orderings-is-expr-partial-const : (κs : _) (a : _) → OneAnswer (OrderingsIsExprPartialConst.Learnt κs a)
-orderings-is-expr-partial-const κs a r r′ s s′ = one-result
-
 pub orderings-making-nothing : (κs : _) (a : _) → OneAnswer (OrderingsMakingNothing.Learnt κs a)
 orderings-making-nothing κs a r r′ s s′ = one-result
 
@@ -81,11 +75,19 @@ orderings-pushing-push κs a r r′ s s′ = one-result
 pub orderings-pushing-extend : (κs : _) (a : _) → OneAnswer (OrderingsPushingExtend.Learnt κs a)
 orderings-pushing-extend κs a r r′ s s′ = one-result
 
-pub orderings-questions-options-in : (κs : _) (a : _) → OneAnswer (OrderingsQuestionsOptionsIn.Learnt κs a)
-orderings-questions-options-in κs a r r′ s s′ = one-result
+-- ---- ordering_questions
 
-pub orderings-questions-partial-in : (κs : _) (a : _) → OneAnswer (OrderingsQuestionsPartialIn.Learnt κs a)
-orderings-questions-partial-in κs a r r′ s s′ = one-result
+pub ordering-questions-get-options : (κs : _) (a : _) → OneAnswer (OrderingQuestionsGetOptions.Learnt κs a)
+ordering-questions-get-options κs a r r′ s s′ = one-result
+
+pub ordering-questions-is-expr-partial-const : (κs : _) (a : _) → OneAnswer (OrderingQuestionsIsExprPartialConst.Learnt κs a)
+ordering-questions-is-expr-partial-const κs a r r′ s s′ = one-result
+
+pub ordering-questions-questions-options-in : (κs : _) (a : _) → OneAnswer (OrderingQuestionsQuestionsOptionsIn.Learnt κs a)
+ordering-questions-questions-options-in κs a r r′ s s′ = one-result
+
+pub ordering-questions-questions-partial-in : (κs : _) (a : _) → OneAnswer (OrderingQuestionsQuestionsPartialIn.Learnt κs a)
+ordering-questions-questions-partial-in κs a r r′ s s′ = one-result
 
 -- ---- reduction
 

@@ -1,4 +1,4 @@
--- Two results that meet a contract are equal: the public functions of records, group_records, lines and transcript.
+-- Two results that meet a contract are equal: the public functions of records, group_records and transcript.
 use Rattle.laws.proofs.Determined.{one-result}
 use denote.Ref.{now}
 use Rattle.promises.proofs.Once.{OneAnswer, OnePart, OneWith}
