@@ -18,9 +18,9 @@ use Rattle.questions.specs.declared.Answer.{Answer}
 use Rattle.questions.specs.declared.Answer.the-variants.{Yes as Equal-Yes, No as Equal-No, Refused as Equal-Refused}
 use Rattle.questions.specs.declared.ConstantIs.{ConstantIs}
 use Rattle.questions.specs.declared.ConstantIs.the-variants.{Is as Constant-Is, Refused as Constant-Refused}
-use Rattle.normal.specs.declared.KeyIs.{KeyIs}
-use Rattle.normal.specs.declared.KeyIs.the-variants.{Is as Key-Is, Refused as Key-Refused}
-use Rattle.normal.specs.declared.Sorted.{Sorted}
+use Rattle.sort_keys.specs.declared.KeyIs.{KeyIs}
+use Rattle.sort_keys.specs.declared.KeyIs.the-variants.{Is as Key-Is, Refused as Key-Refused}
+use Rattle.sort_keys.specs.declared.Sorted.{Sorted}
 use Rattle.projection.specs.declared.Projected.{Projected}
 use Rattle.projection.specs.declared.Projected.the-variants.{Number as Projected-Number, Nothing as Projected-Nothing, Refused as Projected-Refused}
 use Rattle.orderings.specs.declared.OptionsAre.{OptionsAre}

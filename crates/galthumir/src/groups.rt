@@ -18,7 +18,8 @@ ghost use Rattle.conditions.specs.Calls.{onConstant};
 ghost use Rattle.questions.specs.Calls.{equalAnswer, constantAnswer};
 ghost use Rattle.questions.specs.declared.Answer.{Answer};
 ghost use Rattle.questions.specs.declared.ConstantIs.{ConstantIs};
-ghost use Rattle.normal.specs.Calls.{normalized, normalizedKey, normalizedKeys};
+ghost use Rattle.normal.specs.Calls.{normalized};
+ghost use Rattle.sort_keys.specs.Calls.{normalizedKey, normalizedKeys};
 ghost use Rattle.merging.specs.Calls.{newAnswer};
 ghost use Rattle.joins.specs.Calls.{joinAnswer};
 ghost use Rattle.group_projection.specs.Calls.{projectAnswer};
@@ -160,7 +161,7 @@ pub extern "C" fn galthumir_normalize_sort_expr(
 ) -> u32
     ensures { λ r. ⌜ ((r, now (answer .exit)), now (arena .exit)) ≡ onFirst (keyIn (now (answer .entry))) (normalizedKey expr options (now (arena .entry)) (groupFrom (now (group .entry)))) ⌝ }
 {
-    let key = normal::normalize_sort_expr(arena, load_group(group), expr, options);
+    let key = sort_keys::normalize_sort_expr(arena, load_group(group), expr, options);
     put_key(key, answer)
 }
 
@@ -174,7 +175,7 @@ pub extern "C" fn galthumir_normalize_sort_exprs(
 ) -> u32
     ensures { λ r. ⌜ ((r, now (answer .exit)), now (arena .exit)) ≡ onFirst (sortedIn (now (answer .entry))) (normalizedKeys (now (keys .entry)) (now (arena .entry)) (groupFrom (now (group .entry)))) ⌝ }
 {
-    let sorted = normal::normalize_sort_exprs(arena, load_group(group), keys);
+    let sorted = sort_keys::normalize_sort_exprs(arena, load_group(group), keys);
     put_sorted(sorted, answer)
 }
 
