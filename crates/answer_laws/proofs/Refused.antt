@@ -20,8 +20,8 @@ use Rattle.arena.specs.declared.Child.the-variants.{Number as Child-Number, Abs
 use Rattle.arena.proofs.Promises.{Kept, column-kept, literal-kept, operation-kept, offset-kept, lent-refused}
 use Rattle.classes.specs.declared.Group.{Group}
 use Rattle.classes.specs.declared.Changed.{Changed}
-use Rattle.classes.specs.declared.ClassIs.{ClassIs}
-use Rattle.classes.specs.declared.ClassIs.the-variants.{At as Class-At, Nowhere as NoClass, Refused as Class-Refused}
+use Rattle.group_checks.specs.declared.ClassIs.{ClassIs}
+use Rattle.group_checks.specs.declared.ClassIs.the-variants.{At as Class-At, Nowhere as NoClass, Refused as Class-Refused}
 use Rattle.questions.specs.declared.Answer.{Answer}
 use Rattle.questions.specs.declared.Answer.the-variants.{Yes as Equal-Yes, No as Equal-No, Refused as Equal-Refused}
 use Rattle.questions.specs.declared.ConstantIs.{ConstantIs}

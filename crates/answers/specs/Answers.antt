@@ -12,8 +12,8 @@ use Rattle.arena.specs.declared.Read.the-variants.{Column as Read-Column, Liter
 use Rattle.arena.specs.declared.Child.{Child}
 use Rattle.arena.specs.declared.Child.the-variants.{Number as Child-Number, Absent as Child-Absent, Refused as Child-Refused}
 use Rattle.classes.specs.declared.Changed.{Changed}
-use Rattle.classes.specs.declared.ClassIs.{ClassIs}
-use Rattle.classes.specs.declared.ClassIs.the-variants.{At as Class-At, Nowhere as NoClass, Refused as Class-Refused}
+use Rattle.group_checks.specs.declared.ClassIs.{ClassIs}
+use Rattle.group_checks.specs.declared.ClassIs.the-variants.{At as Class-At, Nowhere as NoClass, Refused as Class-Refused}
 use Rattle.questions.specs.declared.Answer.{Answer}
 use Rattle.questions.specs.declared.Answer.the-variants.{Yes as Equal-Yes, No as Equal-No, Refused as Equal-Refused}
 use Rattle.questions.specs.declared.ConstantIs.{ConstantIs}

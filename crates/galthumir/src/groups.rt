@@ -11,8 +11,9 @@ use arena::cells::wide;
 use states::groups::load_group;
 use states::groups::store_group;
 ghost use mathlib.Core.Path.{_≡_};
-ghost use Rattle.classes.specs.Calls.{groupNumber, opened, onGroup, askGroup, classAnswer};
-ghost use Rattle.classes.specs.declared.ClassIs.{ClassIs};
+ghost use Rattle.classes.specs.Calls.{groupNumber, onGroup, askGroup};
+ghost use Rattle.group_checks.specs.Calls.{opened, classAnswer};
+ghost use Rattle.group_checks.specs.declared.ClassIs.{ClassIs};
 ghost use Rattle.conditions.specs.Steps.{addEqual, clear};
 ghost use Rattle.conditions.specs.Calls.{onConstant};
 ghost use Rattle.questions.specs.Calls.{equalAnswer, constantAnswer};
@@ -32,7 +33,7 @@ ghost use Rattle.answers.specs.Answers.{onFirst, addedIn, classIn, changedIn, a
 pub extern "C" fn galthumir_open_group(limit: u32, made: &mut [u32; 451]) -> u32
     ensures { λ r. ⌜ (r, now (made .exit)) ≡ storedGroup (now (made .entry)) (opened limit) ⌝ }
 {
-    let opened = classes::open_group(wide(limit));
+    let opened = group_checks::open_group(wide(limit));
     store_group(opened, made)
 }
 
@@ -41,7 +42,7 @@ pub extern "C" fn galthumir_open_group(limit: u32, made: &mut [u32; 451]) -> u32
 pub extern "C" fn galthumir_check_group(arena: &[u32; 11265], group: &[u32; 451]) -> u32
     ensures { λ r. ⌜ r ≡ groupNumber (now (arena .entry)) (groupFrom (now (group .entry))) ⌝ }
 {
-    classes::check(arena, load_group(group))
+    group_checks::check(arena, load_group(group))
 }
 
 // The class of an expression. Refusals: 12, 11, 1.
@@ -55,7 +56,7 @@ pub extern "C" fn galthumir_get_equivalence_class(
     ensures { λ r. ⌜ (r, now (answer .exit)) ≡ classIn (now (answer .entry)) (askGroup (λ k. ClassIs.Refused k) (classAnswer expr) (now (arena .entry)) (groupFrom (now (group .entry)))) ⌝ }
 {
     put_class_is(
-        classes::get_equivalence_class(arena, load_group(group), expr),
+        group_checks::get_equivalence_class(arena, load_group(group), expr),
         answer,
     )
 }

@@ -22,7 +22,7 @@ use Rattle.classes.specs.Good.{Good}
 use Rattle.classes.specs.Layout.{decode}
 use Rattle.classes.specs.Calls.{groupNumber}
 use Rattle.classes.specs.declared.Group.{Group}
-use Rattle.classes.proofs.HeldLaws.{number-lawful, number-fit}
+use Rattle.group_checks.proofs.HeldLaws.{number-lawful, number-fit}
 use Rattle.normal.specs.Normal.{normal}
 use Rattle.normal.specs.Calls.{onChecked, normalizeExpr, normalized}
 use Rattle.normal.proofs.Calling.{checked-done, checked-refused}

@@ -11,7 +11,7 @@ use arena::Added;
 use arena::cells::node_count;
 use arena::cells::wide;
 use classes::Group;
-use classes::checking::check_group;
+use group_checks::checking::check_group;
 use normalizing::normalize_in;
 ghost use mathlib.Core.Path.{_≡_};
 ghost use Rattle.normal.specs.Calls.{normalized};

@@ -16,7 +16,7 @@ use Rattle.classes.specs.Calls.{changed}
 use Rattle.classes.specs.Inner.{Held}
 use Rattle.classes.specs.declared.Changed.{Changed}
 use Rattle.classes.proofs.Codec.{decode-encode as classes-back}
-use Rattle.classes.proofs.HeldLaws.{Fit as ClassesFit}
+use Rattle.group_checks.proofs.HeldLaws.{Fit as ClassesFit}
 use Rattle.orderings.specs.Good.{Good as GoodList}
 use Rattle.orderings.specs.Layout.{encode as encodeList}
 use Rattle.orderings.specs.declared.Listed.{Listed}

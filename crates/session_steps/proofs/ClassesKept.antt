@@ -23,7 +23,7 @@ use Rattle.classes.specs.declared.Group.{Group}
 use Rattle.demands.proofs.Answers.{addEqual-holds, addConstant-holds}
 use Rattle.classes.proofs.Codec.{decode-encode, coded-encode}
 use Rattle.demands.proofs.GoodKept.{addEqual-good, addConstant-good}
-use Rattle.classes.proofs.HeldLaws.{Fit}
+use Rattle.group_checks.proofs.HeldLaws.{Fit}
 use Rattle.normal.proofs.NormalValue.{good-extended}
 use Rattle.session_steps.specs.State.{sayConstant}
 

@@ -16,7 +16,7 @@ use Rattle.arena.proofs.Layouts.{decode-encode, count-encode, encode-holds, hol
 use Rattle.classes.specs.Class.{Class}
 use Rattle.classes.specs.Layout.{encode as groupFor}
 use Rattle.classes.specs.Calls.{groupNumber}
-use Rattle.classes.proofs.HeldLaws.{Fit, held-number}
+use Rattle.group_checks.proofs.HeldLaws.{Fit, held-number}
 use Rattle.normal.specs.Calls.{normalizeExpr}
 use Rattle.normal.proofs.NormalKept.{Kept, form-kept}
 use Rattle.orderings.specs.Good.{Good as GoodList}

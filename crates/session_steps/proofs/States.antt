@@ -22,7 +22,7 @@ use Rattle.classes.specs.Layout.{constantFrom}
 use Rattle.conditions.specs.Calls.{sayable}
 use Rattle.demands.proofs.Answers.{addEqual-keeps, addConstant-keeps}
 use Rattle.demands.proofs.GoodKept.{empty-good}
-use Rattle.classes.proofs.HeldLaws.{Fit}
+use Rattle.group_checks.proofs.HeldLaws.{Fit}
 use Rattle.normal.specs.Normal.{normal}
 use Rattle.normal.specs.Calls.{normalizeExpr}
 use Rattle.normal.proofs.NormalKept.{Kept, form-kept}

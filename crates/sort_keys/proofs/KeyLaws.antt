@@ -16,7 +16,7 @@ use Rattle.arena.specs.Layout.{count, cellOf, decode as nodes}
 use Rattle.classes.specs.Class.{Class, isUniform}
 use Rattle.questions.specs.Questions.{exprConstant}
 use Rattle.classes.specs.Layout.{padded}
-use Rattle.classes.proofs.Checks.{literal-cell}
+use Rattle.group_checks.proofs.Checks.{literal-cell}
 use Rattle.classes.proofs.Codec.{snoc-padded}
 use Rattle.sort_keys.specs.Keys.{Key, exprsOf, withExprs, ordersNothing, sorting}
 use Rattle.sort_keys.specs.Layout.{keysOf, packed, sorted}

@@ -9,7 +9,7 @@ pub mod keys;
 use arena::Added;
 use arena::cells::node_count;
 use classes::Group;
-use classes::checking::check_group;
+use group_checks::checking::check_group;
 use keys::exprs_below;
 use keys::no_keys;
 use keys::options_known;

@@ -7,7 +7,7 @@ use lib.ListN.{length}
 use Rattle.arena.specs.Layout.{count}
 use Rattle.arena.proofs.Layouts.{lawful-holds}
 use Rattle.classes.specs.Calls.{groupNumber}
-use Rattle.classes.proofs.HeldLaws.{number-lawful, number-held}
+use Rattle.group_checks.proofs.HeldLaws.{number-lawful, number-held}
 use Rattle.sort_keys.specs.Calls.{keysNumber}
 use Rattle.sort_keys.proofs.KeyCalls.{Below, keys-known, keys-refused, options-unknown, group-outside, key-cut, keys-whole, keys-unknown, keys-sorted}
 use borrow.Author.Needs.{needs}

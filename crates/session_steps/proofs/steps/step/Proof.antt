@@ -9,7 +9,7 @@ use Rattle.conditions.specs.Steps.{addEqual}
 use Rattle.classes.specs.Layout.{decode}
 use Rattle.classes.specs.Calls.{changed}
 use Rattle.questions.specs.Calls.{equalAnswer}
-use Rattle.classes.proofs.HeldLaws.{Fit}
+use Rattle.group_checks.proofs.HeldLaws.{Fit}
 use Rattle.normal.specs.Calls.{normalizeExpr}
 use Rattle.normal.proofs.NormalKept.{form-kept}
 use Rattle.orderings.specs.Layout.{decode as orderingsIn}
