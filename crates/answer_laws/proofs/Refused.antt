@@ -22,17 +22,19 @@ use Rattle.arena.proofs.Promises.{Kept, column-kept, literal-kept, operation-ke
 use Rattle.shifting.proofs.Promises.{offset-kept}
 use Rattle.classes.specs.declared.Group.{Group}
 use Rattle.classes.specs.declared.Changed.{Changed}
-use Rattle.classes.specs.declared.ClassIs.{ClassIs}
-use Rattle.classes.specs.declared.ClassIs.the-variants.{At as Class-At, Nowhere as NoClass, Refused as Class-Refused}
+use Rattle.group_checks.specs.declared.ClassIs.{ClassIs}
+use Rattle.group_checks.specs.declared.ClassIs.the-variants.{At as Class-At, Nowhere as NoClass, Refused as Class-Refused}
 use Rattle.questions.specs.declared.Answer.{Answer}
 use Rattle.questions.specs.declared.Answer.the-variants.{Yes as Equal-Yes, No as Equal-No, Refused as Equal-Refused}
 use Rattle.questions.specs.declared.ConstantIs.{ConstantIs}
 use Rattle.questions.specs.declared.ConstantIs.the-variants.{Is as Constant-Is, Refused as Constant-Refused}
-use Rattle.normal.specs.Calls.{normalized, normalizedKey, normalizedKeys, keyIsNumber}
-use Rattle.normal.specs.declared.KeyIs.{KeyIs}
-use Rattle.normal.specs.declared.KeyIs.the-variants.{Is as Key-Is, Refused as Key-Refused}
-use Rattle.normal.specs.declared.Sorted.{Sorted}
-use Rattle.normal.proofs.NormalKept.{form-refused, key-refused, keys-refusal}
+use Rattle.normal.specs.Calls.{normalized}
+use Rattle.sort_keys.specs.Calls.{normalizedKey, normalizedKeys, keyIsNumber}
+use Rattle.sort_keys.specs.declared.KeyIs.{KeyIs}
+use Rattle.sort_keys.specs.declared.KeyIs.the-variants.{Is as Key-Is, Refused as Key-Refused}
+use Rattle.sort_keys.specs.declared.Sorted.{Sorted}
+use Rattle.normal.proofs.NormalKept.{form-refused}
+use Rattle.sort_keys.proofs.KeysKept.{key-refused, keys-refusal}
 use Rattle.joins.specs.Calls.{joinAnswer}
 use Rattle.merging_laws.proofs.HandedBack.{refusal-keeps-join}
 use Rattle.projection.specs.Calls.{projectedExpr}

@@ -6,10 +6,7 @@ pub mod Codec
 pub mod Members
 pub mod Rebuilding
 pub mod Turns
-pub mod Checks
 pub mod GroupLayout
-pub mod HeldLaws
 pub mod ClassPlaces
 pub mod OneClass
 pub mod Judging
-pub mod Calling

@@ -10,9 +10,10 @@ use Rattle.laws.specs.Tests.{if_then_else_}
 use Rattle.arena.specs.Layout.{decode as nodes}
 use Rattle.classes.specs.Group.{classOf}
 use Rattle.classes.specs.Layout.{decode, markOf}
-use Rattle.classes.specs.Calls.{groupNumber, askGroup, classIs, classAnswer, classIsNumber}
+use Rattle.classes.specs.Calls.{groupNumber, askGroup}
+use Rattle.group_checks.specs.Calls.{classIs, classAnswer, classIsNumber}
 use Rattle.classes.specs.declared.Group.{Group}
-use Rattle.classes.specs.declared.ClassIs.the-variants.{Refused as Class-Refused}
+use Rattle.group_checks.specs.declared.ClassIs.the-variants.{Refused as Class-Refused}
 use Rattle.questions.specs.Questions.{exprsEqual, exprConstant}
 use Rattle.questions.specs.Calls.{equalAnswer, constantAnswer, answerNumber, constantIsNumber}
 use Rattle.questions.specs.declared.Answer.the-variants.{Yes, No, Refused as Answer-Refused}

@@ -17,11 +17,12 @@ use Rattle.classes.specs.Group.{classAt, total, length-removed, equalCondition,
 use Rattle.classes.specs.Good.{Good}
 use Rattle.classes.specs.Steps.{Outcome, fits}
 use Rattle.classes.specs.Layout.{encode, decode, constantFrom}
-use Rattle.classes.specs.Calls.{groupNumber, opened, changed, onGroup}
+use Rattle.classes.specs.Calls.{groupNumber, changed, onGroup}
+use Rattle.group_checks.specs.Calls.{opened}
 use Rattle.classes.specs.declared.Group.{Group}
 use Rattle.classes.specs.declared.Changed.{Changed}
 use Rattle.classes.proofs.Places.{total-same, total-removed}
-use Rattle.classes.proofs.HeldLaws.{number-lawful, Fit, number-fit, number-held, held-number}
+use Rattle.group_checks.proofs.HeldLaws.{number-lawful, Fit, number-fit, number-held, held-number}
 use Rattle.classes.proofs.Judging.{handedBack}
 use Rattle.conditions.specs.Steps.{addEqual, addConstant, clear}
 use Rattle.conditions.specs.Calls.{sayable, onConstant}

@@ -16,8 +16,8 @@ use Rattle.laws.proofs.Booleans.{true-not-false, and-both, and-fails-left, and-
 use Rattle.laws.proofs.Table.{table-is}
 use Rattle.arena.specs.Layout.{count}
 use Rattle.arena.proofs.Layouts.{lawful-holds}
-use Rattle.normal.specs.Layout.{optionsKnown, noneCut}
-use Rattle.normal.proofs.KeyCalls.{Below, keys-known}
+use Rattle.sort_keys.specs.Layout.{optionsKnown, noneCut}
+use Rattle.sort_keys.proofs.KeyCalls.{Below, keys-known}
 use Rattle.orderings.specs.Lists.{orderingAt}
 use Rattle.orderings.specs.Layout.{row, keysOf}
 use Rattle.orderings.specs.Inner.{ShortOrdering, allShort}

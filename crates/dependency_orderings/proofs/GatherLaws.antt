@@ -17,8 +17,8 @@ use Rattle.laws.proofs.Booleans.{true-not-false, and-left, and-right, and-both,
 use Rattle.laws.proofs.First.{first-some}
 use Rattle.classes.specs.Group.{among}
 use Rattle.classes.proofs.Places.{among-left, among-right, among-either, among-one, one-among}
-use Rattle.normal.specs.Layout.{keysOf, packed}
-use Rattle.normal.proofs.KeyLaws.{keys-count, key-at}
+use Rattle.sort_keys.specs.Layout.{keysOf, packed}
+use Rattle.sort_keys.proofs.KeyLaws.{keys-count, key-at}
 use Rattle.orderings.specs.Inner.{allShort}
 use Rattle.orderings.proofs.Appending.{long-append}
 use Rattle.orderings.proofs.Codec.{fill-after}

@@ -7,7 +7,7 @@ use lib.Dec.{eqb, ltb, leb}
 use lib.ListN.{length, getD, drop}
 use Rattle.laws.specs.Tests.{if_then_else_, each}
 use Rattle.arena.specs.Layout.{count}
-use Rattle.normal.specs.Layout.{keysOf, optionsKnown, noneCut, packed}
+use Rattle.sort_keys.specs.Layout.{keysOf, optionsKnown, noneCut, packed}
 use Rattle.dependencies.specs.Layout.{decode}
 use Rattle.dependencies.specs.Calls.{mapNumber}
 use Rattle.dependencies.specs.declared.DependencyMap.{DependencyMap}

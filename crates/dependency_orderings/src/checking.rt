@@ -3,8 +3,8 @@ use arena::cells::node_count;
 use arena::cells::wide;
 use dependencies::DependencyMap;
 use dependencies::checking::check_map;
-use normal::keys::exprs_below;
-use normal::keys::options_known;
+use sort_keys::keys::exprs_below;
+use sort_keys::keys::options_known;
 ghost use mathlib.Core.Path.{_≡_};
 ghost use Rattle.dependency_orderings.specs.Calls.{prefixNumber, generateNumber};
 

@@ -15,7 +15,7 @@ ghost use mathlib.Core.Option.{some};
 ghost use mathlib.Core.Path.{_≡_};
 ghost use Prim.Native.Nat.{ℕ, _<_, _/_};
 ghost use lib.ListN.{length};
-ghost use Rattle.normal.specs.Layout.{keysOf, packed as packedKey};
+ghost use Rattle.sort_keys.specs.Layout.{keysOf, packed as packedKey};
 ghost use Rattle.dependencies.specs.Map.{placeOf};
 ghost use Rattle.dependencies.specs.Layout.{decode};
 ghost use Rattle.dependencies.specs.Inner.{Held};

@@ -21,7 +21,7 @@ use Rattle.orderings.specs.Ordering.{exprOf, optionsOf}
 use Rattle.orderings.specs.Lists.{orderingAt}
 use Rattle.orderings.proofs.OneOrdering.{NoneTwice}
 use Rattle.reduction.specs.Lent.{keyCount, exprLent, optionsLent, nextList, eachRest, each-end, each-next, eachList, optionsKnown, whole, keysLent, listsRest, lists-end, lists-next, listsLent}
-use Rattle.normal.specs.Layout.{noneCut, optionsKnown as keyOptionsKnown}
+use Rattle.sort_keys.specs.Layout.{noneCut, optionsKnown as keyOptionsKnown}
 use Rattle.dependencies.specs.Map.{Dependent}
 use Rattle.dependencies.specs.Layout.{decode, lawfulMap, keysInside}
 use Rattle.dependencies.specs.Calls.{mapNumber}

@@ -11,14 +11,16 @@ use arena::cells::wide;
 use states::groups::load_group;
 use states::groups::store_group;
 ghost use mathlib.Core.Path.{_≡_};
-ghost use Rattle.classes.specs.Calls.{groupNumber, opened, onGroup, askGroup, classAnswer};
-ghost use Rattle.classes.specs.declared.ClassIs.{ClassIs};
+ghost use Rattle.classes.specs.Calls.{groupNumber, onGroup, askGroup};
+ghost use Rattle.group_checks.specs.Calls.{opened, classAnswer};
+ghost use Rattle.group_checks.specs.declared.ClassIs.{ClassIs};
 ghost use Rattle.conditions.specs.Steps.{addEqual, clear};
 ghost use Rattle.conditions.specs.Calls.{onConstant};
 ghost use Rattle.questions.specs.Calls.{equalAnswer, constantAnswer};
 ghost use Rattle.questions.specs.declared.Answer.{Answer};
 ghost use Rattle.questions.specs.declared.ConstantIs.{ConstantIs};
-ghost use Rattle.normal.specs.Calls.{normalized, normalizedKey, normalizedKeys};
+ghost use Rattle.normal.specs.Calls.{normalized};
+ghost use Rattle.sort_keys.specs.Calls.{normalizedKey, normalizedKeys};
 ghost use Rattle.merging.specs.Calls.{newAnswer};
 ghost use Rattle.joins.specs.Calls.{joinAnswer};
 ghost use Rattle.group_projection.specs.Calls.{projectAnswer};
@@ -31,7 +33,7 @@ ghost use Rattle.answers.specs.Answers.{onFirst, addedIn, classIn, changedIn, a
 pub extern "C" fn galthumir_open_group(limit: u32, made: &mut [u32; 451]) -> u32
     ensures { λ r. ⌜ (r, now (made .exit)) ≡ storedGroup (now (made .entry)) (opened limit) ⌝ }
 {
-    let opened = classes::open_group(wide(limit));
+    let opened = group_checks::open_group(wide(limit));
     store_group(opened, made)
 }
 
@@ -40,7 +42,7 @@ pub extern "C" fn galthumir_open_group(limit: u32, made: &mut [u32; 451]) -> u32
 pub extern "C" fn galthumir_check_group(arena: &[u32; 11265], group: &[u32; 451]) -> u32
     ensures { λ r. ⌜ r ≡ groupNumber (now (arena .entry)) (groupFrom (now (group .entry))) ⌝ }
 {
-    classes::check(arena, load_group(group))
+    group_checks::check(arena, load_group(group))
 }
 
 // The class of an expression. Refusals: 12, 11, 1.
@@ -54,7 +56,7 @@ pub extern "C" fn galthumir_get_equivalence_class(
     ensures { λ r. ⌜ (r, now (answer .exit)) ≡ classIn (now (answer .entry)) (askGroup (λ k. ClassIs.Refused k) (classAnswer expr) (now (arena .entry)) (groupFrom (now (group .entry)))) ⌝ }
 {
     put_class_is(
-        classes::get_equivalence_class(arena, load_group(group), expr),
+        group_checks::get_equivalence_class(arena, load_group(group), expr),
         answer,
     )
 }
@@ -160,7 +162,7 @@ pub extern "C" fn galthumir_normalize_sort_expr(
 ) -> u32
     ensures { λ r. ⌜ ((r, now (answer .exit)), now (arena .exit)) ≡ onFirst (keyIn (now (answer .entry))) (normalizedKey expr options (now (arena .entry)) (groupFrom (now (group .entry)))) ⌝ }
 {
-    let key = normal::normalize_sort_expr(arena, load_group(group), expr, options);
+    let key = sort_keys::normalize_sort_expr(arena, load_group(group), expr, options);
     put_key(key, answer)
 }
 
@@ -174,7 +176,7 @@ pub extern "C" fn galthumir_normalize_sort_exprs(
 ) -> u32
     ensures { λ r. ⌜ ((r, now (answer .exit)), now (arena .exit)) ≡ onFirst (sortedIn (now (answer .entry))) (normalizedKeys (now (keys .entry)) (now (arena .entry)) (groupFrom (now (group .entry)))) ⌝ }
 {
-    let sorted = normal::normalize_sort_exprs(arena, load_group(group), keys);
+    let sorted = sort_keys::normalize_sort_exprs(arena, load_group(group), keys);
     put_sorted(sorted, answer)
 }
 

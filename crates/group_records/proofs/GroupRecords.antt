@@ -22,7 +22,7 @@ use Rattle.classes.specs.declared.Changed.{Changed}
 use Rattle.classes.proofs.Places.{length-flat, among-place, class-flat}
 use Rattle.classes.proofs.Marks.{flavour-uniform}
 use Rattle.classes.proofs.Codec.{decode-encode, built-limit}
-use Rattle.classes.proofs.HeldLaws.{Fit, held-number}
+use Rattle.group_checks.proofs.HeldLaws.{Fit, held-number}
 use Rattle.group_records.specs.GroupRecord.{Given, groupGiven, classMeant, givenIn, flavoursKnown, classesFilled, membersGiven, membersApart, literalsUniform, membersKnown, givenNumber, noGroup, groupOf, groupRead}
 
 -- the tests that a number of 0 says were passed

@@ -25,7 +25,7 @@ use Rattle.classes.specs.declared.Group.{Group}
 use Rattle.classes.proofs.Places.{nothing, length-flat, getD-among, class-flat}
 use Rattle.classes.proofs.Marks.{constant-from, flavour-known, uniform-flavour}
 use Rattle.classes.proofs.Codec.{total-take, total-front}
-use Rattle.classes.proofs.HeldLaws.{Fit, number-fit, number-lawful}
+use Rattle.group_checks.proofs.HeldLaws.{Fit, number-fit, number-lawful}
 use Rattle.records.specs.Fields.{field, wideField, fields}
 use Rattle.records.specs.Record.{AllBelow, isWhole, bodyOf, fieldBytes, wideBytes, fieldsBytes}
 use Rattle.records.proofs.Headers.{whole-from}

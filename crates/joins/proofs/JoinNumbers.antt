@@ -13,7 +13,7 @@ use Rattle.arena.specs.Layout.{count, lawful, decode as nodes}
 use Rattle.arena.proofs.Layouts.{length-decode}
 use Rattle.classes.specs.Layout.{inSet, lawfulGroup, membersInside}
 use Rattle.classes.specs.declared.Group.{Group}
-use Rattle.classes.proofs.Checks.{limit-few, group-counts}
+use Rattle.group_checks.proofs.Checks.{limit-few, group-counts}
 use Rattle.shifted_classes.specs.Lent.{paired, sidesBelow}
 use Rattle.joins.specs.Calls.{joinNumber}
 use Rattle.joins.specs.Inner.{sidesNumber}

@@ -42,7 +42,7 @@ use Rattle.classes.specs.declared.Changed.{Changed}
 use Rattle.classes.proofs.Places.{getD-among, length-flat}
 use Rattle.classes.proofs.Codec.{built-used, built-limit, built-classes, built-coded, length-decode, used-is}
 use Rattle.demands.proofs.GoodKept.{condition-good}
-use Rattle.classes.proofs.HeldLaws.{number-held}
+use Rattle.group_checks.proofs.HeldLaws.{number-held}
 use Rattle.classes.proofs.Judging.{handedBack}
 use Rattle.demands.proofs.Valid.{Tables}
 use Rattle.classes.proofs.Group.{the-row}

@@ -4,7 +4,7 @@ use crate::Source;
 use arena::cells::node_count;
 use arena::cells::wide;
 use classes::Group;
-use classes::checking::check_group;
+use group_checks::checking::check_group;
 use merging::lent::number_at;
 ghost use mathlib.Core.Bool.{true, not, _&&_};
 ghost use mathlib.Core.Path.{_≡_};

@@ -18,7 +18,7 @@ use Rattle.classes.specs.Layout.{decode}
 use Rattle.classes.specs.Calls.{noGroup}
 use Rattle.classes.specs.declared.Group.{Group}
 use Rattle.classes.proofs.Codec.{decode-encode}
-use Rattle.classes.proofs.HeldLaws.{number-fit}
+use Rattle.group_checks.proofs.HeldLaws.{number-fit}
 use Rattle.merging.specs.Merging.{fromClasses}
 use Rattle.merging.specs.Lent.{classesLent}
 use Rattle.merging.specs.Calls.{newNumber, madeGroup, newAnswer}

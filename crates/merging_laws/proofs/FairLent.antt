@@ -22,7 +22,7 @@ use Rattle.classes.specs.Layout.{isLiteral}
 use Rattle.classes.specs.Steps.{fits}
 use Rattle.classes.proofs.Places.{among-place, distinct-count, All}
 use Rattle.classes.proofs.Marks.{flavour-uniform}
-use Rattle.classes.proofs.HeldLaws.{then-of}
+use Rattle.group_checks.proofs.HeldLaws.{then-of}
 use Rattle.merging.specs.Lent.{flavourLent, valueLent, sizeLent, memberLent, nextClass, next-after, eachFrom, knownAt, flavoursKnown, whole, freshLent, apartAt, membersApart, uniformLent, literalsUniform, belowAt, membersBelow, classLent, classesFrom, classesLent}
 use Rattle.merging.specs.Calls.{newNumber}
 use Rattle.merging.specs.Inner.{Fair}

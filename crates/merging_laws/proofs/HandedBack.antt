@@ -29,7 +29,7 @@ use Rattle.classes.specs.Layout.{encode, decode, inSet, lawfulGroup, membersIns
 use Rattle.classes.specs.Calls.{groupNumber, noGroup}
 use Rattle.classes.specs.declared.Group.{Group}
 use Rattle.classes.specs.declared.Changed.{Changed}
-use Rattle.classes.proofs.HeldLaws.{Fit, number-fit, held-number}
+use Rattle.group_checks.proofs.HeldLaws.{Fit, number-fit, held-number}
 use Rattle.merging.specs.Merging.{fromClasses}
 use Rattle.merging.specs.Lent.{classesLent}
 use Rattle.merging.specs.Calls.{newNumber, madeGroup, newAnswer, refusedGroup, madeOrRefused}

@@ -1,15 +1,12 @@
--- The whole walk as the normal form by a group, and the public calls by their tests.
+-- The whole walk as the normal form by a group, and the public call by its tests.
 use Prim.Native.Nat.{ℕ, _<_, _≤_}
-use mathlib.Core.Bool.{Bool, true, false}
 use mathlib.Core.List.{List}
 use mathlib.Core.Option.{Option, none, some}
 use mathlib.Core.Path.{_≡_, refl, sym, ap, ap₂, _∙_}
 use native.Mathlib.Omega.{arith}
-use borrow.Author.Tests.{eq-eqb, ne-eqb, lt-ltb, le-ltb, le-leb, lt-leb}
-use lib.Dec.{eqb}
+use borrow.Author.Tests.{eq-eqb, ne-eqb, lt-ltb, le-ltb}
 use lib.ListN.{length, getD, replicate}
 use lib.Seq.{take-all}
-use Rattle.laws.specs.Tests.{if_then_else_}
 use Rattle.arena.specs.Node.{Node}
 use Rattle.arena.specs.Expression.{Expression, Expressions, col, lit, op, ∅, _▹_, expressionAt}
 use Rattle.arena.specs.Arena.{Sound, addExpression}
@@ -27,9 +24,7 @@ use Rattle.classes.specs.Calls.{groupNumber}
 use Rattle.classes.specs.declared.Group.{Group}
 use Rattle.normal.specs.Normal.{numberOf, firstOf, replacedBy, replaced, normalBy, normalsBy, normal, normals}
 use Rattle.normal.specs.Inner.{Firsts, olds, rewriting, Ready, settledBy}
-use Rattle.normal.specs.Calls.{onChecked, normalizeExpr, normalized, keyIs, normalizeSortExpr, keyNumber, normalizedKey}
-use Rattle.normal.specs.declared.KeyIs.{KeyIs}
-use Rattle.normal.specs.declared.KeyIs.the-variants.{Refused as Key-Refused}
+use Rattle.normal.specs.Calls.{onChecked, normalizeExpr, normalized}
 use Rattle.normal.proofs.Numbers.{number-some}
 use Rattle.normal.proofs.FirstMembers.{first-inside}
 use Rattle.normal.proofs.Rewriting.{normals-all}
@@ -124,20 +119,3 @@ module _ (e : ℕ) (cells : List ℕ) (g : Group) (z : groupNumber cells g ≡ 0
   expr-known l o q =
       let m : e < length (nodes cells) = omega (arith, length-decode cells) in
       q ∙ sym (checked-done (groupNumber cells g) Refused (normalizeExpr e) cells g z ∙ rw (lt-ltb e (length (nodes cells)) m))
-
--- the normal form of a sort key, by its test
-module _ (e options : ℕ) (cells : List ℕ) (g : Group) where
-  pub options-refused : 3 < options → _≡_ {A = KeyIs × List ℕ} (Key-Refused 12, cells) (normalizedKey e options cells g)
-  unfolding keyNumber onChecked
-  options-refused l = rw (lt-leb options 3 l)
-
-  pub key-normalized : options ≤ 3 → _≡_ {A = KeyIs × List ℕ} (keyIs options (normalized e cells g .0), normalized e cells g .1) (normalizedKey e options cells g)
-  unfolding keyNumber onChecked keyIs normalizeSortExpr inCells
-  key-normalized l = rw (le-leb options 3 l) (go (eqb (groupNumber cells g) 0))
-    where
-      go : (b : Bool)
-          → _≡_ {A = KeyIs × List ℕ}
-          (keyIs options ((if b then inCells (normalizeExpr e (nodes cells) (decode g)) else (Refused (groupNumber cells g), cells)) .0), (if b then inCells (normalizeExpr e (nodes cells) (decode g)) else (Refused (groupNumber cells g), cells)) .1)
-          (if b then inCells (normalizeSortExpr e options (nodes cells) (decode g)) else (Key-Refused (groupNumber cells g), cells))
-      go true = refl
-      go false = refl

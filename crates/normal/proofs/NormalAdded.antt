@@ -21,8 +21,7 @@ use Rattle.classes.specs.Good.{Good}
 use Rattle.classes.proofs.Places.{classOf-some, class-flat}
 use Rattle.normal.specs.Normal.{numberOf, firstAt, firstOf, replacedBy, replaced, normalBy, normalsBy, normal, normals}
 use Rattle.normal.specs.Missing.{parts, allParts, withMissing}
-use Rattle.normal.specs.Keys.{normalForms}
-use Rattle.normal.specs.Calls.{normalizeExpr}
+use Rattle.normal.specs.Calls.{normalForms, normalizeExpr}
 use Rattle.normal.proofs.Numbers.{number-some, number-old, number-none}
 use Rattle.normal.proofs.Missing.{added-exactly, no-room-exactly, all-added-exactly}
 use Rattle.normal.proofs.FirstMembers.{first-inside}

@@ -26,8 +26,7 @@ use Rattle.classes.specs.Good.{Good}
 use Rattle.classes.proofs.Places.{getD-among, class-flat, classOf-some}
 use Rattle.normal.specs.Normal.{numberOf, firstAt, firstOf, replacedBy, replaced, normalBy, normalsBy, normal, normals}
 use Rattle.classes.specs.Agree.{Same, MembersAgree}
-use Rattle.normal.specs.Keys.{normalForms}
-use Rattle.normal.specs.Calls.{normalizeExpr}
+use Rattle.normal.specs.Calls.{normalForms, normalizeExpr}
 use Rattle.normal.proofs.Numbers.{number-some}
 use Rattle.normal.proofs.FirstMembers.{first-inside}
 use Rattle.normal.proofs.Rewriting.{normal-small, normals-small}

@@ -15,7 +15,7 @@ use Rattle.arena.specs.Inner.{Holds}
 use Rattle.arena.proofs.Layouts.{length-decode, coded-cells, lawful-holds}
 use Rattle.classes.specs.Layout.{decode as classes}
 use Rattle.classes.specs.declared.Group.{Group}
-use Rattle.classes.proofs.HeldLaws.{number-lawful}
+use Rattle.group_checks.proofs.HeldLaws.{number-lawful}
 use Rattle.normal.proofs.Calling.{checked-done}
 use Rattle.mappings.specs.Mapping.{Mapped}
 use Rattle.mappings.specs.Lent.{mappingLent}

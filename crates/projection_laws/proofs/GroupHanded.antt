@@ -21,7 +21,7 @@ use Rattle.classes.specs.Layout.{encode, decode}
 use Rattle.classes.specs.Calls.{groupNumber}
 use Rattle.classes.specs.declared.Group.{Group}
 use Rattle.classes.specs.declared.Changed.{Changed}
-use Rattle.classes.proofs.HeldLaws.{number-fit, held-number}
+use Rattle.group_checks.proofs.HeldLaws.{number-fit, held-number}
 use Rattle.normal.specs.Calls.{onChecked}
 use Rattle.merging.specs.Calls.{madeGroup, refusedGroup, madeOrRefused}
 use Rattle.merging.proofs.ListCounts.{fits-few, fits-small}

@@ -22,13 +22,14 @@ use Rattle.classes.specs.Class.{Class}
 use Rattle.classes.specs.Group.{sameClass}
 use Rattle.classes.specs.Layout.{encode, decode}
 use Rattle.classes.specs.Steps.{Outcome, refused}
-use Rattle.classes.specs.Calls.{groupNumber, opened, askGroup}
+use Rattle.classes.specs.Calls.{groupNumber, askGroup}
+use Rattle.group_checks.specs.Calls.{opened}
 use Rattle.classes.specs.declared.Group.{Group}
 use Rattle.classes.specs.declared.Changed.{Changed}
 use Rattle.arena.proofs.Layouts.{lawful-exactly, decode-encode as nodes-of-cells}
 use Rattle.arena.specs.Calls.{inCells}
 use Rattle.classes.proofs.Codec.{decode-encode}
-use Rattle.classes.proofs.HeldLaws.{number-fit}
+use Rattle.group_checks.proofs.HeldLaws.{number-fit}
 use Rattle.conditions.specs.Steps.{Chain, after, accepted, outcomes}
 use Rattle.questions.specs.Questions.{exprsEqual}
 use Rattle.questions.specs.Calls.{equalAnswer}

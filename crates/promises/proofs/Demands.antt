@@ -15,7 +15,8 @@ use Rattle.classes.specs.Agree.{PairsAgree}
 use Rattle.classes.specs.Group.{sameClass}
 use Rattle.classes.specs.Layout.{decode}
 use Rattle.classes.specs.Steps.{Outcome, refused}
-use Rattle.classes.specs.Calls.{opened, askGroup}
+use Rattle.classes.specs.Calls.{askGroup}
+use Rattle.group_checks.specs.Calls.{opened}
 use Rattle.classes.specs.declared.Group.{Group}
 use Rattle.conditions.specs.Steps.{Chain}
 use Rattle.questions.specs.Calls.{equalAnswer}

@@ -1,4 +1,4 @@
--- Two results that meet a contract are equal: the public functions of classes, conditions, questions and normal.
+-- Two results that meet a contract are equal: the public functions of classes, group_checks, conditions, questions, normal and sort_keys.
 use Rattle.laws.proofs.Determined.{one-result}
 use denote.Ref.{now}
 use Rattle.promises.proofs.Once.{OneAnswer, OneWith}
@@ -14,20 +14,20 @@ use Rattle.classes.proofs.building.remove_class_at_idx.Reads as ClassesBuilding
 use Rattle.classes.proofs.building.merge_class_at_idx.Reads as ClassesBuildingMergeClassAtIdx
 use Rattle.classes.proofs.building.first_member.Reads as ClassesBuildingFirstMember
 use Rattle.classes.proofs.building.class_size.Reads as ClassesBuildingClassSize
-use Rattle.classes.proofs.checking.known_flavour.Reads as ClassesCheckingKnownFlavour
-use Rattle.classes.proofs.checking.in_set.Reads as ClassesCheckingInSet
-use Rattle.classes.proofs.checking.members_below.Reads as ClassesCheckingMembersBelow
-use Rattle.classes.proofs.checking.member_fits.Reads as ClassesCheckingMemberFits
-use Rattle.classes.proofs.checking.lawful_group.Reads as ClassesCheckingLawfulGroup
-use Rattle.classes.proofs.checking.check_group.Reads as ClassesCheckingCheckGroup
 use Rattle.classes.proofs.finding.find_class.Reads as ClassesFindingFindClass
-use Rattle.classes.proofs.open_group.Reads as ClassesOpenGroup
-use Rattle.classes.proofs.check.Reads as ClassesCheck
-use Rattle.classes.proofs.get_equivalence_class.Reads as ClassesGetEquivalenceClass
 use Rattle.classes.proofs.refusing.no_group.Reads as ClassesRefusingNoGroup
 use Rattle.classes.proofs.single.carried_mark.Reads as ClassesSingleCarriedMark
 use Rattle.classes.proofs.single.one_class.Reads as ClassesSingleOneClass
 use Rattle.classes.proofs.single.single_group.Reads as ClassesSingleSingleGroup
+use Rattle.group_checks.proofs.checking.known_flavour.Reads as GroupChecksCheckingKnownFlavour
+use Rattle.group_checks.proofs.checking.in_set.Reads as GroupChecksCheckingInSet
+use Rattle.group_checks.proofs.checking.members_below.Reads as GroupChecksCheckingMembersBelow
+use Rattle.group_checks.proofs.checking.member_fits.Reads as GroupChecksCheckingMemberFits
+use Rattle.group_checks.proofs.checking.lawful_group.Reads as GroupChecksCheckingLawfulGroup
+use Rattle.group_checks.proofs.checking.check_group.Reads as GroupChecksCheckingCheckGroup
+use Rattle.group_checks.proofs.open_group.Reads as GroupChecksOpenGroup
+use Rattle.group_checks.proofs.check.Reads as GroupChecksCheck
+use Rattle.group_checks.proofs.get_equivalence_class.Reads as GroupChecksGetEquivalenceClass
 use Rattle.conditions.proofs.clearing.clear_in.Reads as ConditionsClearingClearIn
 use Rattle.conditions.proofs.constants.can_say.Reads as ConditionsConstantsCanSay
 use Rattle.conditions.proofs.constants.add_constant_in.Reads as ConditionsConstantsAddConstantIn
@@ -40,14 +40,14 @@ use Rattle.questions.proofs.is_expr_constant.Reads as QuestionsIsExprConstant
 use Rattle.questions.proofs.questions.same_place.Reads as QuestionsQuestionsSamePlace
 use Rattle.questions.proofs.questions.equal_in.Reads as QuestionsQuestionsEqualIn
 use Rattle.questions.proofs.questions.constant_in.Reads as QuestionsQuestionsConstantIn
-use Rattle.normal.proofs.keys.no_keys.Reads as NormalKeysNoKeys
-use Rattle.normal.proofs.keys.options_known.Reads as NormalKeysOptionsKnown
-use Rattle.normal.proofs.keys.exprs_below.Reads as NormalKeysExprsBelow
-use Rattle.normal.proofs.keys.sort_in.Reads as NormalKeysSortIn
 use Rattle.normal.proofs.normalize_expr.Reads as NormalNormalizeExpr
-use Rattle.normal.proofs.normalize_sort_expr.Reads as NormalNormalizeSortExpr
-use Rattle.normal.proofs.normalize_sort_exprs.Reads as NormalNormalizeSortExprs
 use Rattle.normal.proofs.normalizing.normalize_in.Reads as NormalNormalizingNormalizeIn
+use Rattle.sort_keys.proofs.keys.no_keys.Reads as SortKeysKeysNoKeys
+use Rattle.sort_keys.proofs.keys.options_known.Reads as SortKeysKeysOptionsKnown
+use Rattle.sort_keys.proofs.keys.exprs_below.Reads as SortKeysKeysExprsBelow
+use Rattle.sort_keys.proofs.keys.sort_in.Reads as SortKeysKeysSortIn
+use Rattle.sort_keys.proofs.normalize_sort_expr.Reads as SortKeysNormalizeSortExpr
+use Rattle.sort_keys.proofs.normalize_sort_exprs.Reads as SortKeysNormalizeSortExprs
 
 -- ---- classes
 
@@ -87,35 +87,8 @@ classes-building-first-member κs a r r′ s s′ = one-result
 pub classes-building-class-size : (κs : _) (a : _) → OneAnswer (ClassesBuildingClassSize.Learnt κs a)
 classes-building-class-size κs a r r′ s s′ = one-result
 
-pub classes-checking-known-flavour : (κs : _) (a : _) → OneAnswer (ClassesCheckingKnownFlavour.Learnt κs a)
-classes-checking-known-flavour κs a r r′ s s′ = one-result
-
-pub classes-checking-in-set : (κs : _) (a : _) → OneAnswer (ClassesCheckingInSet.Learnt κs a)
-classes-checking-in-set κs a r r′ s s′ = one-result
-
-pub classes-checking-members-below : (κs : _) (a : _) → OneAnswer (ClassesCheckingMembersBelow.Learnt κs a)
-classes-checking-members-below κs a r r′ s s′ = one-result
-
-pub classes-checking-member-fits : (κs : _) (a : _) → OneAnswer (ClassesCheckingMemberFits.Learnt κs a)
-classes-checking-member-fits κs a r r′ s s′ = one-result
-
-pub classes-checking-lawful-group : (κs : _) (a : _) → OneAnswer (ClassesCheckingLawfulGroup.Learnt κs a)
-classes-checking-lawful-group κs a r r′ s s′ = one-result
-
-pub classes-checking-check-group : (κs : _) (a : _) → OneAnswer (ClassesCheckingCheckGroup.Learnt κs a)
-classes-checking-check-group κs a r r′ s s′ = one-result
-
 pub classes-finding-find-class : (κs : _) (a : _) → OneAnswer (ClassesFindingFindClass.Learnt κs a)
 classes-finding-find-class κs a r r′ s s′ = one-result
-
-pub classes-open-group : (κs : _) (a : _) → OneAnswer (ClassesOpenGroup.Learnt κs a)
-classes-open-group κs a r r′ s s′ = one-result
-
-pub classes-check : (κs : _) (a : _) → OneAnswer (ClassesCheck.Learnt κs a)
-classes-check κs a r r′ s s′ = one-result
-
-pub classes-get-equivalence-class : (κs : _) (a : _) → OneAnswer (ClassesGetEquivalenceClass.Learnt κs a)
-classes-get-equivalence-class κs a r r′ s s′ = one-result
 
 pub classes-refusing-no-group : (κs : _) (a : _) → OneAnswer (ClassesRefusingNoGroup.Learnt κs a)
 classes-refusing-no-group κs a r r′ s s′ = one-result
@@ -128,6 +101,35 @@ classes-single-one-class κs a r r′ s s′ = one-result
 
 pub classes-single-single-group : (κs : _) (a : _) → OneAnswer (ClassesSingleSingleGroup.Learnt κs a)
 classes-single-single-group κs a r r′ s s′ = one-result
+
+-- ---- group_checks
+
+pub group-checks-checking-known-flavour : (κs : _) (a : _) → OneAnswer (GroupChecksCheckingKnownFlavour.Learnt κs a)
+group-checks-checking-known-flavour κs a r r′ s s′ = one-result
+
+pub group-checks-checking-in-set : (κs : _) (a : _) → OneAnswer (GroupChecksCheckingInSet.Learnt κs a)
+group-checks-checking-in-set κs a r r′ s s′ = one-result
+
+pub group-checks-checking-members-below : (κs : _) (a : _) → OneAnswer (GroupChecksCheckingMembersBelow.Learnt κs a)
+group-checks-checking-members-below κs a r r′ s s′ = one-result
+
+pub group-checks-checking-member-fits : (κs : _) (a : _) → OneAnswer (GroupChecksCheckingMemberFits.Learnt κs a)
+group-checks-checking-member-fits κs a r r′ s s′ = one-result
+
+pub group-checks-checking-lawful-group : (κs : _) (a : _) → OneAnswer (GroupChecksCheckingLawfulGroup.Learnt κs a)
+group-checks-checking-lawful-group κs a r r′ s s′ = one-result
+
+pub group-checks-checking-check-group : (κs : _) (a : _) → OneAnswer (GroupChecksCheckingCheckGroup.Learnt κs a)
+group-checks-checking-check-group κs a r r′ s s′ = one-result
+
+pub group-checks-open-group : (κs : _) (a : _) → OneAnswer (GroupChecksOpenGroup.Learnt κs a)
+group-checks-open-group κs a r r′ s s′ = one-result
+
+pub group-checks-check : (κs : _) (a : _) → OneAnswer (GroupChecksCheck.Learnt κs a)
+group-checks-check κs a r r′ s s′ = one-result
+
+pub group-checks-get-equivalence-class : (κs : _) (a : _) → OneAnswer (GroupChecksGetEquivalenceClass.Learnt κs a)
+group-checks-get-equivalence-class κs a r r′ s s′ = one-result
 
 -- ---- conditions
 
@@ -171,26 +173,28 @@ questions-questions-constant-in κs a r r′ s s′ = one-result
 
 -- ---- normal
 
-pub normal-keys-no-keys : (κs : _) (a : _) → OneAnswer (NormalKeysNoKeys.Learnt κs a)
-normal-keys-no-keys κs a r r′ s s′ = one-result
-
-pub normal-keys-options-known : (κs : _) (a : _) → OneAnswer (NormalKeysOptionsKnown.Learnt κs a)
-normal-keys-options-known κs a r r′ s s′ = one-result
-
-pub normal-keys-exprs-below : (κs : _) (a : _) → OneAnswer (NormalKeysExprsBelow.Learnt κs a)
-normal-keys-exprs-below κs a r r′ s s′ = one-result
-
-pub normal-keys-sort-in : (κs : _) (a : _) → OneWith (λ s. now (s .0)) (NormalKeysSortIn.Learnt κs a)
-normal-keys-sort-in κs a r r′ s s′ = one-result
-
 pub normal-normalize-expr : (κs : _) (a : _) → OneWith (λ s. now (s .0)) (NormalNormalizeExpr.Learnt κs a)
 normal-normalize-expr κs a r r′ s s′ = one-result
 
-pub normal-normalize-sort-expr : (κs : _) (a : _) → OneWith (λ s. now (s .0)) (NormalNormalizeSortExpr.Learnt κs a)
-normal-normalize-sort-expr κs a r r′ s s′ = one-result
-
-pub normal-normalize-sort-exprs : (κs : _) (a : _) → OneWith (λ s. now (s .0)) (NormalNormalizeSortExprs.Learnt κs a)
-normal-normalize-sort-exprs κs a r r′ s s′ = one-result
-
 pub normal-normalizing-normalize-in : (κs : _) (a : _) → OneWith (λ s. now (s .0)) (NormalNormalizingNormalizeIn.Learnt κs a)
 normal-normalizing-normalize-in κs a r r′ s s′ = one-result
+
+-- ---- sort_keys
+
+pub sort-keys-keys-no-keys : (κs : _) (a : _) → OneAnswer (SortKeysKeysNoKeys.Learnt κs a)
+sort-keys-keys-no-keys κs a r r′ s s′ = one-result
+
+pub sort-keys-keys-options-known : (κs : _) (a : _) → OneAnswer (SortKeysKeysOptionsKnown.Learnt κs a)
+sort-keys-keys-options-known κs a r r′ s s′ = one-result
+
+pub sort-keys-keys-exprs-below : (κs : _) (a : _) → OneAnswer (SortKeysKeysExprsBelow.Learnt κs a)
+sort-keys-keys-exprs-below κs a r r′ s s′ = one-result
+
+pub sort-keys-keys-sort-in : (κs : _) (a : _) → OneWith (λ s. now (s .0)) (SortKeysKeysSortIn.Learnt κs a)
+sort-keys-keys-sort-in κs a r r′ s s′ = one-result
+
+pub sort-keys-normalize-sort-expr : (κs : _) (a : _) → OneWith (λ s. now (s .0)) (SortKeysNormalizeSortExpr.Learnt κs a)
+sort-keys-normalize-sort-expr κs a r r′ s s′ = one-result
+
+pub sort-keys-normalize-sort-exprs : (κs : _) (a : _) → OneWith (λ s. now (s .0)) (SortKeysNormalizeSortExprs.Learnt κs a)
+sort-keys-normalize-sort-exprs κs a r r′ s s′ = one-result

@@ -1,4 +1,4 @@
--- Two results that meet a contract are equal: the public functions of records, group_records and transcript.
+-- Two results that meet a contract are equal: the public functions of records, group_records, session_steps and transcript.
 use Rattle.laws.proofs.Determined.{one-result}
 use denote.Ref.{now}
 use Rattle.promises.proofs.Once.{OneAnswer, OnePart, OneWith}
@@ -17,7 +17,7 @@ use Rattle.records.proofs.chosen.Reads as RecordsChosen
 use Rattle.records.proofs.chosen_number.Reads as RecordsChosenNumber
 use Rattle.group_records.proofs.group.read_group_in.Reads as GroupRecordsGroupReadGroupIn
 use Rattle.group_records.proofs.read_group.Reads as GroupRecordsReadGroup
-use Rattle.transcript.proofs.holding.opened.Reads as TranscriptHoldingOpened
+use Rattle.session_steps.proofs.holding.opened.Reads as SessionStepsHoldingOpened
 use Rattle.transcript.proofs.session.Reads as TranscriptSession
 
 -- ---- records
@@ -69,10 +69,12 @@ group-records-group-read-group-in κs a r r′ s s′ = one-result
 pub group-records-read-group : (κs : _) (a : _) → OneAnswer (GroupRecordsReadGroup.Learnt κs a)
 group-records-read-group κs a r r′ s s′ = one-result
 
--- ---- transcript
+-- ---- session_steps
 
-pub transcript-holding-opened : (κs : _) (a : _) → OneAnswer (TranscriptHoldingOpened.Learnt κs a)
-transcript-holding-opened κs a r r′ s s′ = one-result
+pub session-steps-holding-opened : (κs : _) (a : _) → OneAnswer (SessionStepsHoldingOpened.Learnt κs a)
+session-steps-holding-opened κs a r r′ s s′ = one-result
+
+-- ---- transcript
 
 pub transcript-session : (κs : _) (a : _) → OneWith (λ s. now (s .1 .0)) (TranscriptSession.Learnt κs a)
 transcript-session κs a r r′ s s′ = one-result

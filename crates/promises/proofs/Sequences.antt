@@ -10,7 +10,7 @@ use Rattle.arena.specs.Layout.{lawful, decode as nodes}
 use Rattle.classes.specs.Class.{Class}
 use Rattle.classes.specs.Layout.{encode, decode}
 use Rattle.classes.specs.Steps.{Outcome}
-use Rattle.classes.specs.Calls.{groupNumber, opened, changed, onGroup}
+use Rattle.classes.specs.Calls.{groupNumber, changed, onGroup}
 use Rattle.classes.specs.declared.Group.{Group}
 use Rattle.classes.specs.declared.Changed.{Changed}
 use Rattle.classes.proofs.Codec.{decode-encode}

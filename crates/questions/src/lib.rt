@@ -10,7 +10,7 @@ use arena::cells::node_count;
 use arena::cells::wide;
 use classes::Group;
 use classes::Mark;
-use classes::checking::check_group;
+use group_checks::checking::check_group;
 use questions::constant_in;
 use questions::equal_in;
 ghost use mathlib.Core.Path.{_≡_};

@@ -17,12 +17,13 @@ use Rattle.classes.specs.Class.{Class}
 use Rattle.classes.specs.Group.{total}
 use Rattle.classes.specs.Steps.{Outcome}
 use Rattle.classes.specs.Layout.{encode, decode, constantFrom}
-use Rattle.classes.specs.Calls.{groupNumber, opened, changed, onGroup, noGroup}
+use Rattle.classes.specs.Calls.{groupNumber, changed, onGroup, noGroup}
+use Rattle.group_checks.specs.Calls.{opened}
 use Rattle.classes.specs.declared.Group.{Group}
 use Rattle.classes.specs.declared.Changed.{Changed}
 use Rattle.classes.proofs.Places.{length-flat}
 use Rattle.classes.proofs.Codec.{total-take, total-front, size-encode, decode-encode}
-use Rattle.classes.proofs.HeldLaws.{Fit, number-fit, number-held}
+use Rattle.group_checks.proofs.HeldLaws.{Fit, number-fit, number-held}
 use Rattle.conditions.specs.Steps.{addEqual, addConstant, clear}
 use Rattle.conditions.specs.Calls.{sayable, onConstant}
 use Rattle.demands.proofs.Valid.{valid-equal, valid-constant, valid-clear, Tables}

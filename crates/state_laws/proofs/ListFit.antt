@@ -45,11 +45,12 @@ use Rattle.ordering_joins.specs.Offset.{listsMove, shiftedKeys, shiftedLists}
 use Rattle.ordering_joins.specs.Calls.{noOutput, outputOf, outputAnswer, joinAnswer, offsetBy, offsetList, offsetAnswer}
 use Rattle.ordering_joins.proofs.Offsets.{afterKey, afterOrdering}
 use Rattle.ordering_laws.proofs.Reduces.{cuts-each}
-use Rattle.normal.specs.Keys.{Key, normalForms, exprsOf, withExprs, ordersNothing, sorting}
-use Rattle.normal.specs.Layout.{keysOf, sorted, unsorted}
-use Rattle.normal.specs.Calls.{onChecked, sortedBy, normalizeSortExprs, keysNumber, normalizedKeys}
-use Rattle.normal.specs.declared.Sorted.{Sorted}
-use Rattle.normal.proofs.KeyLaws.{with-fewer}
+use Rattle.normal.specs.Calls.{normalForms, onChecked}
+use Rattle.sort_keys.specs.Keys.{Key, exprsOf, withExprs, ordersNothing, sorting}
+use Rattle.sort_keys.specs.Layout.{keysOf, sorted, unsorted}
+use Rattle.sort_keys.specs.Calls.{sortedBy, normalizeSortExprs, keysNumber, normalizedKeys}
+use Rattle.sort_keys.specs.declared.Sorted.{Sorted}
+use Rattle.sort_keys.proofs.KeyLaws.{with-fewer}
 use Rattle.states.specs.Inner.{ListFits, ListFitsIfDone}
 
 -- an ordering of at most 16 keys fits

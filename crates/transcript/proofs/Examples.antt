@@ -19,8 +19,8 @@ use Rattle.normal.specs.Normal.{operationOver, bothFound, numberOf, numbersOf, 
 use Rattle.normal.specs.Calls.{normalizeExpr}
 use Rattle.records.specs.Fields.{field, wideField, fields}
 use Rattle.records.specs.Record.{isWhole, recordSize, bodyOf, columnIn, operationIn, equalPairIn, normalFormIn, equalityIn, recordIn, readRecord}
-use Rattle.transcript.specs.State.{start, step, onNodes, onClasses, withNodes, withClasses, addedReply, normalReply, equalityReply, unless}
-use Rattle.transcript.specs.Session.{before, readFrom, readAll, bit, replyText, replies, after, stopText, endText, scriptText, sessionText}
+use Rattle.session_steps.specs.State.{start, step, onNodes, onClasses, withNodes, withClasses, addedReply, normalReply, equalityReply, unless, after}
+use Rattle.transcript.specs.Session.{before, readFrom, readAll, bit, replyText, replies, stopText, endText, scriptText, sessionText}
 
 -- no input: `end 0 0 0`
 nothing : sessionText [] ≡ 101 ∷ 110 ∷ 100 ∷ 32 ∷ 48 ∷ 32 ∷ 48 ∷ 32 ∷ 48 ∷ 10 ∷ []

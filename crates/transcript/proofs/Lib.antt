@@ -1,20 +1,9 @@
 -- Laws of a session, and what it promises.
-pub mod NodesKept
-pub mod ClassesKept
-pub mod OrderingsKept
-pub mod KeyNumbers
-pub mod Bodies
-pub mod Deciding
-pub mod Answering
-pub mod States
 pub mod Saying
 pub mod Copying
-pub mod Bounds
 pub mod Scripts
 pub mod LineLengths
 pub mod Running
 pub mod Transcribing
 pub mod Sessions
 pub mod Examples
-pub mod Effects
-pub mod Passing

@@ -14,9 +14,9 @@ use Rattle.classes.specs.Group.{total}
 use Rattle.normal.specs.Calls.{normalizeExpr}
 use Rattle.records.specs.Record.{Record, column, literal, operation, equalPair, constant, normalFormOf, equalityOf, oneOrdering, readRecord, recordSize, kindOf}
 use Rattle.records.proofs.Items.{size-other, size-normal-form}
-use Rattle.transcript.specs.State.{State, Reply, quiet, normalForm, equality, refusal, normalReply, onNodes, step}
+use Rattle.session_steps.specs.State.{State, Reply, quiet, normalForm, equality, refusal, normalReply, onNodes, step}
 use Rattle.transcript.specs.Session.{n-word, q-word, r-word, end-word, bit, replyText, endText}
-use Rattle.transcript.proofs.Bounds.{Small, Tells, NormalSmall, step-answered, normal-answered}
+use Rattle.session_steps.proofs.Bounds.{Small, Tells, NormalSmall, step-answered, normal-answered}
 
 -- a yes or a no is one digit
 bit-short : (v : Bool) → length (decimal (bit v)) ≤ 1

@@ -28,13 +28,14 @@ use Rattle.records.specs.Record.{Record, readRecord, recordSize, itemOf}
 use Rattle.records.specs.declared.Item.{Item}
 use Rattle.records.specs.declared.Item.the-variants.{Malformed}
 use Rattle.records.proofs.Items.{malformed-answer, size-least, size-most}
-use Rattle.transcript.specs.State.{State, start, step}
+use Rattle.session_steps.specs.State.{State, start, step}
 use Rattle.transcript.specs.Session.{readAll, read-none, read-malformed, read-record, r-word, end-word, replyText, endText, scriptText}
-use Rattle.transcript.specs.Inner.{Fit, Went, stateOf, saidText, isMalformed}
-use Rattle.transcript.specs.declared.holding.Holding.{Holding}
-use Rattle.transcript.specs.declared.holding.Stepped.{Stepped}
+use Rattle.session_steps.specs.Inner.{Fit, Went, stateOf}
+use Rattle.transcript.specs.Inner.{saidText, isMalformed}
+use Rattle.session_steps.specs.declared.holding.Holding.{Holding}
+use Rattle.session_steps.specs.declared.holding.Stepped.{Stepped}
 use Rattle.transcript.proofs.Saying.{said-text, malformed-is}
-use Rattle.transcript.proofs.Bounds.{Small, small-start, step-answered}
+use Rattle.session_steps.proofs.Bounds.{Small, small-start, step-answered}
 use Rattle.transcript.proofs.Scripts.{script-record, script-end, script-stop}
 use Rattle.transcript.proofs.LineLengths.{stop-short, reply-short, end-short}
 

@@ -13,11 +13,12 @@ use Rattle.lines.proofs.Puts.{put-fits}
 use Rattle.records.proofs.Item.{the-type}
 use Rattle.records.specs.declared.Item.{Item}
 use Rattle.records.specs.declared.Item.the-variants.{Column, Literal, Operation, EqualPair, Constant, NormalFormOf, EqualityOf, OneOrdering, Malformed}
-use Rattle.transcript.specs.State.{Reply, quiet, normalForm, equality, refusal}
+use Rattle.session_steps.specs.State.{Reply, quiet, normalForm, equality, refusal}
 use Rattle.transcript.specs.Session.{bit, r-word, replyText}
-use Rattle.transcript.specs.Inner.{saidOf, saidText, isMalformed}
-use Rattle.transcript.specs.declared.holding.Said.{Said}
-use Rattle.transcript.specs.declared.holding.Said.the-variants.{Quiet, NormalForm, Equality, Refused}
+use Rattle.session_steps.specs.Inner.{saidOf}
+use Rattle.transcript.specs.Inner.{saidText, isMalformed}
+use Rattle.session_steps.specs.declared.holding.Said.{Said}
+use Rattle.session_steps.specs.declared.holding.Said.the-variants.{Quiet, NormalForm, Equality, Refused}
 
 -- what is printed for a reply
 pub said-text : (k : ℕ) (r : Reply) → saidText k (saidOf r) ≡ replyText k r

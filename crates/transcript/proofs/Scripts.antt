@@ -7,8 +7,8 @@ use native.Mathlib.Omega.{arith}
 use lib.ListN.{length}
 use Rattle.lines.specs.Text.{line}
 use Rattle.records.specs.Record.{Record}
-use Rattle.transcript.specs.State.{State, step}
-use Rattle.transcript.specs.Session.{Script, before, r-word, replyText, replies, after, stopText, endText, scriptText}
+use Rattle.session_steps.specs.State.{State, step, after}
+use Rattle.transcript.specs.Session.{Script, before, r-word, replyText, replies, stopText, endText, scriptText}
 
 -- the answer to the first record, then the text of the others
 pub script-record : (k : ℕ) (s : State) (r : Record) (script : Script)

@@ -16,14 +16,14 @@ use Rattle.records.specs.Record.{Record, readRecord, recordSize, recordIn, body
 use Rattle.records.proofs.Headers.{whole-header, whole-body, whole-from}
 use Rattle.records.proofs.Items.{size-least, size-most}
 use Rattle.records.proofs.Reading.{was-read}
-use Rattle.transcript.specs.State.{State, start, refusal, step}
-use Rattle.transcript.specs.Session.{Script, before, readAll, read-none, read-malformed, read-record, r-word, replyText, replies, after, stopText, endText, scriptText, sessionText, session}
+use Rattle.session_steps.specs.State.{State, start, refusal, step, after}
+use Rattle.transcript.specs.Session.{Script, before, readAll, read-none, read-malformed, read-record, r-word, replyText, replies, stopText, endText, scriptText, sessionText, session}
 use Rattle.transcript.specs.declared.Written.{Written}
 use Rattle.transcript.specs.declared.Written.the-variants.{Bytes, Refused}
-use Rattle.transcript.proofs.Bounds.{Small, small-start, step-answered}
+use Rattle.session_steps.proofs.Bounds.{Small, small-start, step-answered}
 use Rattle.transcript.proofs.LineLengths.{stop-short, reply-short, end-short}
 use Rattle.transcript.proofs.Scripts.{script-record, script-end, script-stop}
-use Rattle.transcript.proofs.States.{refused-leaves}
+use Rattle.session_steps.proofs.States.{refused-leaves}
 use Rattle.transcript.proofs.Transcribing.{text-over, text-within}
 
 -- the text of bytes is at most two bytes for each of theirs, and 24 for the last lines

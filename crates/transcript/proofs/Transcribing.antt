@@ -10,12 +10,12 @@ use Rattle.lines.specs.Text.{line}
 use Rattle.lines.specs.Writing.{Put, RoomFor}
 use Rattle.lines.proofs.Puts.{put-room, put-both}
 use Rattle.arena.specs.Layout.{encode as encodeNodes}
-use Rattle.transcript.specs.State.{start}
+use Rattle.session_steps.specs.State.{start}
 use Rattle.transcript.specs.Session.{readAll, r-word, endText, scriptText, sessionText, session}
-use Rattle.transcript.specs.declared.holding.Holding.{Holding}
+use Rattle.session_steps.specs.declared.holding.Holding.{Holding}
 use Rattle.transcript.specs.declared.Written.{Written}
 use Rattle.transcript.specs.declared.Written.the-variants.{Bytes, Refused}
-use Rattle.transcript.proofs.Bounds.{small-start}
+use Rattle.session_steps.proofs.Bounds.{small-start}
 use Rattle.transcript.proofs.LineLengths.{stop-short, end-short}
 use Rattle.transcript.proofs.Running.{opening, opening-fit, opening-state, lastLine, last-line}
 

@@ -12,7 +12,7 @@ use Rattle.laws.specs.Tests.{if_then_else_}
 use Rattle.classes.specs.Group.{total}
 use Rattle.records.specs.Record.{Record, readRecord, recordSize}
 use Rattle.records.proofs.Items.{size-least, size-most}
-use Rattle.transcript.specs.State.{State, start, Reply, quiet, normalForm, equality, refusal, step}
+use Rattle.session_steps.specs.State.{State, start, Reply, quiet, normalForm, equality, refusal, step, after}
 use Rattle.lines.specs.Text.{line}
 use Rattle.transcript.specs.declared.Written.{Written}
 use Rattle.transcript.specs.declared.Written.the-variants.{Bytes, Refused}
@@ -108,11 +108,6 @@ replyText k (refusal number) = line r-word (k ∷ number ∷ [])
 unfoldable pub replies : ℕ → State → List Record → List ℕ
 replies k s [] = []
 replies k s (r ∷ rs) = replyText k (step r s .0) ++ replies (k + 1) (step r s .1) rs
-
--- the state after records
-unfoldable pub after : State → List Record → State
-after s [] = s
-after s (r ∷ rs) = after (step r s .1) rs
 
 -- what is printed for a malformed record: it has the number after the last, and stops the session
 unfoldable pub stopText : ℕ → Bool → List ℕ

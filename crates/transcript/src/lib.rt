@@ -1,18 +1,17 @@
 // The session (document 01, "Records and the session program") as one function, from bytes to bytes.
 //
 // It opens a group of limit 256, takes the records one after the other and answers each with a line or with nothing;
-// a malformed record stops it, and another refusal doesn't. Its last line counts classes, members and orderings.
-pub mod holding;
-pub mod steps;
+// a malformed record stops it, and another refusal doesn't. Its last line counts classes, members and orderings. What
+// one record does is in the crate session_steps.
 pub mod text;
 
-use holding::Holding;
-use holding::Stepped;
-use holding::opened;
 use records::Item;
 use records::kinds::record_size;
 use records::read_record;
-use steps::step;
+use session_steps::holding::Holding;
+use session_steps::holding::Stepped;
+use session_steps::holding::opened;
+use session_steps::steps::step;
 use text::put_end;
 use text::put_refusal;
 use text::put_said;
@@ -21,7 +20,7 @@ ghost use Prim.Native.Nat.{_≤_};
 ghost use mathlib.Core.List.{[], _++_};
 ghost use lib.ListN.{length, take, drop};
 ghost use Rattle.arena.specs.Layout.{encode};
-ghost use Rattle.transcript.specs.State.{start};
+ghost use Rattle.session_steps.specs.State.{start};
 ghost use Rattle.transcript.specs.Session.{readAll, scriptText, sessionText, session as sessionOf};
 ghost use Rattle.lines.specs.Writing.{Put};
 ghost use Rattle.transcript.specs.Inner.{isMalformed};

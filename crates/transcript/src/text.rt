@@ -1,10 +1,10 @@
 // The lines of a session, written into lent bytes.
-use crate::holding::Holding;
-use crate::holding::Said;
 use arena::cells::wide;
 use lines::put_byte;
 use lines::put_three;
 use lines::put_two;
+use session_steps::holding::Holding;
+use session_steps::holding::Said;
 ghost use mathlib.Core.List.{_∷_, []};
 ghost use mathlib.Core.Path.{_≡_};
 ghost use Rattle.lines.specs.Text.{line};

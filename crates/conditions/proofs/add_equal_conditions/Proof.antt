@@ -10,8 +10,9 @@ use Rattle.arena.specs.Layout.{decode as nodes}
 use Rattle.arena.proofs.Layouts.{length-decode}
 use Rattle.classes.specs.Layout.{decode, constantFrom}
 use Rattle.classes.specs.Calls.{changed}
-use Rattle.classes.proofs.HeldLaws.{number-held}
-use Rattle.classes.proofs.Calling.{refusal-is, group-done, group-refused, number-known, handed-back}
+use Rattle.group_checks.proofs.HeldLaws.{number-held}
+use Rattle.classes.proofs.Judging.{refusal-is, handed-back}
+use Rattle.group_checks.proofs.Calling.{group-done, group-refused, number-known}
 use Rattle.conditions.specs.Steps.{addEqual}
 use Rattle.conditions.proofs.Calling.{add-left, add-right, add-both}
 use Rattle.conditions.proofs.add_equal_conditions.Statement.{statement}

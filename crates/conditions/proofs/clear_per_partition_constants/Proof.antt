@@ -2,8 +2,9 @@
 use mathlib.Core.Path.{_≡_, sym, _∙_}
 use borrow.Author.Needs.{needs}
 use lib.ListN.{length}
-use Rattle.classes.proofs.HeldLaws.{number-held}
-use Rattle.classes.proofs.Calling.{refusal-is, group-done, group-refused}
+use Rattle.group_checks.proofs.HeldLaws.{number-held}
+use Rattle.classes.proofs.Judging.{refusal-is}
+use Rattle.group_checks.proofs.Calling.{group-done, group-refused}
 use Rattle.conditions.specs.Steps.{clear}
 use Rattle.conditions.proofs.clear_per_partition_constants.Statement.{statement}
 use Rattle.conditions.proofs.clear_per_partition_constants.Tie as tie

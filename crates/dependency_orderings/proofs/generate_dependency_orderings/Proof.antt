@@ -1,7 +1,7 @@
 -- `dependency_orderings::generate_dependency_orderings` meets its contract.
 use mathlib.Core.Path.{sym, ap, _∙_}
 use mathlib.Core.List.{map}
-use Rattle.normal.specs.Layout.{keysOf, packed}
+use Rattle.sort_keys.specs.Layout.{keysOf, packed}
 use Rattle.dependencies.proofs.MapCodec.{arrays-sized}
 use Rattle.dependency_orderings.specs.declared.Enumerated.{Enumerated}
 use Rattle.dependency_orderings.proofs.AnswerLaws.{generate-passes, generate-refused, generate-answered, map-held, keys-fit}

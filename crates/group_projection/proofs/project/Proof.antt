@@ -1,7 +1,7 @@
 -- `group_projection::project` meets its contract.
 use mathlib.Core.Path.{_≡_, sym, _∙_}
 use lib.ListN.{length}
-use Rattle.classes.proofs.HeldLaws.{number-held}
+use Rattle.group_checks.proofs.HeldLaws.{number-held}
 use Rattle.mappings.specs.Layout.{decode as mapping}
 use Rattle.mappings.proofs.MappingChecked.{mapping-whole, group-passes}
 use Rattle.projection.proofs.CallLaws.{lent-holds, lent-checked}

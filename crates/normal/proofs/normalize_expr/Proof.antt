@@ -5,8 +5,8 @@ use lib.ListN.{length}
 use Rattle.arena.specs.declared.Added.the-variants.{Refused}
 use Rattle.arena.proofs.Layouts.{lawful-holds}
 use Rattle.classes.specs.Calls.{groupNumber}
-use Rattle.classes.proofs.Calling.{number-known}
-use Rattle.classes.proofs.HeldLaws.{number-lawful, number-held}
+use Rattle.group_checks.proofs.Calling.{number-known}
+use Rattle.group_checks.proofs.HeldLaws.{number-lawful, number-held}
 use Rattle.normal.specs.Calls.{normalizeExpr}
 use Rattle.normal.proofs.Calling.{checked-refused, expr-unknown, expr-known}
 use borrow.Author.Needs.{needs}

@@ -2,8 +2,8 @@
 use mathlib.Core.Path.{_≡_, sym, _∙_}
 use native.Mathlib.Omega.{arith}
 use lib.ListN.{length}
-use Rattle.classes.proofs.Calling.{number-known}
-use Rattle.classes.proofs.HeldLaws.{number-held}
+use Rattle.group_checks.proofs.Calling.{number-known}
+use Rattle.group_checks.proofs.HeldLaws.{number-held}
 use Rattle.normal.proofs.Calling.{checked-refused}
 use Rattle.mappings.specs.Lent.{mappingLent}
 use Rattle.mappings.specs.Calls.{projectNumber}

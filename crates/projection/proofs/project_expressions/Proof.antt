@@ -5,7 +5,7 @@ use mathlib.Core.Path.{_≡_, sym, _∙_}
 use borrow.Author.Tests.{not-true, not-false}
 use lib.ListN.{length}
 use Rattle.arena.specs.Layout.{count}
-use Rattle.classes.proofs.HeldLaws.{number-held}
+use Rattle.group_checks.proofs.HeldLaws.{number-held}
 use Rattle.normal.proofs.Calling.{checked-refused}
 use Rattle.mappings.specs.Lent.{mappingLent}
 use Rattle.mappings.specs.Calls.{projectNumber}

@@ -7,8 +7,8 @@ use lib.ListN.{length}
 use Rattle.arena.specs.Layout.{decode as nodes}
 use Rattle.arena.proofs.Layouts.{length-decode}
 use Rattle.classes.specs.Layout.{decode}
-use Rattle.classes.proofs.HeldLaws.{number-held}
-use Rattle.classes.proofs.Calling.{ask-done, ask-refused, number-known}
+use Rattle.group_checks.proofs.HeldLaws.{number-held}
+use Rattle.group_checks.proofs.Calling.{ask-done, ask-refused, number-known}
 use Rattle.questions.specs.Calls.{constantAnswer}
 use Rattle.questions.specs.declared.ConstantIs.{ConstantIs}
 use Rattle.questions.specs.declared.ConstantIs.the-variants.{Is}

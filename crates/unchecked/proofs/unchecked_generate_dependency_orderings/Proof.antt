@@ -3,7 +3,7 @@ use Prim.Native.Nat.{ℕ}
 use mathlib.Core.List.{List, map}
 use mathlib.Core.Path.{sym, ap, subst, _∙_}
 use lib.ListN.{length}
-use Rattle.normal.specs.Layout.{keysOf, packed}
+use Rattle.sort_keys.specs.Layout.{keysOf, packed}
 use Rattle.dependencies.specs.Inner.{Held}
 use Rattle.dependencies.specs.Layout.{decode}
 use Rattle.dependencies.specs.declared.DependencyMap.{DependencyMap}

@@ -1,5 +1,5 @@
 -- `classes::refusing::no_group` meets its contract.
-use Rattle.classes.proofs.Calling.{no-group-is}
+use Rattle.classes.proofs.Judging.{no-group-is}
 use borrow.Author.Needs.{needs}
 use Rattle.classes.proofs.refusing.no_group.Statement.{statement}
 use Rattle.classes.proofs.refusing.no_group.Tie as tie

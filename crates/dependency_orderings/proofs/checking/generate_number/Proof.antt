@@ -1,7 +1,7 @@
 -- `dependency_orderings::checking::generate_number` meets its contract.
 use mathlib.Core.Path.{sym, ap, _∙_}
 use borrow.Author.Tests.{not-true, not-false}
-use Rattle.normal.proofs.KeyCalls.{Below}
+use Rattle.sort_keys.proofs.KeyCalls.{Below}
 use Rattle.dependency_orderings.proofs.AnswerLaws.{generate-options, generate-cut, generate-map, generate-unknown, generate-known}
 use borrow.Author.Needs.{needs}
 use Rattle.dependency_orderings.proofs.checking.generate_number.Statement.{statement}

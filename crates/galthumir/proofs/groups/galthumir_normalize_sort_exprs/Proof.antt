@@ -3,7 +3,7 @@ use Prim.Native.Nat.{ℕ, _<_}
 use mathlib.Core.Path.{sym, subst}
 use mathlib.Core.List.{List}
 use borrow.Author.Needs.{needs}
-use Rattle.normal.specs.declared.Sorted.{Sorted}
+use Rattle.sort_keys.specs.declared.Sorted.{Sorted}
 use Rattle.state_laws.proofs.ListFit.{sorted-fits}
 use Rattle.galthumir.proofs.Shapes.{on-first}
 use Rattle.galthumir.proofs.groups.galthumir_normalize_sort_exprs.Statement.{statement}

@@ -4,7 +4,7 @@ use native.Mathlib.Omega.{arith}
 use borrow.Author.Tests.{not-true, not-false, le-leb, lt-leb}
 use Rattle.arena.specs.Layout.{decode as nodes}
 use Rattle.arena.proofs.Layouts.{lawful-holds}
-use Rattle.classes.proofs.Checks.{limit-few}
+use Rattle.group_checks.proofs.Checks.{limit-few}
 use Rattle.joins.proofs.JoinNumbers.{join-kind, join-left-set, join-right-set, join-arena, join-left, join-right, join-odd, join-sides, used-few}
 use borrow.Author.Needs.{needs}
 use Rattle.joins.proofs.joining.join_number.Statement.{statement}

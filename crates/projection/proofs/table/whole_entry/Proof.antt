@@ -6,7 +6,7 @@ use borrow.Author.Needs.{needs}
 use Rattle.arena.specs.Layout.{count, decode as nodes}
 use Rattle.classes.specs.Group.{sameClass}
 use Rattle.classes.specs.Layout.{decode as classes}
-use Rattle.classes.proofs.Checks.{literal-cell}
+use Rattle.group_checks.proofs.Checks.{literal-cell}
 use Rattle.questions.specs.Inner.{samePlace}
 use Rattle.questions.proofs.PlaceNumbers.{same-placed}
 use Rattle.mappings.specs.Layout.{decode}
