@@ -26,7 +26,7 @@ use Rattle.conditions.proofs.ConstantLaws.{fits-both}
 use Rattle.merging.specs.Extending.{classFrom, isTrivial}
 use Rattle.merging.specs.Merging.{fromClasses}
 use Rattle.merging.specs.Inner.{Fair, AllBelow}
-use Rattle.merging.proofs.ListCounts.{fits-few, fits-small}
+use Rattle.lent_classes.proofs.ListCounts.{fits-few, fits-small}
 use Rattle.merging.proofs.Smaller.{from-few, from-small}
 use Rattle.merging.proofs.Reaching.{Sane, sane-fair, from-good, sane-from, all-append}
 use Rattle.mappings.specs.Mapping.{Mapped, mappedAt}

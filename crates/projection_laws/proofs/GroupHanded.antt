@@ -24,7 +24,7 @@ use Rattle.classes.specs.declared.Changed.{Changed}
 use Rattle.classes.proofs.HeldLaws.{number-fit, held-number}
 use Rattle.normal.specs.Calls.{onChecked}
 use Rattle.merging.specs.Calls.{madeGroup, refusedGroup, madeOrRefused}
-use Rattle.merging.proofs.ListCounts.{fits-few, fits-small}
+use Rattle.lent_classes.proofs.ListCounts.{fits-few, fits-small}
 use Rattle.mappings.specs.Mapping.{Mapped}
 use Rattle.mappings.specs.Lent.{mappingLent}
 use Rattle.mappings.specs.Calls.{projectNumber}

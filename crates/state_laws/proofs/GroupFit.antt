@@ -27,9 +27,10 @@ use Rattle.conditions.specs.Steps.{addEqual, addConstant, clear}
 use Rattle.conditions.specs.Calls.{sayable, onConstant}
 use Rattle.demands.proofs.Valid.{valid-equal, valid-constant, valid-clear, Tables}
 use Rattle.merging.specs.Merging.{fromClasses}
-use Rattle.merging.specs.Lent.{classesLent}
-use Rattle.merging.specs.Calls.{newNumber, madeGroup, newAnswer}
-use Rattle.merging.proofs.ListCounts.{fits-few, fits-small}
+use Rattle.lent_classes.specs.Lent.{classesLent}
+use Rattle.lent_classes.specs.Check.{newNumber}
+use Rattle.merging.specs.Calls.{madeGroup, newAnswer}
+use Rattle.lent_classes.proofs.ListCounts.{fits-few, fits-small}
 use Rattle.shifted_classes.specs.Lent.{pairsLent}
 use Rattle.joins.specs.Calls.{joinNumber, joinBy, joinAnswer}
 use Rattle.merging_laws.proofs.HandedBack.{new-valid, both-checked, kinds-handed, joinOut}
