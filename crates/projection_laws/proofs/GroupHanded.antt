@@ -30,8 +30,8 @@ use Rattle.mappings.specs.Lent.{mappingLent}
 use Rattle.mappings.specs.Calls.{projectNumber}
 use Rattle.mappings.specs.Agree.{Over}
 use Rattle.mappings.proofs.MappingChecked.{group-passes}
-use Rattle.projection.specs.Projecting.{projection}
-use Rattle.projection.proofs.TableLaws.{none-some}
+use Rattle.projection_table.specs.Projecting.{projection}
+use Rattle.projection_table.proofs.TableLaws.{none-some}
 use Rattle.projection.proofs.CallLaws.{lent-holds}
 use Rattle.group_projection.specs.Group.{projectedNumbers, newConstants, constantsSaid, beforeConstants, projectedList, projectedGroup}
 use Rattle.group_projection.specs.Calls.{projectPlaced, projectBy, projectAnswer}

@@ -1,12 +1,12 @@
--- `projection::table::source_entry` meets its contract.
+-- `projection_table::table::source_entry` meets its contract.
 use Prim.Native.Nat.{_-_}
 use native.Mathlib.Omega.{arith}
 use borrow.Author.Tests.{eq-eqb, ne-eqb}
 use borrow.Author.Needs.{needs}
 use lib.Dec.{eqb}
-use Rattle.projection.proofs.Sources.{Searching, target-under, searching-begins, searching-found, searching-on, searching-ends}
-use Rattle.projection.proofs.table.source_entry.Statement.{statement}
-use Rattle.projection.proofs.table.source_entry.Tie as tie
+use Rattle.projection_table.proofs.Sources.{Searching, target-under, searching-begins, searching-found, searching-on, searching-ends}
+use Rattle.projection_table.proofs.table.source_entry.Statement.{statement}
+use Rattle.projection_table.proofs.table.source_entry.Tie as tie
 
 abbrev Inv-loop : tie.InvT-loop
 Inv-loop e m n i₀ i = Searching (λ s. eqb s e) m i

@@ -1,4 +1,4 @@
--- `projection::table::whole_entry` meets its contract.
+-- `projection_table::table::whole_entry` meets its contract.
 use mathlib.Core.Path.{sym, ap, _∙_}
 use native.Mathlib.Omega.{arith}
 use borrow.Author.Tests.{eq-eqb, ne-eqb}
@@ -10,11 +10,11 @@ use Rattle.classes.proofs.Checks.{literal-cell}
 use Rattle.questions.specs.Inner.{samePlace}
 use Rattle.questions.proofs.PlaceNumbers.{same-placed}
 use Rattle.mappings.specs.Layout.{decode}
-use Rattle.projection.specs.Inner.{entryOf}
-use Rattle.projection.proofs.Sources.{checked-wider, target-same}
-use Rattle.projection.proofs.Becoming.{becomes-own, becomes-literal, becomes-class}
-use Rattle.projection.proofs.table.whole_entry.Statement.{statement}
-use Rattle.projection.proofs.table.whole_entry.Tie as tie
+use Rattle.projection_table.specs.Inner.{entryOf}
+use Rattle.projection_table.proofs.Sources.{checked-wider, target-same}
+use Rattle.projection_table.proofs.Becoming.{becomes-own, becomes-literal, becomes-class}
+use Rattle.projection_table.proofs.table.whole_entry.Statement.{statement}
+use Rattle.projection_table.proofs.table.whole_entry.Tie as tie
 
 source-entry-requires : tie.Need-source-entry-requires
 source-entry-requires c κs = checked-wider (count (c .args .cells .now)) 1024 (c .args .m) (c .pre .0 .1) (c .pre .0 .0 .holds .few)

@@ -1,10 +1,9 @@
 -- Projecting an expression: a mapped source becomes its first target; else a literal stays; else the first mapping whose source's class holds it gives its first target; else all children must project; a childless node does not.
 use Prim.Native.Nat.{ℕ}
-use mathlib.Core.Bool.{Bool}
 use mathlib.Core.List.{List, [], _∷_, map}
 use mathlib.Core.Option.{Option, none, some}
 use lib.Dec.{eqb}
-use lib.ListN.{length, getD}
+use lib.ListN.{getD}
 use Rattle.laws.specs.Tests.{if_then_else_}
 use Rattle.arena.specs.Node.{Node, column, literal, operation, nodeAt, made}
 use Rattle.arena.specs.Expression.{Expression, Expressions, op, ∅, _▹_, expressionAt}

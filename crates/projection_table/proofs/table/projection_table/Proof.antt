@@ -1,4 +1,4 @@
--- `projection::table::projection_table` meets its contract.
+-- `projection_table::table::projection_table` meets its contract.
 use Prim.Native.Nat.{ℕ, _-_, _≤_, _<_}
 use mathlib.Core.List.{List}
 use mathlib.Core.Path.{_≡_, _∙_}
@@ -11,11 +11,11 @@ use Rattle.classes.specs.Layout.{decode as classes}
 use Rattle.classes.specs.declared.Group.{Group}
 use Rattle.mappings.specs.Layout.{decode}
 use Rattle.mappings.specs.declared.Mapping.{Mapping}
-use Rattle.projection.specs.Projecting.{projections}
-use Rattle.projection.specs.Inner.{Says}
-use Rattle.projection.proofs.TableLaws.{table-more}
-use Rattle.projection.proofs.table.projection_table.Statement.{statement}
-use Rattle.projection.proofs.table.projection_table.Tie as tie
+use Rattle.projection_table.specs.Projecting.{projections}
+use Rattle.projection_table.specs.Inner.{Says}
+use Rattle.projection_table.proofs.TableLaws.{table-more}
+use Rattle.projection_table.proofs.table.projection_table.Statement.{statement}
+use Rattle.projection_table.proofs.table.projection_table.Tie as tie
 
 -- what an entry says of node j is true
 abbrev Entry : List ℕ → Group → Mapping → ℕ → ℕ → Type 0

@@ -22,9 +22,9 @@ use Rattle.questions.proofs.Asking.{child-under}
 use Rattle.mappings.specs.Mapping.{Mapped}
 use Rattle.mappings.specs.Layout.{decode, Checked}
 use Rattle.mappings.specs.declared.Mapping.{Mapping}
-use Rattle.projection.specs.Projecting.{becomes, bothProject, allProject, operationOf, byChildren, wholeOr, projectionsBy, projections}
-use Rattle.projection.specs.Inner.{entryOf, Says}
-use Rattle.projection.proofs.Becoming.{becomes-is, becomes-below, entry-none}
+use Rattle.projection_table.specs.Projecting.{becomes, bothProject, allProject, operationOf, byChildren, wholeOr, projectionsBy, projections}
+use Rattle.projection_table.specs.Inner.{entryOf, Says}
+use Rattle.projection_table.proofs.Becoming.{becomes-is, becomes-below, entry-none}
 
 -- ---- the projection of a node
 

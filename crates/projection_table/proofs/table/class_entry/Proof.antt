@@ -1,13 +1,13 @@
--- `projection::table::class_entry` meets its contract.
+-- `projection_table::table::class_entry` meets its contract.
 use Prim.Native.Nat.{_-_}
 use mathlib.Core.Path.{sym, _∙_}
 use native.Mathlib.Omega.{arith}
 use borrow.Author.Needs.{needs}
 use Rattle.questions.specs.Inner.{samePlace}
 use Rattle.mappings.proofs.PlaceReads.{read-below}
-use Rattle.projection.proofs.Sources.{Searching, target-under, searching-begins, searching-found, searching-on, searching-ends}
-use Rattle.projection.proofs.table.class_entry.Statement.{statement}
-use Rattle.projection.proofs.table.class_entry.Tie as tie
+use Rattle.projection_table.proofs.Sources.{Searching, target-under, searching-begins, searching-found, searching-on, searching-ends}
+use Rattle.projection_table.proofs.table.class_entry.Statement.{statement}
+use Rattle.projection_table.proofs.table.class_entry.Tie as tie
 
 abbrev Inv-loop : tie.InvT-loop
 Inv-loop places e m n i₀ i = Searching (λ s. samePlace places s e) m i

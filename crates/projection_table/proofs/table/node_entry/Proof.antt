@@ -1,4 +1,4 @@
--- `projection::table::node_entry` meets its contract.
+-- `projection_table::table::node_entry` meets its contract.
 use Prim.Native.Nat.{ℕ}
 use mathlib.Core.Path.{sym, _∙_, subst}
 use native.Mathlib.Omega.{arith}
@@ -7,9 +7,9 @@ use Rattle.arena.proofs.Layouts.{length-decode}
 use Rattle.classes.specs.Layout.{decode as classes}
 use Rattle.questions.proofs.Equality.{known-inside}
 use Rattle.mappings.specs.Layout.{Checked}
-use Rattle.projection.proofs.TableLaws.{says-whole, says-leaf, says-fails, says-open}
-use Rattle.projection.proofs.table.node_entry.Statement.{statement}
-use Rattle.projection.proofs.table.node_entry.Tie as tie
+use Rattle.projection_table.proofs.TableLaws.{says-whole, says-leaf, says-fails, says-open}
+use Rattle.projection_table.proofs.table.node_entry.Statement.{statement}
+use Rattle.projection_table.proofs.table.node_entry.Tie as tie
 
 narrow-requires : tie.Need-narrow-requires
 narrow-requires c κs =

@@ -1,4 +1,4 @@
--- `projection::table::children_project` meets its contract.
+-- `projection_table::table::children_project` meets its contract.
 use Prim.Native.Nat.{ℕ, _-_, _≤_}
 use mathlib.Core.Bool.{Bool, true, not}
 use mathlib.Core.List.{List}
@@ -13,8 +13,8 @@ use Rattle.laws.proofs.Each.{each-none, each-more, each-stops, each-ends}
 use Rattle.arena.specs.Node.{nodeAt, childNumbers}
 use Rattle.arena.specs.Layout.{decode as nodes}
 use Rattle.arena.proofs.Children.{child-place}
-use Rattle.projection.proofs.table.children_project.Statement.{statement}
-use Rattle.projection.proofs.table.children_project.Tie as tie
+use Rattle.projection_table.proofs.table.children_project.Statement.{statement}
+use Rattle.projection_table.proofs.table.children_project.Tie as tie
 
 -- the children of node e
 abbrev Children : List ℕ → ℕ → List ℕ

@@ -25,8 +25,8 @@ ghost use Rattle.classes.specs.Inner.{Coded};
 ghost use Rattle.questions.specs.Inner.{Placed, samePlace};
 ghost use Rattle.mappings.specs.Mapping.{targetFor};
 ghost use Rattle.mappings.specs.Layout.{decode, Checked};
-ghost use Rattle.projection.specs.Projecting.{becomes, projections};
-ghost use Rattle.projection.specs.Inner.{entryOf, Says, Tabled};
+ghost use Rattle.projection_table.specs.Projecting.{becomes, projections};
+ghost use Rattle.projection_table.specs.Inner.{entryOf, Says, Tabled};
 
 // The entry of a mapped source: its first target.
 fn source_entry(m: Mapping, e: u32) -> u32

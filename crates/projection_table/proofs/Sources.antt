@@ -12,7 +12,7 @@ use Rattle.mappings.specs.Layout.{placeIn, mappedOf, decode, Bounded, Checked}
 use Rattle.mappings.specs.declared.Mapping.{Mapping}
 use Rattle.mappings.proofs.Targets.{mapped-source, mapped-target, decode-length, decode-at}
 use Rattle.mappings.proofs.PlaceReads.{readIn, read-size, read-rest, read-targets}
-use Rattle.projection.specs.Inner.{entryOf}
+use Rattle.projection_table.specs.Inner.{entryOf}
 
 -- the first target of a source that is read is among the first n
 pub target-under : (n : ℕ) (m : Mapping) → Checked n m → (i : ℕ) → i < m .count → getD (readIn m i .targets) 0 0 < n

@@ -17,8 +17,8 @@ use Rattle.mappings.specs.Mapping.{Mapped, firstTarget, targetFor, mappedAt}
 use Rattle.mappings.specs.Layout.{placeIn, decode, Checked}
 use Rattle.mappings.specs.declared.Mapping.{Mapping}
 use Rattle.mappings.proofs.Targets.{mapped-target, decode-length, decode-at}
-use Rattle.projection.specs.Projecting.{orElse, becomes}
-use Rattle.projection.specs.Inner.{entryOf}
+use Rattle.projection_table.specs.Projecting.{orElse, becomes}
+use Rattle.projection_table.specs.Inner.{entryOf}
 
 -- ---- what is found
 
