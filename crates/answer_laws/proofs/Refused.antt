@@ -61,7 +61,7 @@ use Rattle.records.specs.declared.Item.the-variants.{Column, Literal, Operation
 use Rattle.transcript.specs.Session.{sessionText, session}
 use Rattle.transcript.specs.declared.Written.{Written}
 use Rattle.transcript.specs.declared.Written.the-variants.{Bytes, Refused as Written-Refused}
-use Rattle.states.specs.Groups.{storedGroup}
+use Rattle.group_states.specs.Groups.{storedGroup}
 use Rattle.states.specs.Orders.{storedList}
 use Rattle.states.specs.Maps.{storedMap}
 use Rattle.answers.specs.Answers.{onFirst, addedIn, readIn, childIn, classIn, changedIn, answerIn, constantIn, keyIn, sortedIn, projectedIn, optionsIn, partialIn, outputIn, enumeratedIn, itemIn, chosenIn, writtenIn}

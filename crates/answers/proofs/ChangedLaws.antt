@@ -7,7 +7,7 @@ use borrow.Author.Tests.{eqb-false}
 use lib.Dec.{eqb}
 use Rattle.laws.specs.Tests.{if_then_else_}
 use Rattle.classes.specs.declared.Changed.{Changed}
-use Rattle.states.specs.Groups.{groupCells, storedGroup}
+use Rattle.group_states.specs.Groups.{groupCells, storedGroup}
 use Rattle.answers.specs.Answers.{bit, changedIn}
 
 module _ (old cells new : List ℕ) (c : Changed) (r : ℕ) where

@@ -36,7 +36,7 @@ use Rattle.records.specs.declared.Item.{Item}
 use Rattle.records.specs.declared.Item.the-variants.{Column, Literal, Operation, EqualPair, Constant, NormalFormOf, EqualityOf, OneOrdering, Malformed}
 use Rattle.transcript.specs.declared.Written.{Written}
 use Rattle.transcript.specs.declared.Written.the-variants.{Bytes, Refused as Written-Refused}
-use Rattle.states.specs.Groups.{groupCells}
+use Rattle.group_states.specs.Groups.{groupCells}
 use Rattle.states.specs.Orders.{orderingCells}
 
 -- the first of two put into numbers; the second is what a call leaves in the other memory that it is lent

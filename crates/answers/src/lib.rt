@@ -7,6 +7,7 @@ use classes::Changed;
 use classes::ClassIs;
 use dependencies::Given;
 use dependency_orderings::Enumerated;
+use group_states::groups::store_group;
 use normal::KeyIs;
 use normal::Sorted;
 use ordering_joins::Output;
@@ -21,14 +22,13 @@ use states::COLUMN;
 use states::LITERAL;
 use states::NONE;
 use states::OPERATION;
-use states::groups::store_group;
 use states::numbers::widened;
 use states::orders::put_ordering;
 use transcript::Written;
 ghost use mathlib.Core.List.{[], _∷_};
 ghost use mathlib.Core.Path.{_≡_};
 ghost use Prim.Native.Nat.{_<_};
-ghost use Rattle.states.specs.Inner.{FitsIfDone};
+ghost use Rattle.group_states.specs.Inner.{FitsIfDone};
 ghost use Rattle.answers.specs.Answers.{addedIn, readIn, childIn, classIn, changedIn, answerIn, constantIn, keyIn, sortedIn, projectedIn, optionsIn, partialIn, outputIn, enumeratedIn, itemIn, writtenIn, bit, givenFrom};
 
 // 1 for true and 0 for false.

@@ -8,8 +8,8 @@ use answers::put_key;
 use answers::put_projected;
 use answers::put_sorted;
 use arena::cells::wide;
-use states::groups::load_group;
-use states::groups::store_group;
+use group_states::groups::load_group;
+use group_states::groups::store_group;
 ghost use mathlib.Core.Path.{_≡_};
 ghost use Rattle.classes.specs.Calls.{groupNumber, opened, onGroup, askGroup, classAnswer};
 ghost use Rattle.classes.specs.declared.ClassIs.{ClassIs};
@@ -23,7 +23,7 @@ ghost use Rattle.merging.specs.Calls.{newAnswer};
 ghost use Rattle.joins.specs.Calls.{joinAnswer};
 ghost use Rattle.group_projection.specs.Calls.{projectAnswer};
 ghost use Rattle.projection.specs.Calls.{projectedExpr, projectedExpressions};
-ghost use Rattle.states.specs.Groups.{groupFrom, storedGroup};
+ghost use Rattle.group_states.specs.Groups.{groupFrom, storedGroup};
 ghost use Rattle.answers.specs.Answers.{onFirst, addedIn, classIn, changedIn, answerIn, constantIn, keyIn, sortedIn, projectedIn};
 
 // Makes an empty group with a member limit of 1 to 256. Refusal: 12.

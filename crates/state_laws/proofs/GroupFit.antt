@@ -38,7 +38,7 @@ use Rattle.mappings.specs.Lent.{mappingLent}
 use Rattle.group_projection.specs.Calls.{projectAnswer}
 use Rattle.projection_laws.proofs.GroupHanded.{project-over, over, project-by, made-within}
 use Rattle.group_records.specs.GroupRecord.{Given, classMeant, membersGiven, flavoursKnown, classesFilled, membersApart, literalsUniform, membersKnown, givenNumber, groupGiven, groupOf, groupRead}
-use Rattle.states.specs.Inner.{GroupFits, FitsIfDone}
+use Rattle.group_states.specs.Inner.{GroupFits, FitsIfDone}
 
 -- ---- a layout of classes, and a group that is valid
 

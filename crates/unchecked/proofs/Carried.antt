@@ -22,7 +22,7 @@ use Rattle.merging.specs.Merging.{fromClasses}
 use Rattle.merging.specs.Calls.{madeGroup}
 use Rattle.merging.proofs.Smaller.{from-few, from-small}
 use Rattle.lent_classes.proofs.ListCounts.{fits-few, fits-small}
-use Rattle.states.specs.Inner.{GroupFits, FitsIfDone}
+use Rattle.group_states.specs.Inner.{GroupFits, FitsIfDone}
 use Rattle.state_laws.proofs.GroupFit.{encode-fits}
 use Rattle.answers.specs.Answers.{onFirst, bit}
 

@@ -1,9 +1,9 @@
--- `states::groups::put_table` meets its contract.
+-- `group_states::groups::put_table` meets its contract.
 use mathlib.Core.Path.{_≡_}
 use lib.ListN.{length}
 use borrow.Author.Needs.{needs}
-use Rattle.states.proofs.groups.put_table.Statement.{statement}
-use Rattle.states.proofs.groups.put_table.Tie as tie
+use Rattle.group_states.proofs.groups.put_table.Statement.{statement}
+use Rattle.group_states.proofs.groups.put_table.Tie as tie
 
 slice-aggregate-put-numbers : tie.Need-slice-aggregate-put-numbers
 slice-aggregate-put-numbers c = search needs

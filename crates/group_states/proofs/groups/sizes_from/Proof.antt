@@ -1,11 +1,11 @@
--- `states::groups::sizes_from` meets its contract.
+-- `group_states::groups::sizes_from` meets its contract.
 use Prim.Native.Nat.{_+_, _-_}
 use lib.ListN.{getD}
 use Rattle.states.specs.Cells.{part}
 use Rattle.enumeration.proofs.Marks.{Filled, filled-none, filled-more, filled-all}
 use borrow.Author.Needs.{needs}
-use Rattle.states.proofs.groups.sizes_from.Statement.{statement}
-use Rattle.states.proofs.groups.sizes_from.Tie as tie
+use Rattle.group_states.proofs.groups.sizes_from.Statement.{statement}
+use Rattle.group_states.proofs.groups.sizes_from.Tie as tie
 
 abbrev Inv-loop : tie.InvT-loop
 Inv-loop cells sizes₀ k₀ sizes k = Filled (λ j. getD cells (3 + j) 0) 0 64 k sizes

@@ -1,8 +1,8 @@
--- `states::groups::load_group` meets its contract.
+-- `group_states::groups::load_group` meets its contract.
 use borrow.Author.Needs.{needs}
-use Rattle.states.specs.Groups.{groupFrom}
-use Rattle.states.proofs.groups.load_group.Statement.{statement}
-use Rattle.states.proofs.groups.load_group.Tie as tie
+use Rattle.group_states.specs.Groups.{groupFrom}
+use Rattle.group_states.proofs.groups.load_group.Statement.{statement}
+use Rattle.group_states.proofs.groups.load_group.Tie as tie
 
 sizes-from-requires : tie.Need-sizes-from-requires
 sizes-from-requires c κs = search needs

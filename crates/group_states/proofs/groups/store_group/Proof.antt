@@ -1,8 +1,8 @@
--- `states::groups::store_group` meets its contract.
+-- `group_states::groups::store_group` meets its contract.
 use borrow.Author.Tests.{eq-eqb, ne-eqb}
-use Rattle.states.specs.Groups.{storedGroup}
-use Rattle.states.proofs.groups.store_group.Statement.{statement}
-use Rattle.states.proofs.groups.store_group.Tie as tie
+use Rattle.group_states.specs.Groups.{storedGroup}
+use Rattle.group_states.proofs.groups.store_group.Statement.{statement}
+use Rattle.group_states.proofs.groups.store_group.Tie as tie
 
 returns : tie.Need-returns
 unfolding storedGroup

@@ -1,12 +1,12 @@
--- `states::groups::table_from` meets its contract.
+-- `group_states::groups::table_from` meets its contract.
 use Prim.Native.Nat.{_+_, _-_}
 use mathlib.Core.Path.{refl}
 use lib.ListN.{getD}
 use Rattle.states.specs.Cells.{part}
 use Rattle.enumeration.proofs.Marks.{Filled, filled-none, filled-more, filled-all}
 use borrow.Author.Needs.{needs}
-use Rattle.states.proofs.groups.table_from.Statement.{statement}
-use Rattle.states.proofs.groups.table_from.Tie as tie
+use Rattle.group_states.proofs.groups.table_from.Statement.{statement}
+use Rattle.group_states.proofs.groups.table_from.Tie as tie
 
 abbrev Inv-loop : tie.InvT-loop
 Inv-loop cells at numbers₀ k₀ numbers k = Filled (λ j. getD cells (at + j) 0) 0 64 k numbers

@@ -1,23 +1,23 @@
 // A group in its cells.
-use crate::GROUP_CELLS;
-use crate::GROUP_COUNT;
-use crate::GROUP_FLAVOURS;
-use crate::GROUP_LIMIT;
-use crate::GROUP_MEMBERS;
-use crate::GROUP_SIZES;
-use crate::GROUP_USED;
-use crate::GROUP_VALUES;
-use crate::numbers::narrow;
 use arena::cells::wide;
 use classes::Changed;
 use classes::Group;
+use states::GROUP_CELLS;
+use states::GROUP_COUNT;
+use states::GROUP_FLAVOURS;
+use states::GROUP_LIMIT;
+use states::GROUP_MEMBERS;
+use states::GROUP_SIZES;
+use states::GROUP_USED;
+use states::GROUP_VALUES;
+use states::numbers::narrow;
 ghost use mathlib.Core.List.{[], _∷_, _++_};
 ghost use mathlib.Core.Path.{_≡_};
 ghost use Prim.Native.Nat.{_+_, _≤_};
 ghost use lib.ListN.{length, take};
 ghost use Rattle.states.specs.Cells.{part};
-ghost use Rattle.states.specs.Groups.{groupFrom, groupCells, storedGroup};
-ghost use Rattle.states.specs.Inner.{AllBelow, GroupFits, FitsIfDone};
+ghost use Rattle.group_states.specs.Groups.{groupFrom, groupCells, storedGroup};
+ghost use Rattle.group_states.specs.Inner.{AllBelow, GroupFits, FitsIfDone};
 
 // The sizes of the classes.
 fn sizes_from(cells: &[u32; GROUP_CELLS]) -> [usize; 64]

@@ -1,8 +1,8 @@
--- `states::groups::put_group` meets its contract.
-use Rattle.states.proofs.Stores.{group-written}
+-- `group_states::groups::put_group` meets its contract.
+use Rattle.group_states.proofs.Stores.{group-written}
 use borrow.Author.Needs.{needs}
-use Rattle.states.proofs.groups.put_group.Statement.{statement}
-use Rattle.states.proofs.groups.put_group.Tie as tie
+use Rattle.group_states.proofs.groups.put_group.Statement.{statement}
+use Rattle.group_states.proofs.groups.put_group.Tie as tie
 
 narrow-requires : tie.Need-narrow-requires
 narrow-requires c κs = search needs

@@ -1,12 +1,12 @@
--- `states::groups::put_widths` meets its contract.
+-- `group_states::groups::put_widths` meets its contract.
 use Prim.Native.Nat.{_-_}
 use mathlib.Core.Path.{_≡_}
 use native.Mathlib.Omega.{arith}
 use lib.ListN.{length}
-use Rattle.states.proofs.Stores.{Written, written-none, written-more, written-all}
+use Rattle.group_states.proofs.Stores.{Written, written-none, written-more, written-all}
 use borrow.Author.Needs.{needs}
-use Rattle.states.proofs.groups.put_widths.Statement.{statement}
-use Rattle.states.proofs.groups.put_widths.Tie as tie
+use Rattle.group_states.proofs.groups.put_widths.Statement.{statement}
+use Rattle.group_states.proofs.groups.put_widths.Tie as tie
 
 abbrev Inv-loop : tie.InvT-loop
 Inv-loop cells₀ sizes k₀ cells k = Written cells₀ sizes 3 k cells

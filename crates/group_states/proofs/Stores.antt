@@ -5,8 +5,8 @@ use mathlib.Core.Path.{_≡_, refl, sym, ap, _∙_}
 use native.Mathlib.Omega.{arith}
 use lib.ListN.{length, getD, set, take, length-set}
 use Rattle.classes.specs.declared.Group.{Group}
-use Rattle.states.specs.Groups.{groupCells}
+use Rattle.group_states.specs.Groups.{groupCells}
 use Rattle.states.proofs.Taken.{taken-all, written-turn}
 
 -- the first i of xs are written from a cell on
 pub record Written (old xs : List ℕ) (at i : ℕ) (now : List ℕ) : Type 0 where

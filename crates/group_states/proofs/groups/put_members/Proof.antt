@@ -1,12 +1,12 @@
--- `states::groups::put_members` meets its contract.
+-- `group_states::groups::put_members` meets its contract.
 use mathlib.Core.List.{_++_}
 use mathlib.Core.Path.{_≡_, sym, _∙_}
 use native.Mathlib.Omega.{arith}
 use lib.ListN.{length, take}
 use Rattle.states.proofs.Taken.{taken-all}
 use borrow.Author.Needs.{needs}
-use Rattle.states.proofs.groups.put_members.Statement.{statement}
-use Rattle.states.proofs.groups.put_members.Tie as tie
+use Rattle.group_states.proofs.groups.put_members.Statement.{statement}
+use Rattle.group_states.proofs.groups.put_members.Tie as tie
 
 slice-aggregate-put-numbers : tie.Need-slice-aggregate-put-numbers
 slice-aggregate-put-numbers c = search needs

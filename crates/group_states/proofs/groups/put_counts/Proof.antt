@@ -1,10 +1,10 @@
--- `states::groups::put_counts` meets its contract.
+-- `group_states::groups::put_counts` meets its contract.
 use native.Mathlib.Omega.{arith}
 use lib.ListN.{length-set}
-use Rattle.states.proofs.Stores.{three-written}
+use Rattle.group_states.proofs.Stores.{three-written}
 use borrow.Author.Needs.{needs}
-use Rattle.states.proofs.groups.put_counts.Statement.{statement}
-use Rattle.states.proofs.groups.put_counts.Tie as tie
+use Rattle.group_states.proofs.groups.put_counts.Statement.{statement}
+use Rattle.group_states.proofs.groups.put_counts.Tie as tie
 
 slice-write-cells : tie.Need-slice-write-cells
 slice-write-cells c = search needs

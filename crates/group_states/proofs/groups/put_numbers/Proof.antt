@@ -1,12 +1,12 @@
--- `states::groups::put_numbers` meets its contract.
+-- `group_states::groups::put_numbers` meets its contract.
 use Prim.Native.Nat.{_-_}
 use mathlib.Core.Path.{refl}
 use native.Mathlib.Omega.{arith}
 use lib.ListN.{length, getD}
-use Rattle.states.proofs.Stores.{Written, written-none, written-more, written-all}
+use Rattle.group_states.proofs.Stores.{Written, written-none, written-more, written-all}
 use borrow.Author.Needs.{needs}
-use Rattle.states.proofs.groups.put_numbers.Statement.{statement}
-use Rattle.states.proofs.groups.put_numbers.Tie as tie
+use Rattle.group_states.proofs.groups.put_numbers.Statement.{statement}
+use Rattle.group_states.proofs.groups.put_numbers.Tie as tie
 
 abbrev Inv-loop : tie.InvT-loop
 Inv-loop numbers cells₀ at k₀ cells k = Written cells₀ numbers at k cells
