@@ -1,11 +1,11 @@
 // Inner functions, exported for the benchmark alone: the same work as the library's calls of the same name, without the check
 // of what is lent. What the check would find is asked of the caller instead, in `requires`, so an engine links the crate
 // galthumir and not this one.
-use answers::put_added;
 use answers::put_enumerated;
 use conditions::equating::equal_condition_in;
 use dependency_orderings::answering::answer_gathered;
 use dependency_orderings::gathering::gather;
+use group_answers::put_added;
 use group_states::groups::load_group;
 use group_states::groups::store_group;
 use lent_classes::lent::lent_classes;
@@ -50,7 +50,8 @@ ghost use Rattle.dependency_orderings.specs.Inner.{KeysFit};
 ghost use Rattle.group_states.specs.Groups.{groupFrom, storedGroup};
 ghost use Rattle.states.specs.Orders.{orderingsFrom, storedList};
 ghost use Rattle.states.specs.Maps.{mapFrom};
-ghost use Rattle.answers.specs.Answers.{onFirst, addedIn, bit, enumeratedIn};
+ghost use Rattle.answers.specs.Answers.{onFirst, enumeratedIn};
+ghost use Rattle.group_answers.specs.Answers.{addedIn, bit};
 
 // Two expressions are equal.
 #[no_mangle]

@@ -1,8 +1,8 @@
--- `answers::put_constant` meets its contract.
+-- `group_answers::put_key` meets its contract.
 use borrow.Author.Needs.{needs}
-use Rattle.answers.specs.Answers.{constantIn}
-use Rattle.answers.proofs.put_constant.Statement.{statement}
-use Rattle.answers.proofs.put_constant.Tie as tie
+use Rattle.group_answers.specs.Answers.{keyIn}
+use Rattle.group_answers.proofs.put_key.Statement.{statement}
+use Rattle.group_answers.proofs.put_key.Tie as tie
 
 enum-known-is : tie.Need-enum-known-is
 enum-known-is c = search needs
@@ -14,13 +14,12 @@ enum-known-is-2 : tie.Need-enum-known-is-2
 enum-known-is-2 c = search needs
 
 returns : tie.Need-returns
-unfolding constantIn
+unfolding keyIn
 returns c = rw (c .before .before .before .is .given .1, c .put-2 .ensures)
 
 returns-2 : tie.Need-returns-2
-unfolding constantIn
+unfolding keyIn
 returns-2 c = rw (c .before .is2 .given .1)
 
-pub put-constant-spec : {M : Type 1} → statement M
-put-constant-spec =
-    tie.close (tie.spec enum-known-is put-2-requires enum-known-is-2 returns returns-2)
+pub put-key-spec : {M : Type 1} → statement M
+put-key-spec = tie.close (tie.spec enum-known-is put-2-requires enum-known-is-2 returns returns-2)

@@ -1,8 +1,8 @@
--- `answers::put_class_is` meets its contract.
+-- `group_answers::put_class_is` meets its contract.
 use borrow.Author.Needs.{needs}
-use Rattle.answers.specs.Answers.{classIn}
-use Rattle.answers.proofs.put_class_is.Statement.{statement}
-use Rattle.answers.proofs.put_class_is.Tie as tie
+use Rattle.group_answers.specs.Answers.{classIn}
+use Rattle.group_answers.proofs.put_class_is.Statement.{statement}
+use Rattle.group_answers.proofs.put_class_is.Tie as tie
 
 enum-known-is : tie.Need-enum-known-is
 enum-known-is c = search needs

@@ -1,8 +1,8 @@
--- `answers::put_answer` meets its contract.
+-- `group_answers::put_answer` meets its contract.
 use borrow.Author.Needs.{needs}
-use Rattle.answers.specs.Answers.{answerIn}
-use Rattle.answers.proofs.put_answer.Statement.{statement}
-use Rattle.answers.proofs.put_answer.Tie as tie
+use Rattle.group_answers.specs.Answers.{answerIn}
+use Rattle.group_answers.proofs.put_answer.Statement.{statement}
+use Rattle.group_answers.proofs.put_answer.Tie as tie
 
 enum-told : tie.Need-enum-told
 enum-told c = search needs

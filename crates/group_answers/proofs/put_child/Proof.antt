@@ -1,8 +1,8 @@
--- `answers::put_child` meets its contract.
+-- `group_answers::put_child` meets its contract.
 use borrow.Author.Needs.{needs}
-use Rattle.answers.specs.Answers.{childIn}
-use Rattle.answers.proofs.put_child.Statement.{statement}
-use Rattle.answers.proofs.put_child.Tie as tie
+use Rattle.group_answers.specs.Answers.{childIn}
+use Rattle.group_answers.proofs.put_child.Statement.{statement}
+use Rattle.group_answers.proofs.put_child.Tie as tie
 
 enum-known-child : tie.Need-enum-known-child
 enum-known-child c = search needs

@@ -1,8 +1,8 @@
--- `answers::put_projected` meets its contract.
+-- `group_answers::put_projected` meets its contract.
 use borrow.Author.Needs.{needs}
-use Rattle.answers.specs.Answers.{projectedIn}
-use Rattle.answers.proofs.put_projected.Statement.{statement}
-use Rattle.answers.proofs.put_projected.Tie as tie
+use Rattle.group_answers.specs.Answers.{projectedIn}
+use Rattle.group_answers.proofs.put_projected.Statement.{statement}
+use Rattle.group_answers.proofs.put_projected.Tie as tie
 
 enum-known-projected : tie.Need-enum-known-projected
 enum-known-projected c = search needs

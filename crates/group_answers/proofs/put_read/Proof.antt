@@ -1,8 +1,8 @@
--- `answers::put_read` meets its contract.
+-- `group_answers::put_read` meets its contract.
 use borrow.Author.Needs.{needs}
-use Rattle.answers.specs.Answers.{readIn}
-use Rattle.answers.proofs.put_read.Statement.{statement}
-use Rattle.answers.proofs.put_read.Tie as tie
+use Rattle.group_answers.specs.Answers.{readIn}
+use Rattle.group_answers.proofs.put_read.Statement.{statement}
+use Rattle.group_answers.proofs.put_read.Tie as tie
 
 enum-known-read : tie.Need-enum-known-read
 enum-known-read c = search needs

@@ -1,8 +1,8 @@
--- `answers::put_added` meets its contract.
+-- `group_answers::put_added` meets its contract.
 use borrow.Author.Needs.{needs}
-use Rattle.answers.specs.Answers.{addedIn}
-use Rattle.answers.proofs.put_added.Statement.{statement}
-use Rattle.answers.proofs.put_added.Tie as tie
+use Rattle.group_answers.specs.Answers.{addedIn}
+use Rattle.group_answers.proofs.put_added.Statement.{statement}
+use Rattle.group_answers.proofs.put_added.Tie as tie
 
 enum-known-added : tie.Need-enum-known-added
 enum-known-added c = search needs

@@ -8,7 +8,7 @@ use lib.Dec.{eqb}
 use Rattle.laws.specs.Tests.{if_then_else_}
 use Rattle.classes.specs.declared.Changed.{Changed}
 use Rattle.group_states.specs.Groups.{groupCells, storedGroup}
-use Rattle.answers.specs.Answers.{bit, changedIn}
+use Rattle.group_answers.specs.Answers.{bit, changedIn}
 
 module _ (old cells new : List ℕ) (c : Changed) (r : ℕ) where
   -- a refusal leaves the answer's place as it was

@@ -1,9 +1,9 @@
--- `answers::put_sorted` meets its contract.
+-- `group_answers::put_sorted` meets its contract.
 use borrow.Author.Needs.{needs}
 use borrow.Author.Tests.{eq-eqb, ne-eqb}
-use Rattle.answers.specs.Answers.{sortedIn}
-use Rattle.answers.proofs.put_sorted.Statement.{statement}
-use Rattle.answers.proofs.put_sorted.Tie as tie
+use Rattle.group_answers.specs.Answers.{sortedIn}
+use Rattle.group_answers.proofs.put_sorted.Statement.{statement}
+use Rattle.group_answers.proofs.put_sorted.Tie as tie
 
 returns : tie.Need-returns
 unfolding sortedIn

@@ -1,8 +1,8 @@
--- `answers::put_changed` meets its contract.
+-- `group_answers::put_changed` meets its contract.
 use borrow.Author.Needs.{needs}
-use Rattle.answers.proofs.ChangedLaws.{changed-refused, changed-done}
-use Rattle.answers.proofs.put_changed.Statement.{statement}
-use Rattle.answers.proofs.put_changed.Tie as tie
+use Rattle.group_answers.proofs.ChangedLaws.{changed-refused, changed-done}
+use Rattle.group_answers.proofs.put_changed.Statement.{statement}
+use Rattle.group_answers.proofs.put_changed.Tie as tie
 
 store-group-requires : tie.Need-store-group-requires
 store-group-requires c κs = c .before .pre

@@ -1,8 +1,8 @@
--- `answers::bit_of` meets its contract.
+-- `group_answers::bit_of` meets its contract.
 use borrow.Author.Needs.{needs}
-use Rattle.answers.specs.Answers.{bit}
-use Rattle.answers.proofs.bit_of.Statement.{statement}
-use Rattle.answers.proofs.bit_of.Tie as tie
+use Rattle.group_answers.specs.Answers.{bit}
+use Rattle.group_answers.proofs.bit_of.Statement.{statement}
+use Rattle.group_answers.proofs.bit_of.Tie as tie
 
 returns : tie.Need-returns
 unfolding bit
