@@ -63,10 +63,11 @@ use Rattle.records.specs.declared.Item.the-variants.{Column, Literal, Operation
 use Rattle.transcript.specs.Session.{sessionText, session}
 use Rattle.transcript.specs.declared.Written.{Written}
 use Rattle.transcript.specs.declared.Written.the-variants.{Bytes, Refused as Written-Refused}
-use Rattle.states.specs.Groups.{storedGroup}
+use Rattle.group_states.specs.Groups.{storedGroup}
 use Rattle.states.specs.Orders.{storedList}
 use Rattle.states.specs.Maps.{storedMap}
-use Rattle.answers.specs.Answers.{onFirst, addedIn, readIn, childIn, classIn, changedIn, answerIn, constantIn, keyIn, sortedIn, projectedIn, optionsIn, partialIn, outputIn, enumeratedIn, itemIn, chosenIn, writtenIn}
+use Rattle.answers.specs.Answers.{onFirst, optionsIn, partialIn, outputIn, enumeratedIn, itemIn, chosenIn, writtenIn}
+use Rattle.group_answers.specs.Answers.{addedIn, readIn, childIn, classIn, changedIn, answerIn, constantIn, keyIn, sortedIn, projectedIn}
 
 -- a number other than 0 stands beside what was there before
 abbrev pub Stays : List ℕ → ℕ × List ℕ → Type 0

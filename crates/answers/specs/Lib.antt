@@ -1,2 +1,2 @@
--- What each answer of a call comes to in numbers.
+-- What each answer of a call on orderings, dependency maps, records or sessions comes to in numbers.
 pub mod Answers

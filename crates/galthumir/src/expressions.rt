@@ -1,13 +1,14 @@
 // The calls on expressions, exported.
-use answers::put_added;
-use answers::put_child;
-use answers::put_read;
+use group_answers::put_added;
+use group_answers::put_child;
+use group_answers::put_read;
 ghost use mathlib.Core.Path.{_≡_};
 ghost use Rattle.arena.specs.Calls.{checked, lent, onLent, addColumn, addLiteral, addOperation, readNode, readChild};
 ghost use Rattle.shifting.specs.Calls.{addOffset};
 ghost use Rattle.arena.specs.declared.Read.{Read};
 ghost use Rattle.arena.specs.declared.Child.{Child};
-ghost use Rattle.answers.specs.Answers.{onFirst, addedIn, readIn, childIn};
+ghost use Rattle.answers.specs.Answers.{onFirst};
+ghost use Rattle.group_answers.specs.Answers.{addedIn, readIn, childIn};
 
 // The check of an arena. Refusal: 11.
 #[no_mangle]

@@ -1,15 +1,15 @@
 // The calls on groups, exported.
-use answers::put_added;
-use answers::put_answer;
-use answers::put_changed;
-use answers::put_class_is;
-use answers::put_constant;
-use answers::put_key;
-use answers::put_projected;
-use answers::put_sorted;
 use arena::cells::wide;
-use states::groups::load_group;
-use states::groups::store_group;
+use group_answers::put_added;
+use group_answers::put_answer;
+use group_answers::put_changed;
+use group_answers::put_class_is;
+use group_answers::put_constant;
+use group_answers::put_key;
+use group_answers::put_projected;
+use group_answers::put_sorted;
+use group_states::groups::load_group;
+use group_states::groups::store_group;
 ghost use mathlib.Core.Path.{_≡_};
 ghost use Rattle.classes.specs.Calls.{groupNumber, onGroup, askGroup};
 ghost use Rattle.group_checks.specs.Calls.{opened, classAnswer};
@@ -25,8 +25,9 @@ ghost use Rattle.merging.specs.Calls.{newAnswer};
 ghost use Rattle.joins.specs.Calls.{joinAnswer};
 ghost use Rattle.group_projection.specs.Calls.{projectAnswer};
 ghost use Rattle.projection.specs.Calls.{projectedExpr, projectedExpressions};
-ghost use Rattle.states.specs.Groups.{groupFrom, storedGroup};
-ghost use Rattle.answers.specs.Answers.{onFirst, addedIn, classIn, changedIn, answerIn, constantIn, keyIn, sortedIn, projectedIn};
+ghost use Rattle.group_states.specs.Groups.{groupFrom, storedGroup};
+ghost use Rattle.answers.specs.Answers.{onFirst};
+ghost use Rattle.group_answers.specs.Answers.{addedIn, classIn, changedIn, answerIn, constantIn, keyIn, sortedIn, projectedIn};
 
 // Makes an empty group with a member limit of 1 to 256. Refusal: 12.
 #[no_mangle]

@@ -3,13 +3,13 @@ use answers::put_record;
 use answers::put_sizes;
 use answers::put_written;
 use arena::cells::wide;
-use states::groups::store_group;
+use group_states::groups::store_group;
 use states::numbers::short;
 ghost use mathlib.Core.Path.{_≡_};
 ghost use Rattle.records.specs.Record.{readRecord, itemOf};
 ghost use Rattle.group_records.specs.GroupRecord.{groupRead};
 ghost use Rattle.transcript.specs.Session.{session};
-ghost use Rattle.states.specs.Groups.{storedGroup};
+ghost use Rattle.group_states.specs.Groups.{storedGroup};
 ghost use Rattle.answers.specs.Answers.{onFirst, itemIn, writtenIn, side, chosenIn};
 
 // Reads the record at the start of some bytes. Refusal: 9.

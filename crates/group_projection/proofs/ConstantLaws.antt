@@ -25,7 +25,7 @@ use Rattle.questions.specs.Questions.{exprConstant}
 use Rattle.merging.specs.Calls.{madeGroup}
 use Rattle.merging.specs.Inner.{AllBelow}
 use Rattle.mappings.specs.Mapping.{Mapped}
-use Rattle.projection.proofs.TableLaws.{none-some}
+use Rattle.projection_table.proofs.TableLaws.{none-some}
 use Rattle.group_projection.specs.Group.{newConstants, constantsSaid}
 use Rattle.group_projection.specs.Inner.{madeOrNone, Made}
 use Rattle.group_projection.proofs.MadeGroups.{Within, within-made, made-within, made-done, made-refused}

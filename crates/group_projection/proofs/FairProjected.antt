@@ -26,7 +26,7 @@ use Rattle.conditions.proofs.ConstantLaws.{fits-both}
 use Rattle.merging.specs.Extending.{classFrom, isTrivial}
 use Rattle.merging.specs.Merging.{fromClasses}
 use Rattle.merging.specs.Inner.{Fair, AllBelow}
-use Rattle.merging.proofs.ListCounts.{fits-few, fits-small}
+use Rattle.lent_classes.proofs.ListCounts.{fits-few, fits-small}
 use Rattle.merging.proofs.Smaller.{from-few, from-small}
 use Rattle.merging.proofs.Reaching.{Sane, sane-fair, from-good, sane-from, all-append}
 use Rattle.mappings.specs.Mapping.{Mapped, mappedAt}
@@ -34,7 +34,7 @@ use Rattle.mappings.specs.Layout.{placeIn, decode as mapping, Checked}
 use Rattle.mappings.specs.declared.Mapping.{Mapping}
 use Rattle.mappings.proofs.Targets.{targets-below, decode-length, decode-at}
 use Rattle.projection.specs.Inner.{answerOf, answersIn}
-use Rattle.projection.proofs.TableLaws.{none-some}
+use Rattle.projection_table.proofs.TableLaws.{none-some}
 use Rattle.group_projection.specs.Group.{there, projectedClasses, targetsOf, sourceClasses, telling, projectedList, newConstants, constantsSaid, projectedGroup}
 use Rattle.group_projection.specs.Inner.{listed, madeOrNone, Made, Entries}
 use Rattle.group_projection.proofs.ListedLaws.{Lists, lists-coded, lists-classes, lists-list, answer-lists, answer-over}

@@ -19,7 +19,7 @@ use Rattle.classes.proofs.Codec.{built-count, built-limit, built-classes, built
 use Rattle.conditions.proofs.ConstantLaws.{fits-both, more-many, more-full, more-room}
 use Rattle.merging.specs.Extending.{isTrivial}
 use Rattle.merging.specs.Calls.{madeGroup}
-use Rattle.merging.proofs.ListCounts.{total-append, fits-few, fits-small}
+use Rattle.lent_classes.proofs.ListCounts.{total-append, fits-few, fits-small}
 use Rattle.group_projection.specs.Group.{telling}
 use Rattle.group_projection.specs.Inner.{listed, One, List256}
 

@@ -14,7 +14,7 @@ use Rattle.classes.specs.declared.Group.{Group}
 use Rattle.classes.specs.declared.Changed.{Changed}
 use Rattle.classes.proofs.Codec.{built-used, built-limit, built-classes}
 use Rattle.merging.specs.Calls.{madeGroup}
-use Rattle.merging.proofs.ListCounts.{fits-small}
+use Rattle.lent_classes.proofs.ListCounts.{fits-small}
 use Rattle.group_projection.specs.Inner.{madeOrNone, Made}
 use Rattle.group_projection.proofs.ListedLaws.{lists-coded, list-lists}
 

@@ -40,9 +40,10 @@ use Rattle.mappings.specs.Layout.{decode as mapping, Checked}
 use Rattle.mappings.specs.Calls.{projectNumber}
 use Rattle.mappings.specs.declared.Mapping.{Mapping}
 use Rattle.mappings.proofs.Targets.{decode-sources, decode-source}
-use Rattle.projection.specs.Projecting.{projections, projectAll}
-use Rattle.projection.specs.Inner.{Says, Tabled, answersIn, toldAnswers, AddedAll, ReadyAll, WalkedAll}
-use Rattle.projection.proofs.Sources.{checked-wider}
+use Rattle.projection_table.specs.Projecting.{projections, projectAll}
+use Rattle.projection_table.specs.Inner.{Says, Tabled}
+use Rattle.projection.specs.Inner.{answersIn, toldAnswers, AddedAll, ReadyAll, WalkedAll}
+use Rattle.projection_table.proofs.Sources.{checked-wider}
 use Rattle.projection.proofs.Written.{list-ready}
 use Rattle.group_projection.specs.Group.{projectedNumbers, projectedGroup}
 use Rattle.group_projection.specs.Calls.{projectPlaced, projectBy, projectAnswer}

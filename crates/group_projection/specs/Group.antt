@@ -19,7 +19,7 @@ use Rattle.normal.specs.Normal.{normals}
 use Rattle.merging.specs.Extending.{classFrom, isTrivial}
 use Rattle.merging.specs.Merging.{fromClasses}
 use Rattle.mappings.specs.Mapping.{Mapped, sources}
-use Rattle.projection.specs.Projecting.{projectAll}
+use Rattle.projection_table.specs.Projecting.{projectAll}
 
 -- the missing nodes of the members' projections are added in class order, then those of the sources' normal forms in mapping order: the numbers of both
 unfoldable pub projectedNumbers : List Node → List Class → List Mapped → Placed (List (Option ℕ) × List ℕ)

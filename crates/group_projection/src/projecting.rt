@@ -11,7 +11,7 @@ use mappings::Mapping;
 use merging::bridging::from_classes;
 use normal::table::class_firsts;
 use projection::listing::project_all;
-use projection::table::projection_table;
+use projection_table::table::projection_table;
 ghost use mathlib.Core.Path.{_≡_};
 ghost use Prim.Native.Nat.{ℕ, _≤_, _<_};
 ghost use lib.ListN.{getD, take};

@@ -51,7 +51,7 @@ use Rattle.merging.specs.Calls.{madeGroup, refusedGroup, madeOrRefused}
 use Rattle.merging.specs.Inner.{AllBelow}
 use Rattle.merging.proofs.Smaller.{from-few, from-small}
 use Rattle.merging.proofs.Reaching.{from-good}
-use Rattle.merging.proofs.ListCounts.{total-append}
+use Rattle.lent_classes.proofs.ListCounts.{total-append}
 use Rattle.shifted_classes.specs.Lent.{paired, sidesBelow, pairsLent}
 use Rattle.joins.specs.Kinds.{joinKind}
 use Rattle.shifted_classes.specs.Shifting.{allMove, shiftedNumbers, shiftedClasses}

@@ -5,7 +5,7 @@ use arena::cells::node_count;
 use arena::cells::wide;
 use classes::Group;
 use group_checks::checking::check_group;
-use merging::lent::number_at;
+use lent_classes::lent::number_at;
 ghost use mathlib.Core.Bool.{true, not, _&&_};
 ghost use mathlib.Core.Path.{_≡_};
 ghost use Prim.Native.Nat.{ℕ, _≤_, _<_, _+_};

@@ -4,10 +4,6 @@ pub mod Meetings
 pub mod Dropping
 pub mod Bridges
 pub mod Smaller
-pub mod LentParts
-pub mod ListCounts
-pub mod LentBuild
-pub mod NumberLaws
 pub mod MadeLaws
 pub mod NewLaws
 pub mod Overlaps

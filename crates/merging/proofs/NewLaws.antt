@@ -16,11 +16,12 @@ use Rattle.classes.specs.declared.Group.{Group}
 use Rattle.classes.specs.declared.Changed.{Changed}
 use Rattle.classes.proofs.Codec.{built-classes, built-coded}
 use Rattle.merging.specs.Merging.{fromClasses}
-use Rattle.merging.specs.Lent.{classesLent}
-use Rattle.merging.specs.Calls.{madeGroup, newNumber, newAnswer}
+use Rattle.lent_classes.specs.Lent.{classesLent}
+use Rattle.merging.specs.Calls.{madeGroup, newAnswer}
+use Rattle.lent_classes.specs.Check.{newNumber}
 use Rattle.merging.proofs.Smaller.{from-few, from-small}
-use Rattle.merging.proofs.ListCounts.{fits-few, fits-small}
-use Rattle.merging.proofs.NumberLaws.{new-passes}
+use Rattle.lent_classes.proofs.ListCounts.{fits-few, fits-small}
+use Rattle.lent_classes.proofs.NumberLaws.{new-passes}
 
 module _ (cells numbers : List ℕ) (n : ℕ) (e : n ≡ newNumber cells numbers) where
   -- a list that is refused

@@ -1,5 +1,5 @@
 -- What the inner functions ask and promise each other. The public contract cites nothing of this file.
-use Prim.Native.Nat.{ℕ, _+_, _-_, _<_, _≤_}
+use Prim.Native.Nat.{ℕ, _-_, _<_}
 use mathlib.Core.Bool.{true}
 use mathlib.Core.List.{List}
 use mathlib.Core.Path.{_≡_}
@@ -13,7 +13,6 @@ use Rattle.classes.specs.Inner.{Coded}
 use Rattle.classes.specs.declared.Group.{Group}
 use Rattle.merging.specs.Extending.{without}
 use Rattle.merging.specs.Merging.{bridgeRest}
-use Rattle.merging.specs.Lent.{sizeLent}
 
 -- what the first k members of class d bring to class c, and its constant
 unfoldable pub missingSome : ℕ → Class → Class → Class
@@ -31,11 +30,6 @@ pub record Fair (ns : List Node) (cs : List Class) : Type 0 where
   pub apart : (i : ℕ) → i < length cs → Distinct (classAt cs i .members)
   pub uniform : (i e v : ℕ) → i < length cs → among e (classAt cs i .members) ≡ true → nodeAt ns e ≡ literal v → isUniform (classAt cs i .constant) ≡ true
   pub inside : (e : ℕ) → among e (flat cs) ≡ true → e < length ns
-
--- the class at a place of a lent list is whole
-pub record At (numbers : List ℕ) (at : ℕ) : Type 0 where
-  pub begins : at < length numbers
-  pub ends : at + 3 + sizeLent numbers at ≤ length numbers
 
 -- every number of a list is below n
 abbrev pub AllBelow : ℕ → List ℕ → Type 0

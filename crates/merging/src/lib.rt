@@ -5,15 +5,14 @@
 // which hold an arena and groups that are checked already.
 pub mod bridging;
 pub mod extending;
-pub mod lent;
 
 use bridging::from_classes;
 use bridging::made;
 use classes::Changed;
 use classes::Group;
 use classes::refusing::no_group;
-use lent::lent_classes;
-use lent::new_number;
+use lent_classes::lent::lent_classes;
+use lent_classes::lent::new_number;
 ghost use mathlib.Core.Path.{_≡_};
 ghost use Rattle.merging.specs.Calls.{newAnswer};
 

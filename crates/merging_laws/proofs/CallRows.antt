@@ -20,8 +20,9 @@ use Rattle.classes.specs.declared.Group.{Group}
 use Rattle.classes.proofs.Codec.{decode-encode}
 use Rattle.group_checks.proofs.HeldLaws.{number-fit}
 use Rattle.merging.specs.Merging.{fromClasses}
-use Rattle.merging.specs.Lent.{classesLent}
-use Rattle.merging.specs.Calls.{newNumber, madeGroup, newAnswer}
+use Rattle.lent_classes.specs.Lent.{classesLent}
+use Rattle.lent_classes.specs.Check.{newNumber}
+use Rattle.merging.specs.Calls.{madeGroup, newAnswer}
 use Rattle.shifted_classes.specs.Lent.{pairsLent}
 use Rattle.joins.specs.Calls.{joinNumber, joinBy, joinAnswer}
 use Rattle.merging_laws.proofs.BridgingTheorems.{new-agrees}

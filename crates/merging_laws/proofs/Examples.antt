@@ -17,7 +17,7 @@ use Rattle.classes.specs.Steps.{fits}
 use Rattle.classes.specs.Layout.{constantFrom, flavourOf, valueOf, padded, sumTo, classIn, encode, decode}
 use Rattle.merging.specs.Extending.{without, missing, extended, pushed, pushedAll, classFrom, anyAmong, containsAny, isTrivial}
 use Rattle.merging.specs.Merging.{droppedAt, dropBelow, keptClasses, meetingBelow, lastMeeting, bridged, bridgeFrom, bridgeRest, bridgeClasses, fromClasses}
-use Rattle.merging.specs.Lent.{nextClass, classLent, classesLent}
+use Rattle.lent_classes.specs.Lent.{nextClass, classLent, classesLent}
 use Rattle.merging.specs.Calls.{madeGroup, refusedGroup, madeOrRefused}
 use Rattle.joins.specs.Kinds.{joinKind}
 use Rattle.shifted_classes.specs.Shifting.{allMove, shiftedNumbers, shiftedClasses}

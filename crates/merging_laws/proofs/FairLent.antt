@@ -23,8 +23,8 @@ use Rattle.classes.specs.Steps.{fits}
 use Rattle.classes.proofs.Places.{among-place, distinct-count, All}
 use Rattle.classes.proofs.Marks.{flavour-uniform}
 use Rattle.group_checks.proofs.HeldLaws.{then-of}
-use Rattle.merging.specs.Lent.{flavourLent, valueLent, sizeLent, memberLent, nextClass, next-after, eachFrom, knownAt, flavoursKnown, whole, freshLent, apartAt, membersApart, uniformLent, literalsUniform, belowAt, membersBelow, classLent, classesFrom, classesLent}
-use Rattle.merging.specs.Calls.{newNumber}
+use Rattle.lent_classes.specs.Lent.{flavourLent, valueLent, sizeLent, memberLent, nextClass, next-after, eachFrom, knownAt, flavoursKnown, whole, freshLent, apartAt, membersApart, uniformLent, literalsUniform, belowAt, membersBelow, classLent, classesFrom, classesLent}
+use Rattle.lent_classes.specs.Check.{newNumber}
 use Rattle.merging.specs.Inner.{Fair}
 use Rattle.merging.proofs.Reaching.{Sane, sane-fair}
 

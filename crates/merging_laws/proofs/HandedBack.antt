@@ -31,9 +31,10 @@ use Rattle.classes.specs.declared.Group.{Group}
 use Rattle.classes.specs.declared.Changed.{Changed}
 use Rattle.group_checks.proofs.HeldLaws.{Fit, number-fit, held-number}
 use Rattle.merging.specs.Merging.{fromClasses}
-use Rattle.merging.specs.Lent.{classesLent}
-use Rattle.merging.specs.Calls.{newNumber, madeGroup, newAnswer, refusedGroup, madeOrRefused}
-use Rattle.merging.proofs.ListCounts.{fits-few, fits-small}
+use Rattle.lent_classes.specs.Lent.{classesLent}
+use Rattle.lent_classes.specs.Check.{newNumber}
+use Rattle.merging.specs.Calls.{madeGroup, newAnswer, refusedGroup, madeOrRefused}
+use Rattle.lent_classes.proofs.ListCounts.{fits-few, fits-small}
 use Rattle.merging.proofs.Reaching.{from-good}
 use Rattle.shifted_classes.specs.Lent.{paired, sidesBelow, pairsLent}
 use Rattle.joins.specs.Kinds.{joinKind}

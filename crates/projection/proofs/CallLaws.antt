@@ -23,7 +23,7 @@ use Rattle.mappings.specs.Layout.{decode, Checked}
 use Rattle.mappings.specs.Calls.{projectNumber}
 use Rattle.mappings.specs.declared.Mapping.{Mapping}
 use Rattle.mappings.proofs.MappingChecked.{mapping-checked, group-passes}
-use Rattle.projection.specs.Projecting.{projection, projectAll}
+use Rattle.projection_table.specs.Projecting.{projection, projectAll}
 use Rattle.projection.specs.Calls.{projectedAnswer, projectExpr, projectedExpr, writtenAnswer, projectExpressions, projectedExpressions}
 use Rattle.projection.specs.declared.Projected.{Projected}
 use Rattle.projection.specs.declared.Projected.the-variants.{Refused}

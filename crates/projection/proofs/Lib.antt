@@ -1,7 +1,4 @@
 -- Laws of the definitions in specs/.
-pub mod Sources
-pub mod Becoming
-pub mod TableLaws
 pub mod RowLaws
 pub mod WalkLaws
 pub mod ListLaws

@@ -19,8 +19,9 @@ use Rattle.arena.specs.declared.Added.{Added}
 use Rattle.arena.specs.declared.Added.the-variants.{Number, Refused}
 use Rattle.arena.proofs.Nodes.{extends-none, extends-both, extends-longer}
 use Rattle.arena.proofs.Layouts.{length-decode}
-use Rattle.projection.specs.Projecting.{addProjections}
-use Rattle.projection.specs.Inner.{answerOf, Says, Fits, Ready, Settling, Walked, answersIn, toldAnswers, ReadyOne, WalkedOne, ReadyAll, WalkedAll}
+use Rattle.projection_table.specs.Projecting.{addProjections}
+use Rattle.projection.specs.Inner.{answerOf, Fits, Ready, Settling, Walked, answersIn, toldAnswers, ReadyOne, WalkedOne, ReadyAll, WalkedAll}
+use Rattle.projection_table.specs.Inner.{Says}
 
 -- the projections of expressions, by those of all
 abbrev pub projectedBy : List (Option Expression) → List ℕ → List (Option Expression)

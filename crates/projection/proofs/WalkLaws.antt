@@ -24,12 +24,13 @@ use Rattle.arena.proofs.Growing.{AddedExpression, add-expression, add-expressio
 use Rattle.arena.proofs.Layouts.{length-decode, coded-cells}
 use Rattle.arena.proofs.Walking.{PlacedRow, children-row}
 use Rattle.normal.proofs.Rewriting.{sound-before}
-use Rattle.projection.specs.Projecting.{bothProject, allProject}
+use Rattle.projection_table.specs.Projecting.{bothProject, allProject}
 use Rattle.projection.specs.Calls.{placedAnswer, projectedAnswer}
-use Rattle.projection.specs.Inner.{Says, Tabled, Fits, Ready, Settling, Walked, ReadyFrom, toldFrom, WalkedFrom, settledAs, restoredAs}
+use Rattle.projection_table.specs.Inner.{Says, Tabled}
+use Rattle.projection.specs.Inner.{Fits, Ready, Settling, Walked, ReadyFrom, toldFrom, WalkedFrom, settledAs, restoredAs}
 use Rattle.projection.specs.declared.Projected.{Projected}
 use Rattle.projection.specs.declared.Projected.the-variants.{Nothing}
-use Rattle.projection.proofs.TableLaws.{Projects, none-some, all-known, all-child, all-pairwise, pairwise-small, over-children, says-some}
+use Rattle.projection_table.proofs.TableLaws.{Projects, none-some, all-known, all-child, all-pairwise, pairwise-small, over-children, says-some}
 use Rattle.projection.proofs.RowLaws.{operation-row, row-label, row-child, children-set, label-set, row-set}
 
 -- ---- what the table says

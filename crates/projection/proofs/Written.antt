@@ -16,9 +16,10 @@ use Rattle.arena.proofs.Nodes.{extends-none}
 use Rattle.arena.proofs.Layouts.{length-decode, coded-cells}
 use Rattle.classes.specs.Class.{Class}
 use Rattle.mappings.specs.Mapping.{Mapped}
-use Rattle.projection.specs.Projecting.{projections, projectAll}
+use Rattle.projection_table.specs.Projecting.{projections, projectAll}
 use Rattle.projection.specs.Calls.{outputOf, writtenAnswer}
-use Rattle.projection.specs.Inner.{answerOf, answersIn, toldAnswers, Tabled, Fits, ReadyAll, WalkedAll}
+use Rattle.projection.specs.Inner.{answerOf, answersIn, toldAnswers, Fits, ReadyAll, WalkedAll}
+use Rattle.projection_table.specs.Inner.{Tabled}
 use Rattle.projection.proofs.ListLaws.{answers-more}
 
 -- ---- an entry in the output

@@ -15,7 +15,7 @@ use Rattle.normal.specs.Calls.{onChecked}
 use Rattle.mappings.specs.Mapping.{Mapped}
 use Rattle.mappings.specs.Lent.{mappingLent}
 use Rattle.mappings.specs.Calls.{projectNumber}
-use Rattle.projection.specs.Projecting.{projection, projectAll}
+use Rattle.projection_table.specs.Projecting.{projection, projectAll}
 use Rattle.projection.specs.declared.Projected.{Projected}
 use Rattle.projection.specs.declared.Projected.the-variants.{Number, Nothing, Refused}
 

@@ -1,13 +1,13 @@
 -- What the inner functions ask and promise each other. The public contracts cite nothing of this file.
--- One table is carried along. For a node that was there before the walk it says 0: it has no projection; 1: its projection is an operation over those of its children, not made yet; i + 2: its projection is expression i.
+-- The table of the projections is carried along: the crate projection_table says what its entries mean.
 use Prim.Native.Nat.{ℕ, zero, suc, _+_, _-_, _<_, _≤_}
 use mathlib.Core.Bool.{Bool, true, false}
 use mathlib.Core.List.{List, [], _∷_, map}
 use mathlib.Core.Option.{Option, none, some}
 use mathlib.Core.Path.{_≡_}
 use lib.ListN.{length, getD, set, take, drop}
-use Rattle.arena.specs.Node.{Node, nodeAt, operation}
-use Rattle.arena.specs.Expression.{Expression, Expressions, expressionAt}
+use Rattle.arena.specs.Node.{Node}
+use Rattle.arena.specs.Expression.{Expression, Expressions}
 use Rattle.arena.specs.Arena.{Extends, Placed, placed, full, addExpression, addExpressions}
 use Rattle.arena.specs.Layout.{childrenOf, decode as nodes}
 use Rattle.arena.specs.Inner.{Holds, told, operationRow}
@@ -15,28 +15,14 @@ use Rattle.arena.specs.declared.Added.{Added}
 use Rattle.arena.specs.declared.Added.the-variants.{Number, Refused}
 use Rattle.projection.specs.declared.Projected.{Projected}
 use Rattle.projection.specs.declared.Projected.the-variants.{Number as Projected-Number, Refused as Projected-Refused}
-use Rattle.projection.specs.Projecting.{byChildren, allProject, addProjections}
-
--- what becomes of a whole expression, as an entry of the table; 0 where nothing does
-unfoldable pub entryOf : Option ℕ → ℕ
-entryOf none = 0
-entryOf (some i) = i + 2
+use Rattle.projection_table.specs.Inner.{Tabled}
+use Rattle.projection_table.specs.Projecting.{allProject, addProjections}
 
 -- an entry as a projection that was placed
 unfoldable pub answerOf : ℕ → Option ℕ
 answerOf zero = none
 answerOf (suc zero) = none
 answerOf (suc (suc i)) = some i
-
--- what an entry says of node e is true: os are the nodes that were there before the walk and xs their projections, ns the nodes as they have grown
-unfoldable pub Says : List Node → List (Option Expression) → List Node → ℕ → ℕ → Type 0
-Says os xs ns e zero = getD xs e none ≡ none
-Says os xs ns e (suc zero) = (x : Expression) × ((getD xs e none ≡ some x) × (byChildren xs (nodeAt os e) ≡ some x))
-Says os xs ns e (suc (suc i)) = (i < length ns) × (getD xs e none ≡ some (expressionAt ns i))
-
--- what the table says of each old node is true
-abbrev pub Tabled : List Node → List (Option Expression) → List Node → List ℕ → Type 0
-Tabled os xs ns table = (e : ℕ) → e < length os → Says os xs ns e (getD table e 0)
 
 -- old nodes and their projections to which a table fits
 pub record Fits (os : List Node) (xs : List (Option Expression)) (ns : List Node) (table : List ℕ) : Type 0 where

@@ -8,7 +8,6 @@
 // leaves every cell and the output as they were. Those of the modules serve the crates above, which hold states that
 // are checked already.
 pub mod listing;
-pub mod table;
 pub mod walking;
 
 use arena::adding::all_below;

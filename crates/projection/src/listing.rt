@@ -1,10 +1,10 @@
 // The projections of a list of expressions, one after the other, over one table.
-use crate::table::projection_table;
 use crate::walking::project_node;
 use arena::cells::wide;
 use arena::memo::refused;
 use classes::Group;
 use mappings::Mapping;
+use projection_table::table::projection_table;
 ghost use mathlib.Core.List.{map, _++_};
 ghost use mathlib.Core.Path.{_≡_};
 ghost use Prim.Native.Nat.{ℕ, _≤_, _<_};
@@ -15,7 +15,7 @@ ghost use Rattle.arena.specs.Inner.{Holds};
 ghost use Rattle.classes.specs.Layout.{decode as classes};
 ghost use Rattle.classes.specs.Inner.{Coded};
 ghost use Rattle.mappings.specs.Layout.{decode, Checked};
-ghost use Rattle.projection.specs.Projecting.{projectAll};
+ghost use Rattle.projection_table.specs.Projecting.{projectAll};
 ghost use Rattle.projection.specs.Calls.{outputOf, writtenAnswer};
 ghost use Rattle.projection.specs.Inner.{answerOf, answersIn, ReadyOne, WalkedOne, ReadyAll, WalkedAll};
 

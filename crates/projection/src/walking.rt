@@ -2,13 +2,13 @@
 // its remaining children, which call each other. The pair of the node and of the children left falls. The table is
 // carried along, so each node is answered once.
 use crate::Projected;
-use crate::table::projection_table;
 use arena::Added;
 use arena::adding::place;
 use arena::cells::row_of;
 use arena::cells::wide;
 use classes::Group;
 use mappings::Mapping;
+use projection_table::table::projection_table;
 ghost use mathlib.Core.Path.{_≡_};
 ghost use Prim.Native.Nat.{ℕ, _≤_, _<_, _+_, _-_, _*_};
 ghost use Rattle.arena.specs.Layout.{count, decode as nodes};
@@ -18,7 +18,7 @@ ghost use Rattle.arena.specs.declared.Added.the-variants.{Number};
 ghost use Rattle.classes.specs.Layout.{decode as classes};
 ghost use Rattle.classes.specs.Inner.{Coded};
 ghost use Rattle.mappings.specs.Layout.{decode, Checked};
-ghost use Rattle.projection.specs.Projecting.{projection};
+ghost use Rattle.projection_table.specs.Projecting.{projection};
 ghost use Rattle.projection.specs.Calls.{projectedAnswer};
 ghost use Rattle.projection.specs.Inner.{Ready, Walked, ReadyFrom, WalkedFrom, settledAs, restoredAs};
 

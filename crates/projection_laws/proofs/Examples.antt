@@ -11,7 +11,7 @@ use Rattle.classes.specs.Class.{Class, noConstant}
 use Rattle.classes.specs.Group.{among, classOf, sameClass}
 use Rattle.classes.specs.Layout.{isLiteral}
 use Rattle.mappings.specs.Mapping.{Mapped, targetFor}
-use Rattle.projection.specs.Projecting.{orElse, becomes, bothProject, allProject, operationOf, byChildren, wholeOr, projectionsBy, projection, addProjections, projectAll}
+use Rattle.projection_table.specs.Projecting.{orElse, becomes, bothProject, allProject, operationOf, byChildren, wholeOr, projectionsBy, projection, addProjections, projectAll}
 use Rattle.projection.specs.Calls.{placedAnswer, projectedAnswer, projectExpr}
 use Rattle.projection.specs.declared.Projected.the-variants.{Number, Nothing}
 

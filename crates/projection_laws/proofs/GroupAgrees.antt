@@ -27,7 +27,7 @@ use Rattle.mappings.specs.Mapping.{Mapped, mappedAt}
 use Rattle.mappings.specs.Agree.{TargetsAgree, Over}
 use Rattle.group_projection.specs.Group.{projectedNumbers, there, projectedClasses, targetsOf, sourceClasses, projectedList, beforeConstants}
 use Rattle.group_projection.proofs.FairProjected.{there-place, TargetOf, targets-place, all-sources, all-telling}
-use Rattle.projection.specs.Projecting.{projection}
+use Rattle.projection_table.specs.Projecting.{projection}
 use Rattle.projection_laws.proofs.LentOver.{target-inside}
 use Rattle.projection_laws.proofs.ProjectedValue.{projection-value}
 use Rattle.projection_laws.proofs.ProjectedList.{answers-some, answers-kept}

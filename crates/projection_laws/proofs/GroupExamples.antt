@@ -19,7 +19,7 @@ use Rattle.normal.specs.Normal.{operationOver, bothFound, numberOf, numbersOf, 
 use Rattle.merging.specs.Extending.{without, missing, extended, pushed, pushedAll, classFrom, anyAmong, containsAny, isTrivial}
 use Rattle.merging.specs.Merging.{droppedAt, dropBelow, keptClasses, meetingBelow, lastMeeting, bridged, bridgeFrom, bridgeRest, bridgeClasses, fromClasses}
 use Rattle.mappings.specs.Mapping.{Mapped, sources, targetFor}
-use Rattle.projection.specs.Projecting.{orElse, becomes, bothProject, allProject, operationOf, byChildren, wholeOr, projectionsBy, addProjections, projectAll}
+use Rattle.projection_table.specs.Projecting.{orElse, becomes, bothProject, allProject, operationOf, byChildren, wholeOr, projectionsBy, addProjections, projectAll}
 use Rattle.group_projection.specs.Group.{projectedNumbers, there, projectedClasses, targetsOf, sourceClasses, telling, projectedList, newConstants, constantsSaid, projectedGroup}
 
 -- columns a, b, c, d (0 to 3), a + c (4), b + c (5), literal 7 (6), an operation over d (7), columns x, y and z of the output (8 to 10)

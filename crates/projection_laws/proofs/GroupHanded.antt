@@ -24,14 +24,14 @@ use Rattle.classes.specs.declared.Changed.{Changed}
 use Rattle.group_checks.proofs.HeldLaws.{number-fit, held-number}
 use Rattle.normal.specs.Calls.{onChecked}
 use Rattle.merging.specs.Calls.{madeGroup, refusedGroup, madeOrRefused}
-use Rattle.merging.proofs.ListCounts.{fits-few, fits-small}
+use Rattle.lent_classes.proofs.ListCounts.{fits-few, fits-small}
 use Rattle.mappings.specs.Mapping.{Mapped}
 use Rattle.mappings.specs.Lent.{mappingLent}
 use Rattle.mappings.specs.Calls.{projectNumber}
 use Rattle.mappings.specs.Agree.{Over}
 use Rattle.mappings.proofs.MappingChecked.{group-passes}
-use Rattle.projection.specs.Projecting.{projection}
-use Rattle.projection.proofs.TableLaws.{none-some}
+use Rattle.projection_table.specs.Projecting.{projection}
+use Rattle.projection_table.proofs.TableLaws.{none-some}
 use Rattle.projection.proofs.CallLaws.{lent-holds}
 use Rattle.group_projection.specs.Group.{projectedNumbers, newConstants, constantsSaid, beforeConstants, projectedList, projectedGroup}
 use Rattle.group_projection.specs.Calls.{projectPlaced, projectBy, projectAnswer}

@@ -19,7 +19,7 @@ use Rattle.merging.proofs.Reaching.{flat-below}
 use Rattle.mappings.specs.Mapping.{Mapped, sources, mappedAt}
 use Rattle.mappings.specs.Agree.{Over}
 use Rattle.mappings.proofs.Targets.{length-sources, source-at}
-use Rattle.projection.specs.Projecting.{projectAll}
+use Rattle.projection_table.specs.Projecting.{projectAll}
 use Rattle.group_projection.specs.Group.{projectedNumbers}
 use Rattle.projection_laws.proofs.LentOver.{source-inside}
 use Rattle.projection_laws.proofs.ProjectedList.{ProjectedAt, project-all-is}

@@ -18,7 +18,7 @@ use Rattle.classes.specs.declared.Group.{Group}
 use Rattle.mappings.specs.Lent.{mappingLent}
 use Rattle.mappings.specs.Calls.{projectNumber}
 use Rattle.mappings.specs.Agree.{TargetsAgree}
-use Rattle.projection.specs.Projecting.{projection}
+use Rattle.projection_table.specs.Projecting.{projection}
 use Rattle.projection.specs.Calls.{outputOf, projectExpressions, projectedExpressions}
 use Rattle.projection.proofs.CallLaws.{lent-holds}
 use Rattle.projection_laws.proofs.ProjectedValue.{projection-value}

@@ -30,7 +30,7 @@ use Rattle.mappings.specs.Mapping.{Mapped}
 use Rattle.mappings.specs.Lent.{mappingLent}
 use Rattle.mappings.specs.Calls.{projectNumber}
 use Rattle.mappings.specs.Agree.{TargetsAgree, Over}
-use Rattle.projection.specs.Projecting.{projection, projectAll}
+use Rattle.projection_table.specs.Projecting.{projection, projectAll}
 use Rattle.projection.specs.Calls.{placedAnswer, projectedAnswer, projectExpr, projectedExpr, outputOf, writtenAnswer, projectExpressions, projectedExpressions}
 use Rattle.projection.specs.declared.Projected.{Projected}
 use Rattle.projection.specs.declared.Projected.the-variants.{Number, Nothing, Refused}

@@ -14,7 +14,7 @@ use Rattle.arena.proofs.Growing.{AddedExpression, between, add-expression}
 use Rattle.classes.specs.Class.{Class}
 use Rattle.mappings.specs.Mapping.{Mapped}
 use Rattle.mappings.specs.Agree.{Over}
-use Rattle.projection.specs.Projecting.{projection, addProjections, projectAll}
+use Rattle.projection_table.specs.Projecting.{projection, addProjections, projectAll}
 use Rattle.projection_laws.proofs.ProjectedValue.{projection-small}
 
 -- an answer for what may have a projection: that there is none, or the number of one

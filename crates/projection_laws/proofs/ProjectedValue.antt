@@ -21,9 +21,9 @@ use Rattle.classes.specs.Agree.{MembersAgree}
 use Rattle.demands.proofs.Conditions.{same-together}
 use Rattle.mappings.specs.Mapping.{Mapped, mappedAt}
 use Rattle.mappings.specs.Agree.{TargetsAgree, Over}
-use Rattle.projection.specs.Projecting.{becomes, byChildren, wholeOr, projections, projection}
-use Rattle.projection.proofs.Becoming.{Found, Becomes, by-source, by-literal, by-class, becomes-is}
-use Rattle.projection.proofs.TableLaws.{Pairwise, all-pairwise, pairwise-small, over-children, projection-at}
+use Rattle.projection_table.specs.Projecting.{becomes, byChildren, wholeOr, projections, projection}
+use Rattle.projection_table.proofs.Becoming.{Found, Becomes, by-source, by-literal, by-class, becomes-is}
+use Rattle.projection_table.proofs.TableLaws.{Pairwise, all-pairwise, pairwise-small, over-children, projection-at}
 use Rattle.projection_laws.proofs.LentOver.{target-inside}
 
 -- ---- induction over projections

@@ -21,7 +21,7 @@ use Rattle.classes.proofs.Rebuilding.{merged-last}
 use Rattle.merging.specs.Extending.{missing, extended, pushed, classFrom}
 use Rattle.merging.specs.Inner.{AllBelow}
 use Rattle.merging.proofs.PushedClass.{from-more, from-none, class-few}
-use Rattle.merging.proofs.ListCounts.{total-append}
+use Rattle.lent_classes.proofs.ListCounts.{total-append}
 use Rattle.shifted_classes.specs.Shifting.{shiftedClasses}
 
 -- ---- what stands in the struct

@@ -28,9 +28,10 @@ use Rattle.conditions.specs.Steps.{addEqual, addConstant, clear}
 use Rattle.conditions.specs.Calls.{sayable, onConstant}
 use Rattle.demands.proofs.Valid.{valid-equal, valid-constant, valid-clear, Tables}
 use Rattle.merging.specs.Merging.{fromClasses}
-use Rattle.merging.specs.Lent.{classesLent}
-use Rattle.merging.specs.Calls.{newNumber, madeGroup, newAnswer}
-use Rattle.merging.proofs.ListCounts.{fits-few, fits-small}
+use Rattle.lent_classes.specs.Lent.{classesLent}
+use Rattle.lent_classes.specs.Check.{newNumber}
+use Rattle.merging.specs.Calls.{madeGroup, newAnswer}
+use Rattle.lent_classes.proofs.ListCounts.{fits-few, fits-small}
 use Rattle.shifted_classes.specs.Lent.{pairsLent}
 use Rattle.joins.specs.Calls.{joinNumber, joinBy, joinAnswer}
 use Rattle.merging_laws.proofs.HandedBack.{new-valid, both-checked, kinds-handed, joinOut}
@@ -38,7 +39,7 @@ use Rattle.mappings.specs.Lent.{mappingLent}
 use Rattle.group_projection.specs.Calls.{projectAnswer}
 use Rattle.projection_laws.proofs.GroupHanded.{project-over, over, project-by, made-within}
 use Rattle.group_records.specs.GroupRecord.{Given, classMeant, membersGiven, flavoursKnown, classesFilled, membersApart, literalsUniform, membersKnown, givenNumber, groupGiven, groupOf, groupRead}
-use Rattle.states.specs.Inner.{GroupFits, FitsIfDone}
+use Rattle.group_states.specs.Inner.{GroupFits, FitsIfDone}
 
 -- ---- a layout of classes, and a group that is valid
 

@@ -22,7 +22,7 @@ use Rattle.dependencies.specs.Layout.{unused, placeIn as entryIn}
 use Rattle.dependencies.specs.declared.DependencyMap.{DependencyMap}
 use Rattle.dependencies.proofs.MapCodec.{Sized as MapSized}
 use Rattle.states.specs.Cells.{part, inRow}
-use Rattle.states.specs.Groups.{groupFrom, groupCells}
+use Rattle.group_states.specs.Groups.{groupFrom, groupCells}
 use Rattle.states.specs.Orders.{orderingFrom, orderingCells, orderingsFrom, orderingsCells}
 use Rattle.states.specs.Maps.{nodeFrom, targetCell, nodeCells, mapFrom, mapCells}
 

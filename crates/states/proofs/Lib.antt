@@ -1,4 +1,3 @@
 -- Proofs of the functions that read and write states.
 pub mod Taken
-pub mod Stores
 pub mod Stored

@@ -1,9 +1,9 @@
-// States as lent arrays of numbers: how a group, a list of orderings and a dependency map lie in cells, and how they are
-// read into their structs and written back. An arena lies in its cells already.
+// States as lent arrays of numbers: how an arena, a group, a list of orderings and a dependency map lie in cells, and how
+// the last two are read into their structs and written back. An arena lies in its cells already; the crate group_states
+// reads and writes a group.
 //
 // Reading asks nothing: any cells are read as some struct, which the call that is lent it checks. The constants say the
 // sizes and layouts; the C header has the same ones.
-pub mod groups;
 pub mod maps;
 pub mod numbers;
 pub mod orders;

@@ -21,10 +21,11 @@ use Rattle.classes.proofs.Codec.{built-classes, built-coded}
 use Rattle.merging.specs.Merging.{fromClasses}
 use Rattle.merging.specs.Calls.{madeGroup}
 use Rattle.merging.proofs.Smaller.{from-few, from-small}
-use Rattle.merging.proofs.ListCounts.{fits-few, fits-small}
-use Rattle.states.specs.Inner.{GroupFits, FitsIfDone}
+use Rattle.lent_classes.proofs.ListCounts.{fits-few, fits-small}
+use Rattle.group_states.specs.Inner.{GroupFits, FitsIfDone}
 use Rattle.state_laws.proofs.GroupFit.{encode-fits}
-use Rattle.answers.specs.Answers.{onFirst, bit}
+use Rattle.answers.specs.Answers.{onFirst}
+use Rattle.group_answers.specs.Answers.{bit}
 
 -- a yes and a no as numbers
 pub bit-yes : (b : Bool) → b ≡ true → 1 ≡ bit b

@@ -1,19 +1,19 @@
 // Inner functions, exported for the benchmark alone: the same work as the library's calls of the same name, without the check
 // of what is lent. What the check would find is asked of the caller instead, in `requires`, so an engine links the crate
 // galthumir and not this one.
-use answers::put_added;
 use answers::put_enumerated;
 use conditions::equating::equal_condition_in;
 use dependency_orderings::answering::answer_gathered;
 use dependency_orderings::gathering::gather;
+use group_answers::put_added;
+use group_states::groups::load_group;
+use group_states::groups::store_group;
+use lent_classes::lent::lent_classes;
 use merging::bridging::from_classes;
 use merging::bridging::made as made_of;
-use merging::lent::lent_classes;
 use normal::normalizing::normalize_in;
 use questions::questions::equal_in;
 use reduction::lent::add_in;
-use states::groups::load_group;
-use states::groups::store_group;
 use states::maps::load_map;
 use states::orders::load_orderings;
 use states::orders::store_orderings;
@@ -34,7 +34,7 @@ ghost use Rattle.classes.specs.Steps.{fits, judged};
 ghost use Rattle.questions.specs.Questions.{exprsEqual};
 ghost use Rattle.normal.specs.Normal.{normal};
 ghost use Rattle.merging.specs.Calls.{madeGroup};
-ghost use Rattle.merging.specs.Lent.{flavoursKnown, whole, classesLent};
+ghost use Rattle.lent_classes.specs.Lent.{flavoursKnown, whole, classesLent};
 ghost use Rattle.merging.specs.Merging.{fromClasses};
 ghost use Rattle.orderings.specs.Inner.{Held as HeldList};
 ghost use Rattle.orderings.specs.Layout.{decode as orderingsOf};
@@ -47,10 +47,11 @@ ghost use Rattle.dependencies.specs.Layout.{decode as entriesOf};
 ghost use Rattle.products.specs.Generate.{contributing};
 ghost use Rattle.dependency_orderings.specs.Calls.{gatheredAnswer, different};
 ghost use Rattle.dependency_orderings.specs.Inner.{KeysFit};
-ghost use Rattle.states.specs.Groups.{groupFrom, storedGroup};
+ghost use Rattle.group_states.specs.Groups.{groupFrom, storedGroup};
 ghost use Rattle.states.specs.Orders.{orderingsFrom, storedList};
 ghost use Rattle.states.specs.Maps.{mapFrom};
-ghost use Rattle.answers.specs.Answers.{onFirst, addedIn, bit, enumeratedIn};
+ghost use Rattle.answers.specs.Answers.{onFirst, enumeratedIn};
+ghost use Rattle.group_answers.specs.Answers.{addedIn, bit};
 
 // Two expressions are equal.
 #[no_mangle]

@@ -1,5 +1,5 @@
 -- `merging::new` meets its contract.
-use Rattle.merging.proofs.NumberLaws.{new-passes}
+use Rattle.lent_classes.proofs.NumberLaws.{new-passes}
 use Rattle.merging.proofs.NewLaws.{new-refused, list-coded, group-coded, new-made}
 use mathlib.Core.Path.{sym, _∙_}
 use borrow.Author.Needs.{needs}

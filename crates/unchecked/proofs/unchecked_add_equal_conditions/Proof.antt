@@ -8,8 +8,8 @@ use Rattle.classes.specs.Layout.{decode}
 use Rattle.classes.specs.Steps.{judged}
 use Rattle.classes.specs.declared.Group.{Group}
 use Rattle.classes.specs.declared.Changed.{Changed}
-use Rattle.states.specs.Groups.{storedGroup}
-use Rattle.states.specs.Inner.{FitsIfDone}
+use Rattle.group_states.specs.Groups.{storedGroup}
+use Rattle.group_states.specs.Inner.{FitsIfDone}
 use Rattle.unchecked.proofs.Carried.{judged-fits}
 use borrow.Author.Needs.{needs}
 use Rattle.unchecked.proofs.unchecked_add_equal_conditions.Statement.{statement}

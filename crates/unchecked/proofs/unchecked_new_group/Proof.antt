@@ -1,7 +1,7 @@
 -- `unchecked::unchecked_new_group` meets its contract.
 use mathlib.Core.Path.{ap, _∙_}
-use Rattle.merging.specs.Lent.{classesLent}
-use Rattle.states.specs.Groups.{storedGroup}
+use Rattle.lent_classes.specs.Lent.{classesLent}
+use Rattle.group_states.specs.Groups.{storedGroup}
 use Rattle.unchecked.proofs.Carried.{list-coded, group-coded, made-of, made-fits}
 use Rattle.unchecked.proofs.unchecked_new_group.Statement.{statement}
 use Rattle.unchecked.proofs.unchecked_new_group.Tie as tie

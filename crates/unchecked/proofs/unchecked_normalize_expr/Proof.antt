@@ -11,7 +11,7 @@ use Rattle.classes.specs.Inner.{Held}
 use Rattle.classes.specs.Layout.{decode}
 use Rattle.classes.specs.declared.Group.{Group}
 use Rattle.normal.specs.Normal.{normal}
-use Rattle.answers.specs.Answers.{addedIn}
+use Rattle.group_answers.specs.Answers.{addedIn}
 use Rattle.unchecked.proofs.Carried.{put-first}
 use borrow.Author.Needs.{needs}
 use Rattle.unchecked.proofs.unchecked_normalize_expr.Statement.{statement}

@@ -1,7 +1,7 @@
 -- `galthumir::groups::galthumir_add_constant` meets its contract.
 use mathlib.Core.Path.{sym, subst}
 use borrow.Author.Needs.{needs}
-use Rattle.states.specs.Inner.{FitsIfDone}
+use Rattle.group_states.specs.Inner.{FitsIfDone}
 use Rattle.state_laws.proofs.GroupFit.{constant-fits}
 use Rattle.galthumir.proofs.groups.galthumir_add_constant.Statement.{statement}
 use Rattle.galthumir.proofs.groups.galthumir_add_constant.Tie as tie

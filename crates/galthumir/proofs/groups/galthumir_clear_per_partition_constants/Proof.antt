@@ -1,7 +1,7 @@
 -- `galthumir::groups::galthumir_clear_per_partition_constants` meets its contract.
 use mathlib.Core.Path.{sym, subst}
 use borrow.Author.Needs.{needs}
-use Rattle.states.specs.Inner.{FitsIfDone}
+use Rattle.group_states.specs.Inner.{FitsIfDone}
 use Rattle.state_laws.proofs.GroupFit.{clear-fits}
 use Rattle.galthumir.proofs.groups.galthumir_clear_per_partition_constants.Statement.{statement}
 use Rattle.galthumir.proofs.groups.galthumir_clear_per_partition_constants.Tie as tie

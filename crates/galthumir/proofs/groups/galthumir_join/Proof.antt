@@ -4,7 +4,7 @@ use mathlib.Core.Path.{sym, subst}
 use mathlib.Core.List.{List}
 use borrow.Author.Needs.{needs}
 use Rattle.classes.specs.declared.Changed.{Changed}
-use Rattle.states.specs.Inner.{FitsIfDone}
+use Rattle.group_states.specs.Inner.{FitsIfDone}
 use Rattle.state_laws.proofs.GroupFit.{join-fits}
 use Rattle.galthumir.proofs.Shapes.{on-first}
 use Rattle.galthumir.proofs.groups.galthumir_join.Statement.{statement}

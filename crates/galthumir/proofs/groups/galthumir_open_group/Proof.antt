@@ -1,7 +1,7 @@
 -- `galthumir::groups::galthumir_open_group` meets its contract.
 use mathlib.Core.Path.{sym, subst}
 use borrow.Author.Needs.{needs}
-use Rattle.states.specs.Inner.{FitsIfDone}
+use Rattle.group_states.specs.Inner.{FitsIfDone}
 use Rattle.state_laws.proofs.GroupFit.{opened-fits}
 use Rattle.galthumir.proofs.groups.galthumir_open_group.Statement.{statement}
 use Rattle.galthumir.proofs.groups.galthumir_open_group.Tie as tie

@@ -1,7 +1,7 @@
 -- `galthumir::sessions::galthumir_read_group` meets its contract.
 use mathlib.Core.Path.{sym, subst}
 use borrow.Author.Needs.{needs}
-use Rattle.states.specs.Inner.{FitsIfDone}
+use Rattle.group_states.specs.Inner.{FitsIfDone}
 use Rattle.state_laws.proofs.GroupFit.{read-fits}
 use Rattle.galthumir.proofs.sessions.galthumir_read_group.Statement.{statement}
 use Rattle.galthumir.proofs.sessions.galthumir_read_group.Tie as tie

@@ -6,7 +6,7 @@ use lib.ListN.{getD}
 use Rattle.mappings.specs.Layout.{decode}
 use Rattle.arena.specs.Layout.{decode as nodes}
 use Rattle.classes.specs.Layout.{decode as classes}
-use Rattle.projection.specs.Projecting.{projections}
+use Rattle.projection_table.specs.Projecting.{projections}
 use Rattle.projection.proofs.WalkLaws.{whole-none, whole-ready, whole-walked}
 use borrow.Author.Needs.{needs}
 use Rattle.projection.proofs.walking.project_in.Statement.{statement}

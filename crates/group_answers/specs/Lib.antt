@@ -1,0 +1,2 @@
+-- What each answer of a call on nodes or groups comes to in numbers.
+pub mod Answers
