@@ -1,6 +1,6 @@
--- Laws for the check of a lent group: the counts, and the cells of a literal.
-use Prim.Native.Nat.{ℕ, _<_, _≤_}
-use mathlib.Core.Bool.{Bool, true, not, _&&_, _||_}
+-- Laws for the check of a lent group: the counts, the unused places of a table, and the cells of a literal.
+use Prim.Native.Nat.{ℕ, _+_, _-_, _<_, _≤_}
+use mathlib.Core.Bool.{Bool, true, false, not, _&&_, _||_}
 use mathlib.Core.List.{List}
 use mathlib.Core.Path.{_≡_, sym, ap, _∙_}
 use native.Mathlib.Decide.{ℕ-discrete}
@@ -10,6 +10,7 @@ use lib.Dec.{eqb, ltb, leb}
 use lib.ListN.{getD}
 use Rattle.laws.specs.Tests.{each}
 use Rattle.laws.proofs.Booleans.{and-left, and-right}
+use Rattle.laws.proofs.Each.{each-none, each-more, each-stops, each-ends}
 use Rattle.arena.specs.Node.{Node, nodeAt}
 use Rattle.arena.specs.Layout.{count, cellOf, rowOf, nodeOf, decode as nodes}
 use Rattle.arena.proofs.NodeCells.{node-column, node-literal, node-operation}
@@ -64,6 +65,33 @@ group-counts ns g e =
     (and-left (lawfulCounts g && each (λ k. fresh (g .members) k) (g .used) && each (λ j. uniformAt ns g j) (g .count))
     (unusedFrom (g .count) 64 (g .sizes) && unusedFrom (g .count) 64 (g .flavours) && unusedFrom (g .count) 64 (g .values) && unusedFrom (g .used) 256 (g .members))
     e)))
+
+-- the first k places of a table after its first n, of those below its room, are 0
+abbrev pub UnusedTo : ℕ → ℕ → List ℕ → ℕ → Type 0
+UnusedTo n room xs k = (k ≤ room - n) × (each (λ i. eqb (getD xs (n + i) 0) 0) k ≡ true)
+
+module _ (n room : ℕ) (xs : List ℕ) where
+  -- place k after the first n is 0
+  abbrev zero? : ℕ → Bool
+  zero? k = eqb (getD xs (n + k) 0) 0
+
+  -- a walk over the unused places begins
+  pub unused-none : UnusedTo n room xs 0
+  unused-none = (omega arith, each-none zero?)
+
+  -- it goes on past a 0
+  pub unused-more : (k : ℕ) → k < room - n → UnusedTo n room xs k → getD xs (n + k) 0 ≡ 0 → UnusedTo n room xs (k + 1)
+  unused-more k l u e = (omega arith, each-more zero? k (u .1) (eq-eqb (getD xs (n + k) 0) 0 e))
+
+  -- it stops at another number
+  pub unused-stops : (k : ℕ) → k < room - n → (getD xs (n + k) 0 ≡ 0 → ⊥) → false ≡ unusedFrom n room xs
+  unfolding unusedFrom
+  unused-stops k l e = each-stops zero? (room - n) k l (ne-eqb (getD xs (n + k) 0) 0 e)
+
+  -- it passes the last place
+  pub unused-ends : (k : ℕ) → room - n ≤ k → UnusedTo n room xs k → true ≡ unusedFrom n room xs
+  unfolding unusedFrom
+  unused-ends k l u = each-ends zero? (room - n) k (u .0) l (u .1)
 
 -- a row is a literal's exactly where its kind is 2
 literal-row : (r : List ℕ) → isLiteral (nodeOf r) ≡ eqb (getD r 0 0) 2

@@ -20,8 +20,8 @@ use Rattle.classes.proofs.Codec.{sizeOf, flavourIn, valueIn, snoc-padded, flat-
 use Rattle.records.specs.Fields.{field, fields}
 use Rattle.records.specs.Record.{AllBelow}
 use Rattle.group_records.specs.GroupRecord.{Given, classMeant, givenIn, flavoursKnown, membersGiven, noGroup}
-use Rattle.group_records.specs.Inner.{columnsOf}
-use Rattle.group_records.proofs.GroupWalk.{at-fields, length-fields}
+use Rattle.group_records.specs.Inner.{givenOf, Shaped, Before, columnsOf}
+use Rattle.group_records.proofs.GroupWalk.{Turn, turn, at-fields, length-fields}
 
 -- the first k members of a class are copied to the end of a list
 pub record Copied (list₀ : List ℕ) (used : ℕ) (body : List ℕ) (at m : ℕ) (list : List ℕ) (k : ℕ) : Type 0 where
@@ -121,6 +121,27 @@ gathered-more gs list after body used at j m g l r e p q =
           ∙ sym more;
       room = omega (arith, g .room);
       low = subst (AllBelow 65536) (sym more) (both-below 65536 (membersGiven (take j gs)) (fields body (at + 8) m) (g .low) q);
+    }
+
+-- the next class, of m members: it stands whole in the body, and its members fit the list
+pub record Fitting (body : List ℕ) (used at j m : ℕ) : Type 0 where
+  pub here : j < length (givenOf body)
+  pub turns : Turn body j at
+  pub room : used + m ≤ 32768
+  pub whole : at + 8 + 2 * m ≤ length body
+  pub short : length body ≤ 65535
+
+pub fitting : (body list : List ℕ) (used at j m n : ℕ) → Shaped body → Before body j at → Gathered (givenOf body) list used at j → j < n → n ≡ length (givenOf body) → m ≡ field body (at + 6)
+    → Fitting body used at j m
+fitting body list used at j m n s b g l e q =
+    let k : j < length (givenOf body) = omega (arith, l, e) in
+    let t : Turn body j at = turn body j at b k in
+    record {
+      here = k;
+      turns = t;
+      room = omega (arith, q, t .whole, g .room, s .short);
+      whole = omega (arith, q, t .whole);
+      short = s .short;
     }
 
 pub gathered-all : (gs : List Given) (list : List ℕ) (used at j : ℕ) → Gathered gs list used at j → length gs ≤ j → used ≤ 32768

@@ -1,12 +1,12 @@
 -- `group_records::group::copy_all` meets its contract.
-use Prim.Native.Nat.{_+_, _-_, _<_, _≤_}
+use Prim.Native.Nat.{_+_, _-_, _<_}
 use mathlib.Core.Path.{sym, ap, _∙_}
 use native.Mathlib.Omega.{arith}
 use lib.ListN.{length}
 use Rattle.records.specs.Fields.{fields}
 use Rattle.group_records.specs.Inner.{givenOf, Before}
 use Rattle.group_records.proofs.GroupWalk.{before-start, turn}
-use Rattle.group_records.proofs.GroupCopy.{Gathered, gathered-none, gathered-more, gathered-all}
+use Rattle.group_records.proofs.GroupCopy.{Gathered, gathered-none, gathered-more, gathered-all, fitting}
 use borrow.Author.Needs.{needs}
 use Rattle.group_records.proofs.group.copy_all.Statement.{statement}
 use Rattle.group_records.proofs.group.copy_all.Tie as tie
@@ -36,39 +36,27 @@ member-count-requires c κs =
 
 add-copy-members : tie.Need-add-copy-members Inv-loop μ-loop
 add-copy-members c =
-    let b = c .before .before .before .before .before .before .args .body .now in
+    let s = c .before .before .before .before .before .before in
     let l = c .before .before .before .loop in
-    let k : l .j < length (givenOf b) = omega (arith, c .before .before .loop-test .taken, c .before .before .before .before .class-count .ensures) in
-    let t = turn b (l .j) (l .at) (l .inv .0) k in
-    let h = t .whole in
-    let p = c .before .before .before .before .before .before .pre .0 .short in
-    let q = c .before .member-count .ensures .0 in
-    let u = l .inv .1 .room in
-    omega arith
+    let m = c .before .member-count in
+    let f = fitting (s .args .body .now) (l .list) (l .used) (l .at) (l .j) (m .result) (c .before .before .before .before .class-count .result) (s .pre .0) (l .inv .0) (l .inv .1) (c .before .before .loop-test .taken) (c .before .before .before .before .class-count .ensures) (m .ensures .0) in
+    omega (arith, f .whole, f .short)
 
 copy-members-requires : tie.Need-copy-members-requires Inv-loop μ-loop
 copy-members-requires c κs =
-    let b = c .before .before .before .before .before .before .args .body .now in
+    let s = c .before .before .before .before .before .before in
     let l = c .before .before .before .loop in
-    let k : l .j < length (givenOf b) = omega (arith, c .before .before .loop-test .taken, c .before .before .before .before .class-count .ensures) in
-    let t = turn b (l .j) (l .at) (l .inv .0) k in
-    let h = t .whole in
-    let p = c .before .before .before .before .before .before .pre .0 .short in
-    let q = c .before .member-count .ensures .0 in
-    let u = l .inv .1 .room in
-    ((l .inv .1 .long, omega arith), omega arith)
+    let m = c .before .member-count in
+    let f = fitting (s .args .body .now) (l .list) (l .used) (l .at) (l .j) (m .result) (c .before .before .before .before .class-count .result) (s .pre .0) (l .inv .0) (l .inv .1) (c .before .before .loop-test .taken) (c .before .before .before .before .class-count .ensures) (m .ensures .0) in
+    ((l .inv .1 .long, f .room), f .whole)
 
 add-used : tie.Need-add-used Inv-loop μ-loop
 add-used c =
-    let b = c .before .before .before .before .before .before .before .args .body .now in
+    let s = c .before .before .before .before .before .before .before in
     let l = c .before .before .before .before .loop in
-    let k : l .j < length (givenOf b) = omega (arith, c .before .before .before .loop-test .taken, c .before .before .before .before .before .class-count .ensures) in
-    let t = turn b (l .j) (l .at) (l .inv .0) k in
-    let h = t .whole in
-    let p = c .before .before .before .before .before .before .before .pre .0 .short in
-    let q = c .before .before .member-count .ensures .0 in
-    let u = l .inv .1 .room in
-    omega arith
+    let m = c .before .before .member-count in
+    let f = fitting (s .args .body .now) (l .list) (l .used) (l .at) (l .j) (m .result) (c .before .before .before .before .before .class-count .result) (s .pre .0) (l .inv .0) (l .inv .1) (c .before .before .before .loop-test .taken) (c .before .before .before .before .before .class-count .ensures) (m .ensures .0) in
+    omega (arith, f .room)
 
 mul-at : tie.Need-mul-at Inv-loop μ-loop
 mul-at c = search needs
@@ -78,15 +66,11 @@ add-at c = search needs
 
 add-at-2 : tie.Need-add-at-2 Inv-loop μ-loop
 add-at-2 c =
-    let b = c .before .before .before .before .before .before .before .args .body .now in
+    let s = c .before .before .before .before .before .before .before in
     let l = c .before .before .before .before .loop in
-    let k : l .j < length (givenOf b) = omega (arith, c .before .before .before .loop-test .taken, c .before .before .before .before .before .class-count .ensures) in
-    let t = turn b (l .j) (l .at) (l .inv .0) k in
-    let h = t .whole in
-    let p = c .before .before .before .before .before .before .before .pre .0 .short in
-    let q = c .before .before .member-count .ensures .0 in
-    let u = l .inv .1 .room in
-    omega arith
+    let m = c .before .before .member-count in
+    let f = fitting (s .args .body .now) (l .list) (l .used) (l .at) (l .j) (m .result) (c .before .before .before .before .before .class-count .result) (s .pre .0) (l .inv .0) (l .inv .1) (c .before .before .before .loop-test .taken) (c .before .before .before .before .before .class-count .ensures) (m .ensures .0) in
+    omega (arith, f .whole, f .short)
 
 add-j : tie.Need-add-j Inv-loop μ-loop
 add-j c = search needs
@@ -97,16 +81,11 @@ loop-less c =
 
 loop-again : tie.Need-loop-again Inv-loop μ-loop
 loop-again c =
-    let b = c .before .before .before .before .before .before .before .args .body .now in
+    let s = c .before .before .before .before .before .before .before in
     let l = c .before .before .before .before .loop in
-    let k : l .j < length (givenOf b) = omega (arith, c .before .before .before .loop-test .taken, c .before .before .before .before .before .class-count .ensures) in
-    let t = turn b (l .j) (l .at) (l .inv .0) k in
-    let h = t .whole in
-    let p = c .before .before .before .before .before .before .before .pre .0 .short in
-    let q = c .before .before .member-count .ensures .0 in
-    let u = l .inv .1 .room in
-    let r : l .used + c .before .before .member-count .result ≤ 32768 = omega arith in
-    (rw q (t .next), gathered-more (givenOf b) (l .list) _ b (l .used) (l .at) (l .j) (c .before .before .member-count .result) (l .inv .1) k r (t .members ∙ ap (fields b (l .at + 8)) (sym q)) (c .copy-members .ensures .0) (c .copy-members .ensures .1))
+    let m = c .before .before .member-count in
+    let f = fitting (s .args .body .now) (l .list) (l .used) (l .at) (l .j) (m .result) (c .before .before .before .before .before .class-count .result) (s .pre .0) (l .inv .0) (l .inv .1) (c .before .before .before .loop-test .taken) (c .before .before .before .before .before .class-count .ensures) (m .ensures .0) in
+    (rw (m .ensures .0) (f .turns .next), gathered-more (givenOf (s .args .body .now)) (l .list) _ (s .args .body .now) (l .used) (l .at) (l .j) (m .result) (l .inv .1) (f .here) (f .room) (f .turns .members ∙ ap (fields (s .args .body .now) (l .at + 8)) (sym (m .ensures .0))) (c .copy-members .ensures .0) (c .copy-members .ensures .1))
 
 returns : tie.Need-returns Inv-loop μ-loop
 returns c =

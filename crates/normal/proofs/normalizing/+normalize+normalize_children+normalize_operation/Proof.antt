@@ -83,7 +83,9 @@ normalize-operation-below t =
     (falls 3 normalize-operation-kinds.ps _<_ μ-normalize-operation t)
     normalize-operation.Pre
 
-normalize-wide-requires : (t : ℕ) → normalize-lts.Need-wide-requires (
+-- what normalize asks of the functions that it calls and learns of them, below t
+abbrev normalize-callees : ℕ → normalize-lts.Claims
+normalize-callees t = (
   wide-reads.Asked,
   wide-reads.Learnt,
   replacement-reads.Asked,
@@ -94,166 +96,93 @@ normalize-wide-requires : (t : ℕ) → normalize-lts.Need-wide-requires (
   normalize-operation.Post,
   note-reads.Asked,
   note-reads.Learnt,
-) (normalize-at t) normalize.Post
+)
+
+-- what normalize_children asks of the functions that it calls and learns of them, below t
+abbrev normalize-children-callees : ℕ → normalize-children-lts.Claims
+normalize-children-callees t = (
+  wide-reads.Asked,
+  wide-reads.Learnt,
+  normalize-below t,
+  normalize.Post,
+)
+
+-- what normalize_operation asks of the functions that it calls and learns of them, below t
+abbrev normalize-operation-callees : ℕ → normalize-operation-lts.Claims
+normalize-operation-callees t = (
+  wide-reads.Asked,
+  wide-reads.Learnt,
+  row-of-reads.Asked,
+  row-of-reads.Learnt,
+  normalize-children-below t,
+  normalize-children.Post,
+  place-reads.Asked,
+  place-reads.Learnt,
+  replacement-reads.Asked,
+  replacement-reads.Learnt,
+)
+
+normalize-wide-requires :
+    (t : ℕ) → normalize-lts.Need-wide-requires (normalize-callees t) (normalize-at t) normalize.Post
 normalize-wide-requires t c κs = search needs
 
-normalize-replacement-requires : (t : ℕ) → normalize-lts.Need-replacement-requires (
-  wide-reads.Asked,
-  wide-reads.Learnt,
-  replacement-reads.Asked,
-  replacement-reads.Learnt,
-  child-count-reads.Asked,
-  child-count-reads.Learnt,
-  normalize-operation-below t,
-  normalize-operation.Post,
-  note-reads.Asked,
-  note-reads.Learnt,
-) (normalize-at t) normalize.Post
+normalize-replacement-requires :
+    (t : ℕ) → normalize-lts.Need-replacement-requires (normalize-callees t) (normalize-at t) normalize.Post
 normalize-replacement-requires t c κs =
     let b = c .before in
     omega (arith, b .pre .1 .there, b .pre .1 .holds .few)
 
-normalize-child-count-requires : (t : ℕ) → normalize-lts.Need-child-count-requires (
-  wide-reads.Asked,
-  wide-reads.Learnt,
-  replacement-reads.Asked,
-  replacement-reads.Learnt,
-  child-count-reads.Asked,
-  child-count-reads.Learnt,
-  normalize-operation-below t,
-  normalize-operation.Post,
-  note-reads.Asked,
-  note-reads.Learnt,
-) (normalize-at t) normalize.Post
+normalize-child-count-requires :
+    (t : ℕ) → normalize-lts.Need-child-count-requires (normalize-callees t) (normalize-at t) normalize.Post
 normalize-child-count-requires t c κs =
     let b = c .before .before .before in
     rw (c .before .before .wide .ensures) (ready-known (b .args .old) (b .args .firsts .now) (b .args .cells .now) (b .args .memo .now) (b .args .expr) (b .pre .1))
 
-normalize-returns : (t : ℕ) → normalize-lts.Need-returns (
-  wide-reads.Asked,
-  wide-reads.Learnt,
-  replacement-reads.Asked,
-  replacement-reads.Learnt,
-  child-count-reads.Asked,
-  child-count-reads.Learnt,
-  normalize-operation-below t,
-  normalize-operation.Post,
-  note-reads.Asked,
-  note-reads.Learnt,
-) (normalize-at t) normalize.Post
+normalize-returns :
+    (t : ℕ) → normalize-lts.Need-returns (normalize-callees t) (normalize-at t) normalize.Post
 normalize-returns t c =
     let b = c .before .before .before .before .before in
     let v = c .before .before .before .before .wide .ensures in
     let n : c .before .child-count .result ≡ length (childNumbers (nodeAt (decode (b .args .cells .now)) (b .args .expr))) = rw v at (c .before .child-count .ensures) in
     rw (c .before .before .before .replacement .ensures) (leaf-walked (b .args .old) (b .args .firsts .now) (b .args .cells .now) (b .args .memo .now) (b .args .expr) (b .pre .1) (sym n ∙ c .if1 .taken))
 
-normalize-mul-entry : (t : ℕ) → normalize-lts.Need-mul-entry (
-  wide-reads.Asked,
-  wide-reads.Learnt,
-  replacement-reads.Asked,
-  replacement-reads.Learnt,
-  child-count-reads.Asked,
-  child-count-reads.Learnt,
-  normalize-operation-below t,
-  normalize-operation.Post,
-  note-reads.Asked,
-  note-reads.Learnt,
-) (normalize-at t) normalize.Post
+normalize-mul-entry :
+    (t : ℕ) → normalize-lts.Need-mul-entry (normalize-callees t) (normalize-at t) normalize.Post
 normalize-mul-entry t c = search needs
 
-normalize-element-copy-out-entry : (t : ℕ) → normalize-lts.Need-element-copy-out-entry (
-  wide-reads.Asked,
-  wide-reads.Learnt,
-  replacement-reads.Asked,
-  replacement-reads.Learnt,
-  child-count-reads.Asked,
-  child-count-reads.Learnt,
-  normalize-operation-below t,
-  normalize-operation.Post,
-  note-reads.Asked,
-  note-reads.Learnt,
-) (normalize-at t) normalize.Post
+normalize-element-copy-out-entry :
+    (t : ℕ) → normalize-lts.Need-element-copy-out-entry (normalize-callees t) (normalize-at t) normalize.Post
 normalize-element-copy-out-entry t c = search needs
 
-normalize-sub-t16 : (t : ℕ) → normalize-lts.Need-sub-t16 (
-  wide-reads.Asked,
-  wide-reads.Learnt,
-  replacement-reads.Asked,
-  replacement-reads.Learnt,
-  child-count-reads.Asked,
-  child-count-reads.Learnt,
-  normalize-operation-below t,
-  normalize-operation.Post,
-  note-reads.Asked,
-  note-reads.Learnt,
-) (normalize-at t) normalize.Post
+normalize-sub-t16 :
+    (t : ℕ) → normalize-lts.Need-sub-t16 (normalize-callees t) (normalize-at t) normalize.Post
 normalize-sub-t16 t c = search needs
 
-normalize-returns-2 : (t : ℕ) → normalize-lts.Need-returns-2 (
-  wide-reads.Asked,
-  wide-reads.Learnt,
-  replacement-reads.Asked,
-  replacement-reads.Learnt,
-  child-count-reads.Asked,
-  child-count-reads.Learnt,
-  normalize-operation-below t,
-  normalize-operation.Post,
-  note-reads.Asked,
-  note-reads.Learnt,
-) (normalize-at t) normalize.Post
+normalize-returns-2 :
+    (t : ℕ) → normalize-lts.Need-returns-2 (normalize-callees t) (normalize-at t) normalize.Post
 normalize-returns-2 t c =
     let b = c .before .before .before .before .before .before .before in
     let v = c .before .before .before .before .before .before .wide .ensures in
     rw v (memo-hit (b .args .old) (b .args .firsts .now) (b .args .cells .now) (b .args .memo .now) (b .args .expr) (b .pre .1) (λ z. c .if2 .taken (ap (λ (k : ℕ). getD (b .args .memo .now) k 0) v ∙ z)))
 
-normalize-normalize-operation-requires : (t : ℕ) → normalize-lts.Need-normalize-operation-requires (
-  wide-reads.Asked,
-  wide-reads.Learnt,
-  replacement-reads.Asked,
-  replacement-reads.Learnt,
-  child-count-reads.Asked,
-  child-count-reads.Learnt,
-  normalize-operation-below t,
-  normalize-operation.Post,
-  note-reads.Asked,
-  note-reads.Learnt,
-) (normalize-at t) normalize.Post
+normalize-normalize-operation-requires :
+    (t : ℕ) → normalize-lts.Need-normalize-operation-requires (normalize-callees t) (normalize-at t) normalize.Post
 normalize-normalize-operation-requires t c κs =
     let b = c .before .before .before .before .before .before .before .before .before in
     let v = c .before .before .before .before .before .before .before .before .wide .ensures in
     let n : c .before .before .before .before .before .child-count .result ≡ length (childNumbers (nodeAt (decode (b .args .cells .now)) (b .args .expr))) = rw v at (c .before .before .before .before .before .child-count .ensures) in
     (omega (arith, b .pre .0), (b .pre .1, omega (arith, n, c .before .before .before .before .if1 .left)))
 
-normalize-note-requires : (t : ℕ) → normalize-lts.Need-note-requires (
-  wide-reads.Asked,
-  wide-reads.Learnt,
-  replacement-reads.Asked,
-  replacement-reads.Learnt,
-  child-count-reads.Asked,
-  child-count-reads.Learnt,
-  normalize-operation-below t,
-  normalize-operation.Post,
-  note-reads.Asked,
-  note-reads.Learnt,
-) (normalize-at t) normalize.Post
+normalize-note-requires :
+    (t : ℕ) → normalize-lts.Need-note-requires (normalize-callees t) (normalize-at t) normalize.Post
 normalize-note-requires t c κs =
     let b = c .before .before .before .before .before .before .before .before .before .before .before in
     let v = c .before .before .before .before .before .before .before .before .before .before .wide .ensures in
     let x = c .before .normalize-operation in
     (omega (arith, v, b .pre .1 .below, b .pre .1 .there, b .pre .1 .holds .few), answer-small (b .args .old) (b .args .firsts .now) (b .args .cells .now) (b .args .memo .now) (b .args .expr) (b .pre .1) (x .last .0) (x .last .1 .1 .0) (x .result) (x .ensures))
 
-normalize-returns-3 : (t : ℕ) → normalize-lts.Need-returns-3 (
-  wide-reads.Asked,
-  wide-reads.Learnt,
-  replacement-reads.Asked,
-  replacement-reads.Learnt,
-  child-count-reads.Asked,
-  child-count-reads.Learnt,
-  normalize-operation-below t,
-  normalize-operation.Post,
-  note-reads.Asked,
-  note-reads.Learnt,
-) (normalize-at t) normalize.Post
+normalize-returns-3 :
+    (t : ℕ) → normalize-lts.Need-returns-3 (normalize-callees t) (normalize-at t) normalize.Post
 normalize-returns-3 t c =
     let b = c .before .before .before .before .before .before .before .before .before .before .before .before in
     let v = c .before .before .before .before .before .before .before .before .before .before .before .wide .ensures in
@@ -268,70 +197,29 @@ abbrev normalize-children-μ-loop : normalize-children-lts.MeasureT-loop
 normalize-children-μ-loop cells₀ firsts memo₀ row₀ expr old n k₀ cells memo row k = n - k
 
 normalize-children-element-copy-out-wide :
-    (t : ℕ) → normalize-children-lts.Need-element-copy-out-wide (
-      wide-reads.Asked,
-      wide-reads.Learnt,
-      normalize-below t,
-      normalize.Post,
-    )
-    (normalize-children-at t)
-    normalize-children.Post
-    normalize-children-Inv-loop
-    normalize-children-μ-loop
+    (t : ℕ) → normalize-children-lts.Need-element-copy-out-wide (normalize-children-callees t) (normalize-children-at t) normalize-children.Post normalize-children-Inv-loop normalize-children-μ-loop
 normalize-children-element-copy-out-wide t c = search needs
 
-normalize-children-wide-requires : (t : ℕ) → normalize-children-lts.Need-wide-requires (
-  wide-reads.Asked,
-  wide-reads.Learnt,
-  normalize-below t,
-  normalize.Post,
-)
-    (normalize-children-at t)
-    normalize-children.Post
-    normalize-children-Inv-loop
-    normalize-children-μ-loop
+normalize-children-wide-requires :
+    (t : ℕ) → normalize-children-lts.Need-wide-requires (normalize-children-callees t) (normalize-children-at t) normalize-children.Post normalize-children-Inv-loop normalize-children-μ-loop
 normalize-children-wide-requires t c κs = search needs
 
-normalize-children-loop-holds : (t : ℕ) → normalize-children-lts.Need-loop-holds (
-  wide-reads.Asked,
-  wide-reads.Learnt,
-  normalize-below t,
-  normalize.Post,
-)
-    (normalize-children-at t)
-    normalize-children.Post
-    normalize-children-Inv-loop
-    normalize-children-μ-loop
+normalize-children-loop-holds :
+    (t : ℕ) → normalize-children-lts.Need-loop-holds (normalize-children-callees t) (normalize-children-at t) normalize-children.Post normalize-children-Inv-loop normalize-children-μ-loop
 normalize-children-loop-holds t c =
     let b = c .before .before in
     (search needs, loop-begins (b .args .old) (b .args .firsts .now) (b .args .cells .now) (b .args .memo .now) (b .args .row .now) (b .args .expr) (b .pre .1))
 
-normalize-children-add-child : (t : ℕ) → normalize-children-lts.Need-add-child (
-  wide-reads.Asked,
-  wide-reads.Learnt,
-  normalize-below t,
-  normalize.Post,
-)
-    (normalize-children-at t)
-    normalize-children.Post
-    normalize-children-Inv-loop
-    normalize-children-μ-loop
+normalize-children-add-child :
+    (t : ℕ) → normalize-children-lts.Need-add-child (normalize-children-callees t) (normalize-children-at t) normalize-children.Post normalize-children-Inv-loop normalize-children-μ-loop
 normalize-children-add-child t c =
     let b = c .before .before .before .before in
     let o = c .before .loop in
     let l : o .k < length (childrenOf (b .args .row .now)) = omega (arith, children-count (b .args .row .now), c .before .before .wide .ensures) in
     omega (arith, l, children-eight (b .args .old) (b .args .firsts .now) (b .args .cells .now) (b .args .memo .now) (b .args .row .now) (b .args .expr) (b .pre .1))
 
-normalize-children-mul-child : (t : ℕ) → normalize-children-lts.Need-mul-child (
-  wide-reads.Asked,
-  wide-reads.Learnt,
-  normalize-below t,
-  normalize.Post,
-)
-    (normalize-children-at t)
-    normalize-children.Post
-    normalize-children-Inv-loop
-    normalize-children-μ-loop
+normalize-children-mul-child :
+    (t : ℕ) → normalize-children-lts.Need-mul-child (normalize-children-callees t) (normalize-children-at t) normalize-children.Post normalize-children-Inv-loop normalize-children-μ-loop
 normalize-children-mul-child t c =
     let b = c .before .before .before .before in
     let o = c .before .loop in
@@ -339,72 +227,31 @@ normalize-children-mul-child t c =
     omega (arith, l, children-eight (b .args .old) (b .args .firsts .now) (b .args .cells .now) (b .args .memo .now) (b .args .row .now) (b .args .expr) (b .pre .1))
 
 normalize-children-element-copy-out-child :
-    (t : ℕ) → normalize-children-lts.Need-element-copy-out-child (
-      wide-reads.Asked,
-      wide-reads.Learnt,
-      normalize-below t,
-      normalize.Post,
-    )
-    (normalize-children-at t)
-    normalize-children.Post
-    normalize-children-Inv-loop
-    normalize-children-μ-loop
+    (t : ℕ) → normalize-children-lts.Need-element-copy-out-child (normalize-children-callees t) (normalize-children-at t) normalize-children.Post normalize-children-Inv-loop normalize-children-μ-loop
 normalize-children-element-copy-out-child t c =
     let b = c .before .before .before .before in
     let o = c .before .loop in
     let l : o .k < length (childrenOf (b .args .row .now)) = omega (arith, children-count (b .args .row .now), c .before .before .wide .ensures) in
     omega (arith, l, children-eight (b .args .old) (b .args .firsts .now) (b .args .cells .now) (b .args .memo .now) (b .args .row .now) (b .args .expr) (b .pre .1))
 
-normalize-children-normalize-requires : (t : ℕ) → normalize-children-lts.Need-normalize-requires (
-  wide-reads.Asked,
-  wide-reads.Learnt,
-  normalize-below t,
-  normalize.Post,
-)
-    (normalize-children-at t)
-    normalize-children.Post
-    normalize-children-Inv-loop
-    normalize-children-μ-loop
+normalize-children-normalize-requires :
+    (t : ℕ) → normalize-children-lts.Need-normalize-requires (normalize-children-callees t) (normalize-children-at t) normalize-children.Post normalize-children-Inv-loop normalize-children-μ-loop
 normalize-children-normalize-requires t c κs =
     let b = c .before .before .before .before .before .before .before in
     let o = c .before .before .before .before .loop in
     let l : o .k < length (childrenOf (b .args .row .now)) = omega (arith, children-count (b .args .row .now), c .before .before .before .before .before .wide .ensures) in
     (omega (arith, loop-lower (b .args .old) (b .args .firsts .now) (b .args .cells .now) (b .args .memo .now) (b .args .row .now) (b .args .expr) (b .pre .1) (o .cells) (o .memo) (o .row) (o .k) (o .inv .1) l, b .pre .0), loop-ready (b .args .old) (b .args .firsts .now) (b .args .cells .now) (b .args .memo .now) (b .args .row .now) (b .args .expr) (b .pre .1) (o .cells) (o .memo) (o .row) (o .k) (o .inv .1) l)
 
-normalize-children-enum-known-i : (t : ℕ) → normalize-children-lts.Need-enum-known-i (
-  wide-reads.Asked,
-  wide-reads.Learnt,
-  normalize-below t,
-  normalize.Post,
-)
-    (normalize-children-at t)
-    normalize-children.Post
-    normalize-children-Inv-loop
-    normalize-children-μ-loop
+normalize-children-enum-known-i :
+    (t : ℕ) → normalize-children-lts.Need-enum-known-i (normalize-children-callees t) (normalize-children-at t) normalize-children.Post normalize-children-Inv-loop normalize-children-μ-loop
 normalize-children-enum-known-i t c = search needs
 
-normalize-children-enum-told : (t : ℕ) → normalize-children-lts.Need-enum-told (
-  wide-reads.Asked,
-  wide-reads.Learnt,
-  normalize-below t,
-  normalize.Post,
-)
-    (normalize-children-at t)
-    normalize-children.Post
-    normalize-children-Inv-loop
-    normalize-children-μ-loop
+normalize-children-enum-told :
+    (t : ℕ) → normalize-children-lts.Need-enum-told (normalize-children-callees t) (normalize-children-at t) normalize-children.Post normalize-children-Inv-loop normalize-children-μ-loop
 normalize-children-enum-told t c = search needs
 
-normalize-children-returns : (t : ℕ) → normalize-children-lts.Need-returns (
-  wide-reads.Asked,
-  wide-reads.Learnt,
-  normalize-below t,
-  normalize.Post,
-)
-    (normalize-children-at t)
-    normalize-children.Post
-    normalize-children-Inv-loop
-    normalize-children-μ-loop
+normalize-children-returns :
+    (t : ℕ) → normalize-children-lts.Need-returns (normalize-children-callees t) (normalize-children-at t) normalize-children.Post normalize-children-Inv-loop normalize-children-μ-loop
 normalize-children-returns t c =
     let b = c .before .before .before .before .before .before .before .before .before .before in
     let o = c .before .before .before .before .before .before .before .loop in
@@ -412,88 +259,40 @@ normalize-children-returns t c =
     let x = c .before .before .normalize in
     loop-fails (b .args .old) (b .args .firsts .now) (b .args .cells .now) (b .args .memo .now) (b .args .row .now) (b .args .expr) (b .pre .1) (o .cells) (o .memo) (o .row) (o .k) (o .inv .1) l (x .last .0) (x .last .1 .1 .0) (x .result) (x .ensures) (c .enum-told .given .0 .0) (c .enum-told .given .1)
 
-normalize-children-add-row : (t : ℕ) → normalize-children-lts.Need-add-row (
-  wide-reads.Asked,
-  wide-reads.Learnt,
-  normalize-below t,
-  normalize.Post,
-)
-    (normalize-children-at t)
-    normalize-children.Post
-    normalize-children-Inv-loop
-    normalize-children-μ-loop
+normalize-children-add-row :
+    (t : ℕ) → normalize-children-lts.Need-add-row (normalize-children-callees t) (normalize-children-at t) normalize-children.Post normalize-children-Inv-loop normalize-children-μ-loop
 normalize-children-add-row t c =
     let b = c .before .before .before .before .before .before .before .before .before .before .before in
     let o = c .before .before .before .before .before .before .before .before .loop in
     let l : o .k < length (childrenOf (b .args .row .now)) = omega (arith, children-count (b .args .row .now), c .before .before .before .before .before .before .before .before .before .wide .ensures) in
     omega (arith, l, children-eight (b .args .old) (b .args .firsts .now) (b .args .cells .now) (b .args .memo .now) (b .args .row .now) (b .args .expr) (b .pre .1))
 
-normalize-children-mul-row : (t : ℕ) → normalize-children-lts.Need-mul-row (
-  wide-reads.Asked,
-  wide-reads.Learnt,
-  normalize-below t,
-  normalize.Post,
-)
-    (normalize-children-at t)
-    normalize-children.Post
-    normalize-children-Inv-loop
-    normalize-children-μ-loop
+normalize-children-mul-row :
+    (t : ℕ) → normalize-children-lts.Need-mul-row (normalize-children-callees t) (normalize-children-at t) normalize-children.Post normalize-children-Inv-loop normalize-children-μ-loop
 normalize-children-mul-row t c =
     let b = c .before .before .before .before .before .before .before .before .before .before .before in
     let o = c .before .before .before .before .before .before .before .before .loop in
     let l : o .k < length (childrenOf (b .args .row .now)) = omega (arith, children-count (b .args .row .now), c .before .before .before .before .before .before .before .before .before .wide .ensures) in
     omega (arith, l, children-eight (b .args .old) (b .args .firsts .now) (b .args .cells .now) (b .args .memo .now) (b .args .row .now) (b .args .expr) (b .pre .1))
 
-normalize-children-element-write-row : (t : ℕ) → normalize-children-lts.Need-element-write-row (
-  wide-reads.Asked,
-  wide-reads.Learnt,
-  normalize-below t,
-  normalize.Post,
-)
-    (normalize-children-at t)
-    normalize-children.Post
-    normalize-children-Inv-loop
-    normalize-children-μ-loop
+normalize-children-element-write-row :
+    (t : ℕ) → normalize-children-lts.Need-element-write-row (normalize-children-callees t) (normalize-children-at t) normalize-children.Post normalize-children-Inv-loop normalize-children-μ-loop
 normalize-children-element-write-row t c =
     let b = c .before .before .before .before .before .before .before .before .before .before .before in
     let o = c .before .before .before .before .before .before .before .before .loop in
     let l : o .k < length (childrenOf (b .args .row .now)) = omega (arith, children-count (b .args .row .now), c .before .before .before .before .before .before .before .before .before .wide .ensures) in
     omega (arith, l, children-eight (b .args .old) (b .args .firsts .now) (b .args .cells .now) (b .args .memo .now) (b .args .row .now) (b .args .expr) (b .pre .1))
 
-normalize-children-add-k : (t : ℕ) → normalize-children-lts.Need-add-k (
-  wide-reads.Asked,
-  wide-reads.Learnt,
-  normalize-below t,
-  normalize.Post,
-)
-    (normalize-children-at t)
-    normalize-children.Post
-    normalize-children-Inv-loop
-    normalize-children-μ-loop
+normalize-children-add-k :
+    (t : ℕ) → normalize-children-lts.Need-add-k (normalize-children-callees t) (normalize-children-at t) normalize-children.Post normalize-children-Inv-loop normalize-children-μ-loop
 normalize-children-add-k t c = search needs
 
-normalize-children-loop-less : (t : ℕ) → normalize-children-lts.Need-loop-less (
-  wide-reads.Asked,
-  wide-reads.Learnt,
-  normalize-below t,
-  normalize.Post,
-)
-    (normalize-children-at t)
-    normalize-children.Post
-    normalize-children-Inv-loop
-    normalize-children-μ-loop
+normalize-children-loop-less :
+    (t : ℕ) → normalize-children-lts.Need-loop-less (normalize-children-callees t) (normalize-children-at t) normalize-children.Post normalize-children-Inv-loop normalize-children-μ-loop
 normalize-children-loop-less t c = search needs
 
-normalize-children-loop-again : (t : ℕ) → normalize-children-lts.Need-loop-again (
-  wide-reads.Asked,
-  wide-reads.Learnt,
-  normalize-below t,
-  normalize.Post,
-)
-    (normalize-children-at t)
-    normalize-children.Post
-    normalize-children-Inv-loop
-    normalize-children-μ-loop
+normalize-children-loop-again :
+    (t : ℕ) → normalize-children-lts.Need-loop-again (normalize-children-callees t) (normalize-children-at t) normalize-children.Post normalize-children-Inv-loop normalize-children-μ-loop
 normalize-children-loop-again t c =
     let b = c .before .before .before .before .before .before .before .before .before .before .before in
     let o = c .before .before .before .before .before .before .before .before .loop in
@@ -501,83 +300,34 @@ normalize-children-loop-again t c =
     let x = c .before .before .before .normalize in
     (search needs, loop-more (b .args .old) (b .args .firsts .now) (b .args .cells .now) (b .args .memo .now) (b .args .row .now) (b .args .expr) (b .pre .1) (o .cells) (o .memo) (o .row) (o .k) (o .inv .1) l (x .last .0) (x .last .1 .1 .0) (x .result) (x .ensures) (c .before .i .given .0 .0) (c .before .i .given .1))
 
-normalize-children-returns-2 : (t : ℕ) → normalize-children-lts.Need-returns-2 (
-  wide-reads.Asked,
-  wide-reads.Learnt,
-  normalize-below t,
-  normalize.Post,
-)
-    (normalize-children-at t)
-    normalize-children.Post
-    normalize-children-Inv-loop
-    normalize-children-μ-loop
+normalize-children-returns-2 :
+    (t : ℕ) → normalize-children-lts.Need-returns-2 (normalize-children-callees t) (normalize-children-at t) normalize-children.Post normalize-children-Inv-loop normalize-children-μ-loop
 normalize-children-returns-2 t c =
     let b = c .before .before .before .before in
     let o = c .before .loop in
     let e : length (childrenOf (b .args .row .now)) ≡ o .k = omega (arith, children-count (b .args .row .now), c .before .before .wide .ensures) in
     through-ends (rewriting (b .args .old) (b .args .firsts .now) (b .args .cells .now)) (b .args .cells .now) (b .args .row .now) (o .cells) (o .memo) (o .row) (o .k) (o .inv .1) e
 
-normalize-operation-wide-requires : (t : ℕ) → normalize-operation-lts.Need-wide-requires (
-  wide-reads.Asked,
-  wide-reads.Learnt,
-  row-of-reads.Asked,
-  row-of-reads.Learnt,
-  normalize-children-below t,
-  normalize-children.Post,
-  place-reads.Asked,
-  place-reads.Learnt,
-  replacement-reads.Asked,
-  replacement-reads.Learnt,
-) (normalize-operation-at t) normalize-operation.Post
+normalize-operation-wide-requires :
+    (t : ℕ) → normalize-operation-lts.Need-wide-requires (normalize-operation-callees t) (normalize-operation-at t) normalize-operation.Post
 normalize-operation-wide-requires t c κs = search needs
 
-normalize-operation-row-of-requires : (t : ℕ) → normalize-operation-lts.Need-row-of-requires (
-  wide-reads.Asked,
-  wide-reads.Learnt,
-  row-of-reads.Asked,
-  row-of-reads.Learnt,
-  normalize-children-below t,
-  normalize-children.Post,
-  place-reads.Asked,
-  place-reads.Learnt,
-  replacement-reads.Asked,
-  replacement-reads.Learnt,
-) (normalize-operation-at t) normalize-operation.Post
+normalize-operation-row-of-requires :
+    (t : ℕ) → normalize-operation-lts.Need-row-of-requires (normalize-operation-callees t) (normalize-operation-at t) normalize-operation.Post
 normalize-operation-row-of-requires t c κs =
     let b = c .before .before in
     omega (arith, c .wide .ensures, b .pre .1 .0 .below, b .pre .1 .0 .there, b .pre .1 .0 .holds .few)
 
 normalize-operation-normalize-children-requires :
-    (t : ℕ) → normalize-operation-lts.Need-normalize-children-requires (
-      wide-reads.Asked,
-      wide-reads.Learnt,
-      row-of-reads.Asked,
-      row-of-reads.Learnt,
-      normalize-children-below t,
-      normalize-children.Post,
-      place-reads.Asked,
-      place-reads.Learnt,
-      replacement-reads.Asked,
-      replacement-reads.Learnt,
-    ) (normalize-operation-at t) normalize-operation.Post
+    (t : ℕ) → normalize-operation-lts.Need-normalize-children-requires (normalize-operation-callees t) (normalize-operation-at t) normalize-operation.Post
 normalize-operation-normalize-children-requires t c κs =
     let b = c .before .before .before .before .before .before in
     let r = c .before .before .before .row-of .result in
     let a = ready-all (b .args .old) (b .args .firsts .now) (b .args .cells .now) (b .args .memo .now) (b .args .expr) (b .pre .1 .0) (λ z. omega (arith, z, b .pre .1 .1)) r (rw (c .before .before .before .before .wide .ensures) at (c .before .before .before .row-of .ensures)) in
     (omega (arith, b .pre .0), a)
 
-normalize-operation-returns : (t : ℕ) → normalize-operation-lts.Need-returns (
-  wide-reads.Asked,
-  wide-reads.Learnt,
-  row-of-reads.Asked,
-  row-of-reads.Learnt,
-  normalize-children-below t,
-  normalize-children.Post,
-  place-reads.Asked,
-  place-reads.Learnt,
-  replacement-reads.Asked,
-  replacement-reads.Learnt,
-) (normalize-operation-at t) normalize-operation.Post
+normalize-operation-returns :
+    (t : ℕ) → normalize-operation-lts.Need-returns (normalize-operation-callees t) (normalize-operation-at t) normalize-operation.Post
 normalize-operation-returns t c =
     let b = c .before .before .before .before .before .before .before .before in
     let r = c .before .before .before .before .before .row-of .result in
@@ -586,18 +336,8 @@ normalize-operation-returns t c =
     let w = subst (WalkedAll (rewriting (b .args .old) (b .args .firsts .now) (b .args .cells .now)) (b .args .cells .now) (x .last .0) (x .last .1 .1 .0) r (x .last .1 .1 .1 .0)) (not-true _ (c .if1 .taken)) (x .ensures) in
     children-full (b .args .old) (b .args .firsts .now) (b .args .cells .now) (b .args .memo .now) r (b .args .expr) a (x .last .0) (x .last .1 .1 .0) (x .last .1 .1 .1 .0) w 3
 
-normalize-operation-place-requires : (t : ℕ) → normalize-operation-lts.Need-place-requires (
-  wide-reads.Asked,
-  wide-reads.Learnt,
-  row-of-reads.Asked,
-  row-of-reads.Learnt,
-  normalize-children-below t,
-  normalize-children.Post,
-  place-reads.Asked,
-  place-reads.Learnt,
-  replacement-reads.Asked,
-  replacement-reads.Learnt,
-) (normalize-operation-at t) normalize-operation.Post
+normalize-operation-place-requires :
+    (t : ℕ) → normalize-operation-lts.Need-place-requires (normalize-operation-callees t) (normalize-operation-at t) normalize-operation.Post
 normalize-operation-place-requires t c κs =
     let b = c .before .before .before .before .before .before .before .before .before .before in
     let r = c .before .before .before .before .before .before .before .row-of .result in
@@ -606,46 +346,16 @@ normalize-operation-place-requires t c κs =
     let w = subst (WalkedAll (rewriting (b .args .old) (b .args .firsts .now) (b .args .cells .now)) (b .args .cells .now) (x .last .0) (x .last .1 .1 .0) r (x .last .1 .1 .1 .0)) (not-false _ (c .before .before .if1 .left)) (x .ensures) in
     operation-placeable (b .args .old) (b .args .firsts .now) (b .args .cells .now) (b .args .memo .now) r (b .args .expr) a (x .last .0) (x .last .1 .1 .0) (x .last .1 .1 .1 .0) w
 
-normalize-operation-enum-known-i : (t : ℕ) → normalize-operation-lts.Need-enum-known-i (
-  wide-reads.Asked,
-  wide-reads.Learnt,
-  row-of-reads.Asked,
-  row-of-reads.Learnt,
-  normalize-children-below t,
-  normalize-children.Post,
-  place-reads.Asked,
-  place-reads.Learnt,
-  replacement-reads.Asked,
-  replacement-reads.Learnt,
-) (normalize-operation-at t) normalize-operation.Post
+normalize-operation-enum-known-i :
+    (t : ℕ) → normalize-operation-lts.Need-enum-known-i (normalize-operation-callees t) (normalize-operation-at t) normalize-operation.Post
 normalize-operation-enum-known-i t c = search needs
 
-normalize-operation-enum-told : (t : ℕ) → normalize-operation-lts.Need-enum-told (
-  wide-reads.Asked,
-  wide-reads.Learnt,
-  row-of-reads.Asked,
-  row-of-reads.Learnt,
-  normalize-children-below t,
-  normalize-children.Post,
-  place-reads.Asked,
-  place-reads.Learnt,
-  replacement-reads.Asked,
-  replacement-reads.Learnt,
-) (normalize-operation-at t) normalize-operation.Post
+normalize-operation-enum-told :
+    (t : ℕ) → normalize-operation-lts.Need-enum-told (normalize-operation-callees t) (normalize-operation-at t) normalize-operation.Post
 normalize-operation-enum-told t c = search needs
 
-normalize-operation-returns-2 : (t : ℕ) → normalize-operation-lts.Need-returns-2 (
-  wide-reads.Asked,
-  wide-reads.Learnt,
-  row-of-reads.Asked,
-  row-of-reads.Learnt,
-  normalize-children-below t,
-  normalize-children.Post,
-  place-reads.Asked,
-  place-reads.Learnt,
-  replacement-reads.Asked,
-  replacement-reads.Learnt,
-) (normalize-operation-at t) normalize-operation.Post
+normalize-operation-returns-2 :
+    (t : ℕ) → normalize-operation-lts.Need-returns-2 (normalize-operation-callees t) (normalize-operation-at t) normalize-operation.Post
 normalize-operation-returns-2 t c =
     let b = c .before .before .before .before .before .before .before .before .before .before .before .before .before in
     let r = c .before .before .before .before .before .before .before .before .before .before .row-of .result in
@@ -657,34 +367,13 @@ normalize-operation-returns-2 t c =
     operation-full (b .args .old) (b .args .firsts .now) (b .args .cells .now) (b .args .memo .now) r (b .args .expr) a (x .last .0) (x .last .1 .1 .0) (x .last .1 .1 .1 .0) w (y .last .0) (c .enum-told .given .0 .0) p 3
 
 normalize-operation-replacement-requires :
-    (t : ℕ) → normalize-operation-lts.Need-replacement-requires (
-      wide-reads.Asked,
-      wide-reads.Learnt,
-      row-of-reads.Asked,
-      row-of-reads.Learnt,
-      normalize-children-below t,
-      normalize-children.Post,
-      place-reads.Asked,
-      place-reads.Learnt,
-      replacement-reads.Asked,
-      replacement-reads.Learnt,
-    ) (normalize-operation-at t) normalize-operation.Post
+    (t : ℕ) → normalize-operation-lts.Need-replacement-requires (normalize-operation-callees t) (normalize-operation-at t) normalize-operation.Post
 normalize-operation-replacement-requires t c κs =
     let b = c .before .before .before .before .before .before .before .before .before .before .before .before .before .before in
     omega (arith, b .pre .1 .0 .there, b .pre .1 .0 .holds .few)
 
-normalize-operation-returns-3 : (t : ℕ) → normalize-operation-lts.Need-returns-3 (
-  wide-reads.Asked,
-  wide-reads.Learnt,
-  row-of-reads.Asked,
-  row-of-reads.Learnt,
-  normalize-children-below t,
-  normalize-children.Post,
-  place-reads.Asked,
-  place-reads.Learnt,
-  replacement-reads.Asked,
-  replacement-reads.Learnt,
-) (normalize-operation-at t) normalize-operation.Post
+normalize-operation-returns-3 :
+    (t : ℕ) → normalize-operation-lts.Need-returns-3 (normalize-operation-callees t) (normalize-operation-at t) normalize-operation.Post
 normalize-operation-returns-3 t c =
     let b = c .before .before .before .before .before .before .before .before .before .before .before .before .before .before .before in
     let r = c .before .before .before .before .before .before .before .before .before .before .before .before .row-of .result in
@@ -697,19 +386,7 @@ normalize-operation-returns-3 t c =
 
 pub +normalize+normalize-children+normalize-operation-spec : {M : Type 1} → statement M
 +normalize+normalize-children+normalize-operation-spec =
-    close μ-normalize μ-normalize-children μ-normalize-operation (λ t. normalize-lts.spec (
-      wide-reads.Asked,
-      wide-reads.Learnt,
-      replacement-reads.Asked,
-      replacement-reads.Learnt,
-      child-count-reads.Asked,
-      child-count-reads.Learnt,
-      normalize-operation-below t,
-      normalize-operation.Post,
-      note-reads.Asked,
-      note-reads.Learnt,
-    )
-    (normalize-at t)
+    close μ-normalize μ-normalize-children μ-normalize-operation (λ t. normalize-lts.spec (normalize-callees t) (normalize-at t)
     normalize.Post
     (normalize-wide-requires t)
     (normalize-replacement-requires t)
@@ -722,13 +399,7 @@ pub +normalize+normalize-children+normalize-operation-spec : {M : Type 1} → st
     (normalize-normalize-operation-requires t)
     (normalize-note-requires t)
     (normalize-returns-3 t))
-    (λ t. normalize-children-lts.spec (
-      wide-reads.Asked,
-      wide-reads.Learnt,
-      normalize-below t,
-      normalize.Post,
-    )
-    (normalize-children-at t)
+    (λ t. normalize-children-lts.spec (normalize-children-callees t) (normalize-children-at t)
     normalize-children.Post
     normalize-children-Inv-loop
     normalize-children-μ-loop
@@ -749,19 +420,7 @@ pub +normalize+normalize-children+normalize-operation-spec : {M : Type 1} → st
     (normalize-children-loop-less t)
     (normalize-children-loop-again t)
     (normalize-children-returns-2 t))
-    λ t. normalize-operation-lts.spec (
-      wide-reads.Asked,
-      wide-reads.Learnt,
-      row-of-reads.Asked,
-      row-of-reads.Learnt,
-      normalize-children-below t,
-      normalize-children.Post,
-      place-reads.Asked,
-      place-reads.Learnt,
-      replacement-reads.Asked,
-      replacement-reads.Learnt,
-    )
-    (normalize-operation-at t)
+    λ t. normalize-operation-lts.spec (normalize-operation-callees t) (normalize-operation-at t)
     normalize-operation.Post
     (normalize-operation-wide-requires t)
     (normalize-operation-row-of-requires t)

@@ -23,112 +23,9 @@ abbrev order-at-below : ℕ → In 0 order-at-kinds.ps
 order-at-below t =
     and 0 order-at-kinds.ps (falls 0 order-at-kinds.ps _<_ μ-order-at t) order-at.Pre
 
-order-at-returns : (t : ℕ) → order-at-lts.Need-returns (
-  factorial-reads.Asked,
-  factorial-reads.Learnt,
-  order-at-below t,
-  order-at.Post,
-  begin-with-reads.Asked,
-  begin-with-reads.Learnt,
-) (order-at-at t) order-at.Post
-order-at-returns t c = order-none (c .before .args .n) (c .before .args .number) (search needs)
-
-order-at-sub-factorial : (t : ℕ) → order-at-lts.Need-sub-factorial (
-  factorial-reads.Asked,
-  factorial-reads.Learnt,
-  order-at-below t,
-  order-at.Post,
-  begin-with-reads.Asked,
-  begin-with-reads.Learnt,
-) (order-at-at t) order-at.Post
-order-at-sub-factorial t c = search needs
-
-order-at-factorial-requires : (t : ℕ) → order-at-lts.Need-factorial-requires (
-  factorial-reads.Asked,
-  factorial-reads.Learnt,
-  order-at-below t,
-  order-at.Post,
-  begin-with-reads.Asked,
-  begin-with-reads.Learnt,
-) (order-at-at t) order-at.Post
-order-at-factorial-requires t c κs = search needs
-
-order-at-sub-order-at : (t : ℕ) → order-at-lts.Need-sub-order-at (
-  factorial-reads.Asked,
-  factorial-reads.Learnt,
-  order-at-below t,
-  order-at.Post,
-  begin-with-reads.Asked,
-  begin-with-reads.Learnt,
-) (order-at-at t) order-at.Post
-order-at-sub-order-at t c = search needs
-
-order-at-rem-order-at : (t : ℕ) → order-at-lts.Need-rem-order-at (
-  factorial-reads.Asked,
-  factorial-reads.Learnt,
-  order-at-below t,
-  order-at.Post,
-  begin-with-reads.Asked,
-  begin-with-reads.Learnt,
-) (order-at-at t) order-at.Post
-order-at-rem-order-at t c =
-    let s = c .before .before in
-    others-some (s .args .n) (s .args .number) (c .factorial .result) (s .pre .1 .0) (search needs) (s .pre .1 .1) (c .factorial .ensures)
-
-order-at-order-at-requires : (t : ℕ) → order-at-lts.Need-order-at-requires (
-  factorial-reads.Asked,
-  factorial-reads.Learnt,
-  order-at-below t,
-  order-at.Post,
-  begin-with-reads.Asked,
-  begin-with-reads.Learnt,
-) (order-at-at t) order-at.Post
-order-at-order-at-requires t c κs =
-    let s = c .before .before in
-    let some : 1 ≤ s .args .n = search needs in
-    (search needs, (search needs, rest-below (s .args .n) (s .args .number) (c .factorial .result) (s .pre .1 .0) some (s .pre .1 .1) (c .factorial .ensures)))
-
-order-at-div-begin-with : (t : ℕ) → order-at-lts.Need-div-begin-with (
-  factorial-reads.Asked,
-  factorial-reads.Learnt,
-  order-at-below t,
-  order-at.Post,
-  begin-with-reads.Asked,
-  begin-with-reads.Learnt,
-) (order-at-at t) order-at.Post
-order-at-div-begin-with t c =
-    let s = c .before .before .before in
-    others-some (s .args .n) (s .args .number) (c .before .factorial .result) (s .pre .1 .0) (search needs) (s .pre .1 .1) (c .before .factorial .ensures)
-
-order-at-begin-with-requires : (t : ℕ) → order-at-lts.Need-begin-with-requires (
-  factorial-reads.Asked,
-  factorial-reads.Learnt,
-  order-at-below t,
-  order-at.Post,
-  begin-with-reads.Asked,
-  begin-with-reads.Learnt,
-) (order-at-at t) order-at.Post
-order-at-begin-with-requires t c κs =
-    let s = c .before .before .before in
-    let some : 1 ≤ s .args .n = search needs in
-    others-open (s .args .n) (s .args .number) (c .before .factorial .result) (s .pre .1 .0) some (s .pre .1 .1) (c .before .factorial .ensures) (c .order-at .result) (c .order-at .ensures)
-
-order-at-returns-2 : (t : ℕ) → order-at-lts.Need-returns-2 (
-  factorial-reads.Asked,
-  factorial-reads.Learnt,
-  order-at-below t,
-  order-at.Post,
-  begin-with-reads.Asked,
-  begin-with-reads.Learnt,
-) (order-at-at t) order-at.Post
-order-at-returns-2 t c =
-    let s = c .before .before .before .before in
-    let some : 1 ≤ s .args .n = search needs in
-    c .begin-with .ensures
-    ∙ order-begins (s .args .n) (s .args .number) (c .before .before .factorial .result) (s .pre .1 .0) some (s .pre .1 .1) (c .before .before .factorial .ensures) (c .before .order-at .result) (c .before .order-at .ensures)
-
-pub +order-at-spec : {M : Type 1} → statement M
-+order-at-spec = close μ-order-at λ t. order-at-lts.spec (
+-- what order_at asks of the functions that it calls and learns of them, below t
+abbrev order-at-callees : ℕ → order-at-lts.Claims
+order-at-callees t = (
   factorial-reads.Asked,
   factorial-reads.Learnt,
   order-at-below t,
@@ -136,7 +33,59 @@ pub +order-at-spec : {M : Type 1} → statement M
   begin-with-reads.Asked,
   begin-with-reads.Learnt,
 )
-    (order-at-at t)
+
+order-at-returns :
+    (t : ℕ) → order-at-lts.Need-returns (order-at-callees t) (order-at-at t) order-at.Post
+order-at-returns t c = order-none (c .before .args .n) (c .before .args .number) (search needs)
+
+order-at-sub-factorial :
+    (t : ℕ) → order-at-lts.Need-sub-factorial (order-at-callees t) (order-at-at t) order-at.Post
+order-at-sub-factorial t c = search needs
+
+order-at-factorial-requires :
+    (t : ℕ) → order-at-lts.Need-factorial-requires (order-at-callees t) (order-at-at t) order-at.Post
+order-at-factorial-requires t c κs = search needs
+
+order-at-sub-order-at :
+    (t : ℕ) → order-at-lts.Need-sub-order-at (order-at-callees t) (order-at-at t) order-at.Post
+order-at-sub-order-at t c = search needs
+
+order-at-rem-order-at :
+    (t : ℕ) → order-at-lts.Need-rem-order-at (order-at-callees t) (order-at-at t) order-at.Post
+order-at-rem-order-at t c =
+    let s = c .before .before in
+    others-some (s .args .n) (s .args .number) (c .factorial .result) (s .pre .1 .0) (search needs) (s .pre .1 .1) (c .factorial .ensures)
+
+order-at-order-at-requires :
+    (t : ℕ) → order-at-lts.Need-order-at-requires (order-at-callees t) (order-at-at t) order-at.Post
+order-at-order-at-requires t c κs =
+    let s = c .before .before in
+    let some : 1 ≤ s .args .n = search needs in
+    (search needs, (search needs, rest-below (s .args .n) (s .args .number) (c .factorial .result) (s .pre .1 .0) some (s .pre .1 .1) (c .factorial .ensures)))
+
+order-at-div-begin-with :
+    (t : ℕ) → order-at-lts.Need-div-begin-with (order-at-callees t) (order-at-at t) order-at.Post
+order-at-div-begin-with t c =
+    let s = c .before .before .before in
+    others-some (s .args .n) (s .args .number) (c .before .factorial .result) (s .pre .1 .0) (search needs) (s .pre .1 .1) (c .before .factorial .ensures)
+
+order-at-begin-with-requires :
+    (t : ℕ) → order-at-lts.Need-begin-with-requires (order-at-callees t) (order-at-at t) order-at.Post
+order-at-begin-with-requires t c κs =
+    let s = c .before .before .before in
+    let some : 1 ≤ s .args .n = search needs in
+    others-open (s .args .n) (s .args .number) (c .before .factorial .result) (s .pre .1 .0) some (s .pre .1 .1) (c .before .factorial .ensures) (c .order-at .result) (c .order-at .ensures)
+
+order-at-returns-2 :
+    (t : ℕ) → order-at-lts.Need-returns-2 (order-at-callees t) (order-at-at t) order-at.Post
+order-at-returns-2 t c =
+    let s = c .before .before .before .before in
+    let some : 1 ≤ s .args .n = search needs in
+    c .begin-with .ensures
+    ∙ order-begins (s .args .n) (s .args .number) (c .before .before .factorial .result) (s .pre .1 .0) some (s .pre .1 .1) (c .before .before .factorial .ensures) (c .before .order-at .result) (c .before .order-at .ensures)
+
+pub +order-at-spec : {M : Type 1} → statement M
++order-at-spec = close μ-order-at λ t. order-at-lts.spec (order-at-callees t) (order-at-at t)
     order-at.Post
     (order-at-returns t)
     (order-at-sub-factorial t)

@@ -58,193 +58,121 @@ project-node-below t =
     (falls 2 project-node-kinds.ps _<_ μ-project-node t)
     project-node.Pre
 
-project-children-element-copy-out-wide : (t : ℕ) → project-children-lts.Need-element-copy-out-wide (
+-- what project_children asks of the functions that it calls and learns of them, below t
+abbrev project-children-callees : ℕ → project-children-lts.Claims
+project-children-callees t = (
   wide-reads.Asked,
   wide-reads.Learnt,
   project-node-below t,
   project-node.Post,
   project-children-below t,
   project-children.Post,
-) (project-children-at t) project-children.Post
+)
+
+-- what project_node asks of the functions that it calls and learns of them, below t
+abbrev project-node-callees : ℕ → project-node-lts.Claims
+project-node-callees t = (
+  wide-reads.Asked,
+  wide-reads.Learnt,
+  row-of-reads.Asked,
+  row-of-reads.Learnt,
+  project-children-below t,
+  project-children.Post,
+  place-reads.Asked,
+  place-reads.Learnt,
+  settle-reads.Asked,
+  settle-reads.Learnt,
+)
+
+project-children-element-copy-out-wide :
+    (t : ℕ) → project-children-lts.Need-element-copy-out-wide (project-children-callees t) (project-children-at t) project-children.Post
 project-children-element-copy-out-wide t c = search needs
 
-project-children-wide-requires : (t : ℕ) → project-children-lts.Need-wide-requires (
-  wide-reads.Asked,
-  wide-reads.Learnt,
-  project-node-below t,
-  project-node.Post,
-  project-children-below t,
-  project-children.Post,
-) (project-children-at t) project-children.Post
+project-children-wide-requires :
+    (t : ℕ) → project-children-lts.Need-wide-requires (project-children-callees t) (project-children-at t) project-children.Post
 project-children-wide-requires t c κs = search needs
 
-project-children-returns : (t : ℕ) → project-children-lts.Need-returns (
-  wide-reads.Asked,
-  wide-reads.Learnt,
-  project-node-below t,
-  project-node.Post,
-  project-children-below t,
-  project-children.Post,
-) (project-children-at t) project-children.Post
+project-children-returns :
+    (t : ℕ) → project-children-lts.Need-returns (project-children-callees t) (project-children-at t) project-children.Post
 project-children-returns t c =
     let b = c .before .before .before in
     children-done (b .args .cells .now) (b .args .table .now) (b .args .row .now) (b .args .expr) (b .args .k) (b .pre .1) (omega (arith, children-count (b .args .row .now), c .before .wide .ensures, c .if1 .taken))
 
-project-children-add-project-node : (t : ℕ) → project-children-lts.Need-add-project-node (
-  wide-reads.Asked,
-  wide-reads.Learnt,
-  project-node-below t,
-  project-node.Post,
-  project-children-below t,
-  project-children.Post,
-) (project-children-at t) project-children.Post
+project-children-add-project-node :
+    (t : ℕ) → project-children-lts.Need-add-project-node (project-children-callees t) (project-children-at t) project-children.Post
 project-children-add-project-node t c =
     let b = c .before .before .before .before .before in
     omega (arith, children-count (b .args .row .now), c .before .before .before .wide .ensures, c .before .before .if1 .left, b .pre .1 .few)
 
-project-children-mul-project-node : (t : ℕ) → project-children-lts.Need-mul-project-node (
-  wide-reads.Asked,
-  wide-reads.Learnt,
-  project-node-below t,
-  project-node.Post,
-  project-children-below t,
-  project-children.Post,
-) (project-children-at t) project-children.Post
+project-children-mul-project-node :
+    (t : ℕ) → project-children-lts.Need-mul-project-node (project-children-callees t) (project-children-at t) project-children.Post
 project-children-mul-project-node t c =
     let b = c .before .before .before .before .before in
     omega (arith, children-count (b .args .row .now), c .before .before .before .wide .ensures, c .before .before .if1 .left, b .pre .1 .few)
 
 project-children-element-copy-out-project-node :
-    (t : ℕ) → project-children-lts.Need-element-copy-out-project-node (
-      wide-reads.Asked,
-      wide-reads.Learnt,
-      project-node-below t,
-      project-node.Post,
-      project-children-below t,
-      project-children.Post,
-    ) (project-children-at t) project-children.Post
+    (t : ℕ) → project-children-lts.Need-element-copy-out-project-node (project-children-callees t) (project-children-at t) project-children.Post
 project-children-element-copy-out-project-node t c =
     let b = c .before .before .before .before .before in
     omega (arith, children-count (b .args .row .now), c .before .before .before .wide .ensures, c .before .before .if1 .left, b .pre .1 .few)
 
-project-children-project-node-requires : (t : ℕ) → project-children-lts.Need-project-node-requires (
-  wide-reads.Asked,
-  wide-reads.Learnt,
-  project-node-below t,
-  project-node.Post,
-  project-children-below t,
-  project-children.Post,
-) (project-children-at t) project-children.Post
+project-children-project-node-requires :
+    (t : ℕ) → project-children-lts.Need-project-node-requires (project-children-callees t) (project-children-at t) project-children.Post
 project-children-project-node-requires t c κs =
     let b = c .before .before .before .before .before .before in
     let l : b .args .k < length (childrenOf (b .args .row .now)) = omega (arith, children-count (b .args .row .now), c .before .before .before .before .wide .ensures, c .before .before .before .if1 .left) in
     (omega (arith, child-lower (b .args .cells .now) (b .args .table .now) (b .args .row .now) (b .args .expr) (b .args .k) (b .pre .1) l, b .pre .0, b .pre .1 .few), child-ready (b .args .cells .now) (b .args .table .now) (b .args .row .now) (b .args .expr) (b .args .k) (b .pre .1) l)
 
-project-children-enum-known-i : (t : ℕ) → project-children-lts.Need-enum-known-i (
-  wide-reads.Asked,
-  wide-reads.Learnt,
-  project-node-below t,
-  project-node.Post,
-  project-children-below t,
-  project-children.Post,
-) (project-children-at t) project-children.Post
+project-children-enum-known-i :
+    (t : ℕ) → project-children-lts.Need-enum-known-i (project-children-callees t) (project-children-at t) project-children.Post
 project-children-enum-known-i t c = search needs
 
-project-children-enum-told : (t : ℕ) → project-children-lts.Need-enum-told (
-  wide-reads.Asked,
-  wide-reads.Learnt,
-  project-node-below t,
-  project-node.Post,
-  project-children-below t,
-  project-children.Post,
-) (project-children-at t) project-children.Post
+project-children-enum-told :
+    (t : ℕ) → project-children-lts.Need-enum-told (project-children-callees t) (project-children-at t) project-children.Post
 project-children-enum-told t c = search needs
 
-project-children-returns-2 : (t : ℕ) → project-children-lts.Need-returns-2 (
-  wide-reads.Asked,
-  wide-reads.Learnt,
-  project-node-below t,
-  project-node.Post,
-  project-children-below t,
-  project-children.Post,
-) (project-children-at t) project-children.Post
+project-children-returns-2 :
+    (t : ℕ) → project-children-lts.Need-returns-2 (project-children-callees t) (project-children-at t) project-children.Post
 project-children-returns-2 t c =
     let b = c .before .before .before .before .before .before .before .before .before in
     let l : b .args .k < length (childrenOf (b .args .row .now)) = omega (arith, children-count (b .args .row .now), c .before .before .before .before .before .before .before .wide .ensures, c .before .before .before .before .before .before .if1 .left) in
     let x = c .before .before .project-node in
     child-full (b .args .cells .now) (b .args .table .now) (b .args .row .now) (b .args .expr) (b .args .k) (b .pre .1) l (x .last .0) (x .last .1 .0) (x .result) (x .ensures) (c .enum-told .given .0 .0) (c .enum-told .given .1)
 
-project-children-add-row : (t : ℕ) → project-children-lts.Need-add-row (
-  wide-reads.Asked,
-  wide-reads.Learnt,
-  project-node-below t,
-  project-node.Post,
-  project-children-below t,
-  project-children.Post,
-) (project-children-at t) project-children.Post
+project-children-add-row :
+    (t : ℕ) → project-children-lts.Need-add-row (project-children-callees t) (project-children-at t) project-children.Post
 project-children-add-row t c =
     let b = c .before .before .before .before .before .before .before .before .before .before in
     omega (arith, children-count (b .args .row .now), c .before .before .before .before .before .before .before .before .wide .ensures, c .before .before .before .before .before .before .before .if1 .left, b .pre .1 .few)
 
-project-children-mul-row : (t : ℕ) → project-children-lts.Need-mul-row (
-  wide-reads.Asked,
-  wide-reads.Learnt,
-  project-node-below t,
-  project-node.Post,
-  project-children-below t,
-  project-children.Post,
-) (project-children-at t) project-children.Post
+project-children-mul-row :
+    (t : ℕ) → project-children-lts.Need-mul-row (project-children-callees t) (project-children-at t) project-children.Post
 project-children-mul-row t c =
     let b = c .before .before .before .before .before .before .before .before .before .before in
     omega (arith, children-count (b .args .row .now), c .before .before .before .before .before .before .before .before .wide .ensures, c .before .before .before .before .before .before .before .if1 .left, b .pre .1 .few)
 
-project-children-element-write-row : (t : ℕ) → project-children-lts.Need-element-write-row (
-  wide-reads.Asked,
-  wide-reads.Learnt,
-  project-node-below t,
-  project-node.Post,
-  project-children-below t,
-  project-children.Post,
-) (project-children-at t) project-children.Post
+project-children-element-write-row :
+    (t : ℕ) → project-children-lts.Need-element-write-row (project-children-callees t) (project-children-at t) project-children.Post
 project-children-element-write-row t c =
     let b = c .before .before .before .before .before .before .before .before .before .before in
     omega (arith, children-count (b .args .row .now), c .before .before .before .before .before .before .before .before .wide .ensures, c .before .before .before .before .before .before .before .if1 .left, b .pre .1 .few)
 
-project-children-add-project-children : (t : ℕ) → project-children-lts.Need-add-project-children (
-  wide-reads.Asked,
-  wide-reads.Learnt,
-  project-node-below t,
-  project-node.Post,
-  project-children-below t,
-  project-children.Post,
-) (project-children-at t) project-children.Post
+project-children-add-project-children :
+    (t : ℕ) → project-children-lts.Need-add-project-children (project-children-callees t) (project-children-at t) project-children.Post
 project-children-add-project-children t c =
     let b = c .before .before .before .before .before .before .before .before .before .before .before .before .before in
     omega (arith, children-count (b .args .row .now), c .before .before .before .before .before .before .before .before .before .before .before .wide .ensures, c .before .before .before .before .before .before .before .before .before .before .if1 .left, b .pre .1 .few)
 
 project-children-project-children-requires :
-    (t : ℕ) → project-children-lts.Need-project-children-requires (
-      wide-reads.Asked,
-      wide-reads.Learnt,
-      project-node-below t,
-      project-node.Post,
-      project-children-below t,
-      project-children.Post,
-    ) (project-children-at t) project-children.Post
+    (t : ℕ) → project-children-lts.Need-project-children-requires (project-children-callees t) (project-children-at t) project-children.Post
 project-children-project-children-requires t c κs =
     let b = c .before .before .before .before .before .before .before .before .before .before .before .before .before in
     let l : b .args .k < length (childrenOf (b .args .row .now)) = omega (arith, children-count (b .args .row .now), c .before .before .before .before .before .before .before .before .before .before .before .wide .ensures, c .before .before .before .before .before .before .before .before .before .before .if1 .left) in
     let x = c .before .before .before .before .before .before .project-node in
     (omega (arith, l, b .pre .0, b .pre .1 .few), others-ready (b .args .cells .now) (b .args .table .now) (b .args .row .now) (b .args .expr) (b .args .k) (b .pre .1) l (x .last .0) (x .last .1 .0) (x .result) (x .ensures) (c .before .before .before .before .i .given .0 .0) (c .before .before .before .before .i .given .1))
 
-project-children-returns-3 : (t : ℕ) → project-children-lts.Need-returns-3 (
-  wide-reads.Asked,
-  wide-reads.Learnt,
-  project-node-below t,
-  project-node.Post,
-  project-children-below t,
-  project-children.Post,
-) (project-children-at t) project-children.Post
+project-children-returns-3 :
+    (t : ℕ) → project-children-lts.Need-returns-3 (project-children-callees t) (project-children-at t) project-children.Post
 project-children-returns-3 t c =
     let b = c .before .before .before .before .before .before .before .before .before .before .before .before .before .before in
     let l : b .args .k < length (childrenOf (b .args .row .now)) = omega (arith, children-count (b .args .row .now), c .before .before .before .before .before .before .before .before .before .before .before .before .wide .ensures, c .before .before .before .before .before .before .before .before .before .before .before .if1 .left) in
@@ -252,133 +180,53 @@ project-children-returns-3 t c =
     let y = c .project-children in
     others-walked (b .args .cells .now) (b .args .table .now) (b .args .row .now) (b .args .expr) (b .args .k) (b .pre .1) l (x .last .0) (x .last .1 .0) (x .result) (x .ensures) (c .before .before .before .before .before .i .given .0 .0) (c .before .before .before .before .before .i .given .1) (y .last .0) (y .last .1 .0) (y .last .1 .1 .0) (y .result) (y .ensures)
 
-project-node-wide-requires : (t : ℕ) → project-node-lts.Need-wide-requires (
-  wide-reads.Asked,
-  wide-reads.Learnt,
-  row-of-reads.Asked,
-  row-of-reads.Learnt,
-  project-children-below t,
-  project-children.Post,
-  place-reads.Asked,
-  place-reads.Learnt,
-  settle-reads.Asked,
-  settle-reads.Learnt,
-) (project-node-at t) project-node.Post
+project-node-wide-requires :
+    (t : ℕ) → project-node-lts.Need-wide-requires (project-node-callees t) (project-node-at t) project-node.Post
 project-node-wide-requires t c κs = search needs
 
-project-node-mul-entry : (t : ℕ) → project-node-lts.Need-mul-entry (
-  wide-reads.Asked,
-  wide-reads.Learnt,
-  row-of-reads.Asked,
-  row-of-reads.Learnt,
-  project-children-below t,
-  project-children.Post,
-  place-reads.Asked,
-  place-reads.Learnt,
-  settle-reads.Asked,
-  settle-reads.Learnt,
-) (project-node-at t) project-node.Post
+project-node-mul-entry :
+    (t : ℕ) → project-node-lts.Need-mul-entry (project-node-callees t) (project-node-at t) project-node.Post
 project-node-mul-entry t c =
     let b = c .before in
     omega (arith, c .wide .ensures, ready-below (b .args .cells .now) (b .args .table .now) (b .args .expr) (b .pre .1), b .pre .1 .holds .few)
 
-project-node-element-copy-out-entry : (t : ℕ) → project-node-lts.Need-element-copy-out-entry (
-  wide-reads.Asked,
-  wide-reads.Learnt,
-  row-of-reads.Asked,
-  row-of-reads.Learnt,
-  project-children-below t,
-  project-children.Post,
-  place-reads.Asked,
-  place-reads.Learnt,
-  settle-reads.Asked,
-  settle-reads.Learnt,
-) (project-node-at t) project-node.Post
+project-node-element-copy-out-entry :
+    (t : ℕ) → project-node-lts.Need-element-copy-out-entry (project-node-callees t) (project-node-at t) project-node.Post
 project-node-element-copy-out-entry t c =
     let b = c .before in
     omega (arith, c .wide .ensures, ready-below (b .args .cells .now) (b .args .table .now) (b .args .expr) (b .pre .1), b .pre .1 .holds .few)
 
-project-node-sub-t13 : (t : ℕ) → project-node-lts.Need-sub-t13 (
-  wide-reads.Asked,
-  wide-reads.Learnt,
-  row-of-reads.Asked,
-  row-of-reads.Learnt,
-  project-children-below t,
-  project-children.Post,
-  place-reads.Asked,
-  place-reads.Learnt,
-  settle-reads.Asked,
-  settle-reads.Learnt,
-) (project-node-at t) project-node.Post
+project-node-sub-t13 :
+    (t : ℕ) → project-node-lts.Need-sub-t13 (project-node-callees t) (project-node-at t) project-node.Post
 project-node-sub-t13 t c =
     let b = c .before .before .before in
     let v = c .before .before .wide .ensures in
     let n : getD (b .args .table .now) (c .before .before .wide .result) 0 ≡ getD (b .args .table .now) (b .args .expr) 0 = ap (λ (k : ℕ). getD (b .args .table .now) k 0) v in
     omega (arith, n, b .pre .1 .projects, c .if1 .taken)
 
-project-node-returns : (t : ℕ) → project-node-lts.Need-returns (
-  wide-reads.Asked,
-  wide-reads.Learnt,
-  row-of-reads.Asked,
-  row-of-reads.Learnt,
-  project-children-below t,
-  project-children.Post,
-  place-reads.Asked,
-  place-reads.Learnt,
-  settle-reads.Asked,
-  settle-reads.Learnt,
-) (project-node-at t) project-node.Post
+project-node-returns :
+    (t : ℕ) → project-node-lts.Need-returns (project-node-callees t) (project-node-at t) project-node.Post
 project-node-returns t c =
     let b = c .before .before .before in
     let v = c .before .before .wide .ensures in
     rw v (entry-answers (b .args .cells .now) (b .args .table .now) (b .args .expr) (b .pre .1) (λ z. c .if1 .taken (ap (λ (k : ℕ). getD (b .args .table .now) k 0) v ∙ z)))
 
-project-node-row-of-requires : (t : ℕ) → project-node-lts.Need-row-of-requires (
-  wide-reads.Asked,
-  wide-reads.Learnt,
-  row-of-reads.Asked,
-  row-of-reads.Learnt,
-  project-children-below t,
-  project-children.Post,
-  place-reads.Asked,
-  place-reads.Learnt,
-  settle-reads.Asked,
-  settle-reads.Learnt,
-) (project-node-at t) project-node.Post
+project-node-row-of-requires :
+    (t : ℕ) → project-node-lts.Need-row-of-requires (project-node-callees t) (project-node-at t) project-node.Post
 project-node-row-of-requires t c κs =
     let b = c .before .before .before .before in
     omega (arith, c .before .before .before .wide .ensures, ready-below (b .args .cells .now) (b .args .table .now) (b .args .expr) (b .pre .1), b .pre .1 .holds .few)
 
-project-node-project-children-requires : (t : ℕ) → project-node-lts.Need-project-children-requires (
-  wide-reads.Asked,
-  wide-reads.Learnt,
-  row-of-reads.Asked,
-  row-of-reads.Learnt,
-  project-children-below t,
-  project-children.Post,
-  place-reads.Asked,
-  place-reads.Learnt,
-  settle-reads.Asked,
-  settle-reads.Learnt,
-) (project-node-at t) project-node.Post
+project-node-project-children-requires :
+    (t : ℕ) → project-node-lts.Need-project-children-requires (project-node-callees t) (project-node-at t) project-node.Post
 project-node-project-children-requires t c κs =
     let b = c .before .before .before .before .before .before .before .before in
     let v = c .before .before .before .before .before .before .before .wide .ensures in
     let o : getD (b .args .table .now) (b .args .expr) 0 ≡ 1 = ap (λ (k : ℕ). getD (b .args .table .now) k 0) (sym v) ∙ c .before .before .before .before .before .if1 .left in
     (omega (arith, b .pre .0), children-ready (b .args .cells .now) (b .args .table .now) (b .args .expr) (b .pre .1) o (c .before .before .before .row-of .result) (rw v at (c .before .before .before .row-of .ensures)))
 
-project-node-returns-2 : (t : ℕ) → project-node-lts.Need-returns-2 (
-  wide-reads.Asked,
-  wide-reads.Learnt,
-  row-of-reads.Asked,
-  row-of-reads.Learnt,
-  project-children-below t,
-  project-children.Post,
-  place-reads.Asked,
-  place-reads.Learnt,
-  settle-reads.Asked,
-  settle-reads.Learnt,
-) (project-node-at t) project-node.Post
+project-node-returns-2 :
+    (t : ℕ) → project-node-lts.Need-returns-2 (project-node-callees t) (project-node-at t) project-node.Post
 project-node-returns-2 t c =
     let b = c .before .before .before .before .before .before .before .before .before .before in
     let v = c .before .before .before .before .before .before .before .before .before .wide .ensures in
@@ -388,18 +236,8 @@ project-node-returns-2 t c =
     let w = subst (WalkedFrom (b .args .cells .now) (b .args .table .now) r (x .last .0) (x .last .1 .0) (x .last .1 .1 .0) (b .args .expr) 0) (not-true _ (c .if2 .taken)) (x .ensures) in
     children-full (b .args .cells .now) (b .args .table .now) (b .args .expr) (b .pre .1) o r (rw v at (c .before .before .before .before .before .row-of .ensures)) (x .last .0) (x .last .1 .0) (x .last .1 .1 .0) w 3
 
-project-node-place-requires : (t : ℕ) → project-node-lts.Need-place-requires (
-  wide-reads.Asked,
-  wide-reads.Learnt,
-  row-of-reads.Asked,
-  row-of-reads.Learnt,
-  project-children-below t,
-  project-children.Post,
-  place-reads.Asked,
-  place-reads.Learnt,
-  settle-reads.Asked,
-  settle-reads.Learnt,
-) (project-node-at t) project-node.Post
+project-node-place-requires :
+    (t : ℕ) → project-node-lts.Need-place-requires (project-node-callees t) (project-node-at t) project-node.Post
 project-node-place-requires t c κs =
     let b = c .before .before .before .before .before .before .before .before .before .before .before .before in
     let v = c .before .before .before .before .before .before .before .before .before .before .before .wide .ensures in
@@ -409,18 +247,8 @@ project-node-place-requires t c κs =
     let w = subst (WalkedFrom (b .args .cells .now) (b .args .table .now) r (x .last .0) (x .last .1 .0) (x .last .1 .1 .0) (b .args .expr) 0) (not-false _ (c .before .before .if2 .left)) (x .ensures) in
     operation-placeable (b .args .cells .now) (b .args .table .now) (b .args .expr) (b .pre .1) o r (rw v at (c .before .before .before .before .before .before .before .row-of .ensures)) (x .last .0) (x .last .1 .0) (x .last .1 .1 .0) w
 
-project-node-settle-requires : (t : ℕ) → project-node-lts.Need-settle-requires (
-  wide-reads.Asked,
-  wide-reads.Learnt,
-  row-of-reads.Asked,
-  row-of-reads.Learnt,
-  project-children-below t,
-  project-children.Post,
-  place-reads.Asked,
-  place-reads.Learnt,
-  settle-reads.Asked,
-  settle-reads.Learnt,
-) (project-node-at t) project-node.Post
+project-node-settle-requires :
+    (t : ℕ) → project-node-lts.Need-settle-requires (project-node-callees t) (project-node-at t) project-node.Post
 project-node-settle-requires t c κs =
     let b = c .before .before .before .before .before .before .before .before .before .before .before .before .before .before in
     let v = c .before .before .before .before .before .before .before .before .before .before .before .before .before .wide .ensures in
@@ -433,18 +261,8 @@ project-node-settle-requires t c κs =
     let m = operation-placeable (b .args .cells .now) (b .args .table .now) (b .args .expr) (b .pre .1) o r q (x .last .0) (x .last .1 .0) (x .last .1 .1 .0) w in
     (omega (arith, v, ready-below (b .args .cells .now) (b .args .table .now) (b .args .expr) (b .pre .1), b .pre .1 .holds .few), answer-small (b .args .cells .now) (b .args .table .now) (b .args .expr) (b .pre .1) o r q (x .last .0) (x .last .1 .0) (x .last .1 .1 .0) w (y .last .0) (y .result) (placed-row (x .last .1 .1 .0) (x .last .0) (y .last .0) (y .result) m (y .ensures)))
 
-project-node-returns-3 : (t : ℕ) → project-node-lts.Need-returns-3 (
-  wide-reads.Asked,
-  wide-reads.Learnt,
-  row-of-reads.Asked,
-  row-of-reads.Learnt,
-  project-children-below t,
-  project-children.Post,
-  place-reads.Asked,
-  place-reads.Learnt,
-  settle-reads.Asked,
-  settle-reads.Learnt,
-) (project-node-at t) project-node.Post
+project-node-returns-3 :
+    (t : ℕ) → project-node-lts.Need-returns-3 (project-node-callees t) (project-node-at t) project-node.Post
 project-node-returns-3 t c =
     let b = c .before .before .before .before .before .before .before .before .before .before .before .before .before .before .before in
     let v = c .before .before .before .before .before .before .before .before .before .before .before .before .before .before .wide .ensures in
@@ -459,15 +277,7 @@ project-node-returns-3 t c =
 
 pub +project-children+project-node-spec : {M : Type 1} → statement M
 +project-children+project-node-spec =
-    close μ-project-children μ-project-node (λ t. project-children-lts.spec (
-      wide-reads.Asked,
-      wide-reads.Learnt,
-      project-node-below t,
-      project-node.Post,
-      project-children-below t,
-      project-children.Post,
-    )
-    (project-children-at t)
+    close μ-project-children μ-project-node (λ t. project-children-lts.spec (project-children-callees t) (project-children-at t)
     project-children.Post
     (project-children-element-copy-out-wide t)
     (project-children-wide-requires t)
@@ -485,19 +295,7 @@ pub +project-children+project-node-spec : {M : Type 1} → statement M
     (project-children-add-project-children t)
     (project-children-project-children-requires t)
     (project-children-returns-3 t))
-    λ t. project-node-lts.spec (
-      wide-reads.Asked,
-      wide-reads.Learnt,
-      row-of-reads.Asked,
-      row-of-reads.Learnt,
-      project-children-below t,
-      project-children.Post,
-      place-reads.Asked,
-      place-reads.Learnt,
-      settle-reads.Asked,
-      settle-reads.Learnt,
-    )
-    (project-node-at t)
+    λ t. project-node-lts.spec (project-node-callees t) (project-node-at t)
     project-node.Post
     (project-node-wide-requires t)
     (project-node-mul-entry t)

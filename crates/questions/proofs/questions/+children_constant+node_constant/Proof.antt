@@ -55,72 +55,55 @@ node-constant-below t =
     (falls 3 node-constant-kinds.ps _<_ μ-node-constant t)
     node-constant.Pre
 
+-- what children_constant asks of the functions that it calls and learns of them, below t
+abbrev children-constant-callees : ℕ → children-constant-lts.Claims
+children-constant-callees t = (
+  wide-reads.Asked,
+  wide-reads.Learnt,
+  child-in-reads.Asked,
+  child-in-reads.Learnt,
+  node-constant-below t,
+  node-constant.Post,
+)
+
+-- what node_constant asks of the functions that it calls and learns of them, below t
+abbrev node-constant-callees : ℕ → node-constant-lts.Claims
+node-constant-callees t = (
+  wide-reads.Asked,
+  wide-reads.Learnt,
+  cell-of-reads.Asked,
+  cell-of-reads.Learnt,
+  child-count-reads.Asked,
+  child-count-reads.Learnt,
+  children-constant-below t,
+  children-constant.Post,
+)
+
 abbrev children-constant-Inv-loop : children-constant-lts.InvT-loop
 children-constant-Inv-loop cells marks seen₀ e n k₀ seen k = Passing cells marks e n seen k
 
 abbrev children-constant-μ-loop : children-constant-lts.MeasureT-loop
 children-constant-μ-loop cells marks seen₀ e n k₀ seen k = n - k
 
-children-constant-loop-holds : (t : ℕ) → children-constant-lts.Need-loop-holds (
-  wide-reads.Asked,
-  wide-reads.Learnt,
-  child-in-reads.Asked,
-  child-in-reads.Learnt,
-  node-constant-below t,
-  node-constant.Post,
-)
-    (children-constant-at t)
-    children-constant.Post
-    children-constant-Inv-loop
-    children-constant-μ-loop
+children-constant-loop-holds :
+    (t : ℕ) → children-constant-lts.Need-loop-holds (children-constant-callees t) (children-constant-at t) children-constant.Post children-constant-Inv-loop children-constant-μ-loop
 children-constant-loop-holds t c =
     let s = c .args in
     passing-begins (s .cells .now) (s .marks .now) (s .seen .now) (s .e) (s .n) (c .pre .1)
 
-children-constant-wide-requires : (t : ℕ) → children-constant-lts.Need-wide-requires (
-  wide-reads.Asked,
-  wide-reads.Learnt,
-  child-in-reads.Asked,
-  child-in-reads.Learnt,
-  node-constant-below t,
-  node-constant.Post,
-)
-    (children-constant-at t)
-    children-constant.Post
-    children-constant-Inv-loop
-    children-constant-μ-loop
+children-constant-wide-requires :
+    (t : ℕ) → children-constant-lts.Need-wide-requires (children-constant-callees t) (children-constant-at t) children-constant.Post children-constant-Inv-loop children-constant-μ-loop
 children-constant-wide-requires t c κs = search needs
 
-children-constant-child-in-requires : (t : ℕ) → children-constant-lts.Need-child-in-requires (
-  wide-reads.Asked,
-  wide-reads.Learnt,
-  child-in-reads.Asked,
-  child-in-reads.Learnt,
-  node-constant-below t,
-  node-constant.Post,
-)
-    (children-constant-at t)
-    children-constant.Post
-    children-constant-Inv-loop
-    children-constant-μ-loop
+children-constant-child-in-requires :
+    (t : ℕ) → children-constant-lts.Need-child-in-requires (children-constant-callees t) (children-constant-at t) children-constant.Post children-constant-Inv-loop children-constant-μ-loop
 children-constant-child-in-requires t c κs =
     let s = c .before .before .before .args in
     let q = c .before .before .before .pre .1 in
     rw (c .wide .ensures) (q .asked .known, child-there (s .cells .now) (s .marks .now) (s .seen .now) (s .e) (s .n) q (c .before .before .loop .seen) (c .before .before .loop .k) (c .before .before .loop .inv) (c .before .loop-test .taken))
 
 children-constant-node-constant-requires :
-    (t : ℕ) → children-constant-lts.Need-node-constant-requires (
-      wide-reads.Asked,
-      wide-reads.Learnt,
-      child-in-reads.Asked,
-      child-in-reads.Learnt,
-      node-constant-below t,
-      node-constant.Post,
-    )
-    (children-constant-at t)
-    children-constant.Post
-    children-constant-Inv-loop
-    children-constant-μ-loop
+    (t : ℕ) → children-constant-lts.Need-node-constant-requires (children-constant-callees t) (children-constant-at t) children-constant.Post children-constant-Inv-loop children-constant-μ-loop
 children-constant-node-constant-requires t c κs =
     let s = c .before .before .before .before .before .args in
     let q = c .before .before .before .before .before .pre .1 in
@@ -128,18 +111,8 @@ children-constant-node-constant-requires t c κs =
     let low = child-less (s .cells .now) (s .marks .now) (s .seen .now) (s .e) (s .n) q (c .before .before .before .before .loop .seen) (c .before .before .before .before .loop .k) (c .before .before .before .before .loop .inv) (c .before .before .before .loop-test .taken) in
     (omega (arith, low, ex, c .before .before .before .before .before .pre .0), child-asked (s .cells .now) (s .marks .now) (s .seen .now) (s .e) (s .n) q (c .before .before .before .before .loop .seen) (c .before .before .before .before .loop .k) (c .before .before .before .before .loop .inv) (c .before .before .before .loop-test .taken) (c .before .child-in .result) ex)
 
-children-constant-returns : (t : ℕ) → children-constant-lts.Need-returns (
-  wide-reads.Asked,
-  wide-reads.Learnt,
-  child-in-reads.Asked,
-  child-in-reads.Learnt,
-  node-constant-below t,
-  node-constant.Post,
-)
-    (children-constant-at t)
-    children-constant.Post
-    children-constant-Inv-loop
-    children-constant-μ-loop
+children-constant-returns :
+    (t : ℕ) → children-constant-lts.Need-returns (children-constant-callees t) (children-constant-at t) children-constant.Post children-constant-Inv-loop children-constant-μ-loop
 children-constant-returns t c =
     let s = c .before .before .before .before .before .before .before .args in
     let ex = rw (c .before .before .before .before .wide .ensures) at (c .before .before .before .child-in .ensures) in
@@ -147,46 +120,16 @@ children-constant-returns t c =
     let w = subst (AnsweredConstant (s .cells .now) (s .marks .now) t (c .before .before .before .child-in .result)) (not-true _ (c .if1 .taken)) (c .before .node-constant .ensures) in
     passing-stops (s .cells .now) (s .marks .now) (s .seen .now) (s .e) (s .n) (c .before .before .before .before .before .before .before .pre .1) (c .before .before .before .before .before .before .loop .seen) (c .before .before .before .before .before .before .loop .k) (c .before .before .before .before .before .before .loop .inv) (c .before .before .before .before .before .loop-test .taken) (c .before .before .before .child-in .result) ex t w
 
-children-constant-add-k : (t : ℕ) → children-constant-lts.Need-add-k (
-  wide-reads.Asked,
-  wide-reads.Learnt,
-  child-in-reads.Asked,
-  child-in-reads.Learnt,
-  node-constant-below t,
-  node-constant.Post,
-)
-    (children-constant-at t)
-    children-constant.Post
-    children-constant-Inv-loop
-    children-constant-μ-loop
+children-constant-add-k :
+    (t : ℕ) → children-constant-lts.Need-add-k (children-constant-callees t) (children-constant-at t) children-constant.Post children-constant-Inv-loop children-constant-μ-loop
 children-constant-add-k t c = search needs
 
-children-constant-loop-less : (t : ℕ) → children-constant-lts.Need-loop-less (
-  wide-reads.Asked,
-  wide-reads.Learnt,
-  child-in-reads.Asked,
-  child-in-reads.Learnt,
-  node-constant-below t,
-  node-constant.Post,
-)
-    (children-constant-at t)
-    children-constant.Post
-    children-constant-Inv-loop
-    children-constant-μ-loop
+children-constant-loop-less :
+    (t : ℕ) → children-constant-lts.Need-loop-less (children-constant-callees t) (children-constant-at t) children-constant.Post children-constant-Inv-loop children-constant-μ-loop
 children-constant-loop-less t c = search needs
 
-children-constant-loop-again : (t : ℕ) → children-constant-lts.Need-loop-again (
-  wide-reads.Asked,
-  wide-reads.Learnt,
-  child-in-reads.Asked,
-  child-in-reads.Learnt,
-  node-constant-below t,
-  node-constant.Post,
-)
-    (children-constant-at t)
-    children-constant.Post
-    children-constant-Inv-loop
-    children-constant-μ-loop
+children-constant-loop-again :
+    (t : ℕ) → children-constant-lts.Need-loop-again (children-constant-callees t) (children-constant-at t) children-constant.Post children-constant-Inv-loop children-constant-μ-loop
 children-constant-loop-again t c =
     let s = c .before .before .before .before .before .before .before .args in
     let ex = rw (c .before .before .before .before .wide .ensures) at (c .before .before .before .child-in .ensures) in
@@ -194,148 +137,58 @@ children-constant-loop-again t c =
     let w = subst (AnsweredConstant (s .cells .now) (s .marks .now) t (c .before .before .before .child-in .result)) (not-false _ (c .if1 .left)) (c .before .node-constant .ensures) in
     passing-on (s .cells .now) (s .marks .now) (s .seen .now) (s .e) (s .n) (c .before .before .before .before .before .before .before .pre .1) (c .before .before .before .before .before .before .loop .seen) (c .before .before .before .before .before .before .loop .k) (c .before .before .before .before .before .before .loop .inv) (c .before .before .before .before .before .loop-test .taken) (c .before .before .before .child-in .result) ex t w
 
-children-constant-returns-2 : (t : ℕ) → children-constant-lts.Need-returns-2 (
-  wide-reads.Asked,
-  wide-reads.Learnt,
-  child-in-reads.Asked,
-  child-in-reads.Learnt,
-  node-constant-below t,
-  node-constant.Post,
-)
-    (children-constant-at t)
-    children-constant.Post
-    children-constant-Inv-loop
-    children-constant-μ-loop
+children-constant-returns-2 :
+    (t : ℕ) → children-constant-lts.Need-returns-2 (children-constant-callees t) (children-constant-at t) children-constant.Post children-constant-Inv-loop children-constant-μ-loop
 children-constant-returns-2 t c =
     let s = c .before .before .args in
     passing-ends (s .cells .now) (s .marks .now) (s .seen .now) (s .e) (s .n) (c .before .before .pre .1) (c .before .loop .seen) (c .before .loop .k) (c .before .loop .inv) (c .loop-test .left)
 
-node-constant-wide-requires : (t : ℕ) → node-constant-lts.Need-wide-requires (
-  wide-reads.Asked,
-  wide-reads.Learnt,
-  cell-of-reads.Asked,
-  cell-of-reads.Learnt,
-  child-count-reads.Asked,
-  child-count-reads.Learnt,
-  children-constant-below t,
-  children-constant.Post,
-) (node-constant-at t) node-constant.Post
+node-constant-wide-requires :
+    (t : ℕ) → node-constant-lts.Need-wide-requires (node-constant-callees t) (node-constant-at t) node-constant.Post
 node-constant-wide-requires t c κs = search needs
 
-node-constant-cell-of-requires : (t : ℕ) → node-constant-lts.Need-cell-of-requires (
-  wide-reads.Asked,
-  wide-reads.Learnt,
-  cell-of-reads.Asked,
-  cell-of-reads.Learnt,
-  child-count-reads.Asked,
-  child-count-reads.Learnt,
-  children-constant-below t,
-  children-constant.Post,
-) (node-constant-at t) node-constant.Post
+node-constant-cell-of-requires :
+    (t : ℕ) → node-constant-lts.Need-cell-of-requires (node-constant-callees t) (node-constant-at t) node-constant.Post
 node-constant-cell-of-requires t c κs = search needs
 
-node-constant-returns : (t : ℕ) → node-constant-lts.Need-returns (
-  wide-reads.Asked,
-  wide-reads.Learnt,
-  cell-of-reads.Asked,
-  cell-of-reads.Learnt,
-  child-count-reads.Asked,
-  child-count-reads.Learnt,
-  children-constant-below t,
-  children-constant.Post,
-) (node-constant-at t) node-constant.Post
+node-constant-returns :
+    (t : ℕ) → node-constant-lts.Need-returns (node-constant-callees t) (node-constant-at t) node-constant.Post
 node-constant-returns t c =
     let s = c .before .before .before .args in
     let m = rw (c .before .before .wide .ensures) at (c .before .cell-of .ensures) in
     literal-answered (s .cells .now) (s .marks .now) (s .seen .now) (s .e) (c .before .before .before .pre .1) (sym m ∙ c .if1 .taken)
 
-node-constant-mul-if2 : (t : ℕ) → node-constant-lts.Need-mul-if2 (
-  wide-reads.Asked,
-  wide-reads.Learnt,
-  cell-of-reads.Asked,
-  cell-of-reads.Learnt,
-  child-count-reads.Asked,
-  child-count-reads.Learnt,
-  children-constant-below t,
-  children-constant.Post,
-) (node-constant-at t) node-constant.Post
+node-constant-mul-if2 :
+    (t : ℕ) → node-constant-lts.Need-mul-if2 (node-constant-callees t) (node-constant-at t) node-constant.Post
 node-constant-mul-if2 t c = search needs
 
-node-constant-element-copy-out-if2 : (t : ℕ) → node-constant-lts.Need-element-copy-out-if2 (
-  wide-reads.Asked,
-  wide-reads.Learnt,
-  cell-of-reads.Asked,
-  cell-of-reads.Learnt,
-  child-count-reads.Asked,
-  child-count-reads.Learnt,
-  children-constant-below t,
-  children-constant.Post,
-) (node-constant-at t) node-constant.Post
+node-constant-element-copy-out-if2 :
+    (t : ℕ) → node-constant-lts.Need-element-copy-out-if2 (node-constant-callees t) (node-constant-at t) node-constant.Post
 node-constant-element-copy-out-if2 t c = search needs
 
-node-constant-returns-2 : (t : ℕ) → node-constant-lts.Need-returns-2 (
-  wide-reads.Asked,
-  wide-reads.Learnt,
-  cell-of-reads.Asked,
-  cell-of-reads.Learnt,
-  child-count-reads.Asked,
-  child-count-reads.Learnt,
-  children-constant-below t,
-  children-constant.Post,
-) (node-constant-at t) node-constant.Post
+node-constant-returns-2 :
+    (t : ℕ) → node-constant-lts.Need-returns-2 (node-constant-callees t) (node-constant-at t) node-constant.Post
 node-constant-returns-2 t c =
     let s = c .before .before .before .before .before .args in
     let m = rw (c .before .before .before .before .wide .ensures) at (c .before .before .before .cell-of .ensures) in
     class-constant (s .cells .now) (s .marks .now) (s .seen .now) (s .e) (c .before .before .before .before .before .pre .1) (λ z. c .before .before .if1 .left (m ∙ z)) (rw (c .before .before .before .before .wide .ensures) at (c .if2 .taken))
 
-node-constant-element-copy-out-if3 : (t : ℕ) → node-constant-lts.Need-element-copy-out-if3 (
-  wide-reads.Asked,
-  wide-reads.Learnt,
-  cell-of-reads.Asked,
-  cell-of-reads.Learnt,
-  child-count-reads.Asked,
-  child-count-reads.Learnt,
-  children-constant-below t,
-  children-constant.Post,
-) (node-constant-at t) node-constant.Post
+node-constant-element-copy-out-if3 :
+    (t : ℕ) → node-constant-lts.Need-element-copy-out-if3 (node-constant-callees t) (node-constant-at t) node-constant.Post
 node-constant-element-copy-out-if3 t c = search needs
 
-node-constant-returns-3 : (t : ℕ) → node-constant-lts.Need-returns-3 (
-  wide-reads.Asked,
-  wide-reads.Learnt,
-  cell-of-reads.Asked,
-  cell-of-reads.Learnt,
-  child-count-reads.Asked,
-  child-count-reads.Learnt,
-  children-constant-below t,
-  children-constant.Post,
-) (node-constant-at t) node-constant.Post
+node-constant-returns-3 :
+    (t : ℕ) → node-constant-lts.Need-returns-3 (node-constant-callees t) (node-constant-at t) node-constant.Post
 node-constant-returns-3 t c =
     let s = c .before .before .before .before .before .before .before .args in
     seen-answered (s .cells .now) (s .marks .now) (s .seen .now) (s .e) (c .before .before .before .before .before .before .before .pre .1) (rw (c .before .before .before .before .before .before .wide .ensures) at (c .if3 .taken))
 
-node-constant-child-count-requires : (t : ℕ) → node-constant-lts.Need-child-count-requires (
-  wide-reads.Asked,
-  wide-reads.Learnt,
-  cell-of-reads.Asked,
-  cell-of-reads.Learnt,
-  child-count-reads.Asked,
-  child-count-reads.Learnt,
-  children-constant-below t,
-  children-constant.Post,
-) (node-constant-at t) node-constant.Post
+node-constant-child-count-requires :
+    (t : ℕ) → node-constant-lts.Need-child-count-requires (node-constant-callees t) (node-constant-at t) node-constant.Post
 node-constant-child-count-requires t c κs = search needs
 
-node-constant-returns-4 : (t : ℕ) → node-constant-lts.Need-returns-4 (
-  wide-reads.Asked,
-  wide-reads.Learnt,
-  cell-of-reads.Asked,
-  cell-of-reads.Learnt,
-  child-count-reads.Asked,
-  child-count-reads.Learnt,
-  children-constant-below t,
-  children-constant.Post,
-) (node-constant-at t) node-constant.Post
+node-constant-returns-4 :
+    (t : ℕ) → node-constant-lts.Need-returns-4 (node-constant-callees t) (node-constant-at t) node-constant.Post
 node-constant-returns-4 t c =
     let s = c .before .before .before .before .before .before .before .before .before .args in
     let m = rw (c .before .before .before .before .before .before .before .before .wide .ensures) at (c .before .before .before .before .before .before .before .cell-of .ensures) in
@@ -343,32 +196,15 @@ node-constant-returns-4 t c =
     leaf-constant (s .cells .now) (s .marks .now) (s .seen .now) (s .e) (c .before .before .before .before .before .before .before .before .before .pre .1) (λ z. c .before .before .before .before .before .before .if1 .left (m ∙ z)) (rw (c .before .before .before .before .before .before .before .before .wide .ensures) at (c .before .before .before .before .if2 .left)) (sym n ∙ c .if4 .taken)
 
 node-constant-children-constant-requires :
-    (t : ℕ) → node-constant-lts.Need-children-constant-requires (
-      wide-reads.Asked,
-      wide-reads.Learnt,
-      cell-of-reads.Asked,
-      cell-of-reads.Learnt,
-      child-count-reads.Asked,
-      child-count-reads.Learnt,
-      children-constant-below t,
-      children-constant.Post,
-    ) (node-constant-at t) node-constant.Post
+    (t : ℕ) → node-constant-lts.Need-children-constant-requires (node-constant-callees t) (node-constant-at t) node-constant.Post
 node-constant-children-constant-requires t c κs =
     let s = c .before .before .before .before .before .before .before .before .before .before .args in
     let m = rw (c .before .before .before .before .before .before .before .before .before .wide .ensures) at (c .before .before .before .before .before .before .before .before .cell-of .ensures) in
     let n = rw (c .before .before .before .before .before .before .before .before .before .wide .ensures) at (c .before .before .child-count .ensures) in
     (omega (arith, c .before .before .before .before .before .before .before .before .before .before .pre .0), constants-asked (s .cells .now) (s .marks .now) (s .seen .now) (s .e) (c .before .before .before .before .before .before .before .before .before .before .pre .1) (λ z. c .before .before .before .before .before .before .before .if1 .left (m ∙ z)) (rw (c .before .before .before .before .before .before .before .before .before .wide .ensures) at (c .before .before .before .before .before .if2 .left)) (c .before .before .child-count .result) n (c .before .if4 .left))
 
-node-constant-returns-5 : (t : ℕ) → node-constant-lts.Need-returns-5 (
-  wide-reads.Asked,
-  wide-reads.Learnt,
-  cell-of-reads.Asked,
-  cell-of-reads.Learnt,
-  child-count-reads.Asked,
-  child-count-reads.Learnt,
-  children-constant-below t,
-  children-constant.Post,
-) (node-constant-at t) node-constant.Post
+node-constant-returns-5 :
+    (t : ℕ) → node-constant-lts.Need-returns-5 (node-constant-callees t) (node-constant-at t) node-constant.Post
 node-constant-returns-5 t c =
     let s = c .before .before .before .before .before .before .before .before .before .before .before .before .args in
     let m = rw (c .before .before .before .before .before .before .before .before .before .before .before .wide .ensures) at (c .before .before .before .before .before .before .before .before .before .before .cell-of .ensures) in
@@ -377,28 +213,12 @@ node-constant-returns-5 t c =
     let w = subst (AnsweredConstants (s .cells .now) (s .marks .now) t (s .e) (c .before .before .before .before .child-count .result)) (not-true _ (c .if5 .taken)) (c .before .children-constant .ensures) in
     constants-answered (s .cells .now) (s .marks .now) (s .seen .now) (s .e) (c .before .before .before .before .before .before .before .before .before .before .before .before .pre .1) (λ z. c .before .before .before .before .before .before .before .before .before .if1 .left (m ∙ z)) (rw (c .before .before .before .before .before .before .before .before .before .before .before .wide .ensures) at (c .before .before .before .before .before .before .before .if2 .left)) (c .before .before .before .before .child-count .result) n (c .before .before .before .if4 .left) t w
 
-node-constant-element-write-seen : (t : ℕ) → node-constant-lts.Need-element-write-seen (
-  wide-reads.Asked,
-  wide-reads.Learnt,
-  cell-of-reads.Asked,
-  cell-of-reads.Learnt,
-  child-count-reads.Asked,
-  child-count-reads.Learnt,
-  children-constant-below t,
-  children-constant.Post,
-) (node-constant-at t) node-constant.Post
+node-constant-element-write-seen :
+    (t : ℕ) → node-constant-lts.Need-element-write-seen (node-constant-callees t) (node-constant-at t) node-constant.Post
 node-constant-element-write-seen t c = search needs
 
-node-constant-returns-6 : (t : ℕ) → node-constant-lts.Need-returns-6 (
-  wide-reads.Asked,
-  wide-reads.Learnt,
-  cell-of-reads.Asked,
-  cell-of-reads.Learnt,
-  child-count-reads.Asked,
-  child-count-reads.Learnt,
-  children-constant-below t,
-  children-constant.Post,
-) (node-constant-at t) node-constant.Post
+node-constant-returns-6 :
+    (t : ℕ) → node-constant-lts.Need-returns-6 (node-constant-callees t) (node-constant-at t) node-constant.Post
 node-constant-returns-6 t c =
     let s = c .before .before .before .before .before .before .before .before .before .before .before .before .args in
     let m = rw (c .before .before .before .before .before .before .before .before .before .before .before .wide .ensures) at (c .before .before .before .before .before .before .before .before .before .before .cell-of .ensures) in
@@ -409,15 +229,7 @@ node-constant-returns-6 t c =
 
 pub +children-constant+node-constant-spec : {M : Type 1} → statement M
 +children-constant+node-constant-spec =
-    close μ-children-constant μ-node-constant (λ t. children-constant-lts.spec (
-      wide-reads.Asked,
-      wide-reads.Learnt,
-      child-in-reads.Asked,
-      child-in-reads.Learnt,
-      node-constant-below t,
-      node-constant.Post,
-    )
-    (children-constant-at t)
+    close μ-children-constant μ-node-constant (λ t. children-constant-lts.spec (children-constant-callees t) (children-constant-at t)
     children-constant.Post
     children-constant-Inv-loop
     children-constant-μ-loop
@@ -430,17 +242,7 @@ pub +children-constant+node-constant-spec : {M : Type 1} → statement M
     (children-constant-loop-less t)
     (children-constant-loop-again t)
     (children-constant-returns-2 t))
-    λ t. node-constant-lts.spec (
-      wide-reads.Asked,
-      wide-reads.Learnt,
-      cell-of-reads.Asked,
-      cell-of-reads.Learnt,
-      child-count-reads.Asked,
-      child-count-reads.Learnt,
-      children-constant-below t,
-      children-constant.Post,
-    )
-    (node-constant-at t)
+    λ t. node-constant-lts.spec (node-constant-callees t) (node-constant-at t)
     node-constant.Post
     (node-constant-wide-requires t)
     (node-constant-cell-of-requires t)

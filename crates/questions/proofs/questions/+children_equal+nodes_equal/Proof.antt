@@ -54,78 +54,72 @@ abbrev nodes-equal-below : ℕ → In 3 nodes-equal-kinds.ps
 nodes-equal-below t =
     and 3 nodes-equal-kinds.ps (falls 3 nodes-equal-kinds.ps _<_ μ-nodes-equal t) nodes-equal.Pre
 
+-- what children_equal asks of the functions that it calls and learns of them, below t
+abbrev children-equal-callees : ℕ → children-equal-lts.Claims
+children-equal-callees t = (
+  wide-reads.Asked,
+  wide-reads.Learnt,
+  child-in-reads.Asked,
+  child-in-reads.Learnt,
+  nodes-equal-below t,
+  nodes-equal.Post,
+)
+
+-- what nodes_equal asks of the functions that it calls and learns of them, below t
+abbrev nodes-equal-callees : ℕ → nodes-equal-lts.Claims
+nodes-equal-callees t = (
+  wide-reads.Asked,
+  wide-reads.Learnt,
+  same-place-reads.Asked,
+  same-place-reads.Learnt,
+  children-pair-up-reads.Asked,
+  children-pair-up-reads.Learnt,
+  has-pair-reads.Asked,
+  has-pair-reads.Learnt,
+  child-count-reads.Asked,
+  child-count-reads.Learnt,
+  children-equal-below t,
+  children-equal.Post,
+  add-pair-reads.Asked,
+  add-pair-reads.Learnt,
+)
+
 abbrev children-equal-Inv-loop : children-equal-lts.InvT-loop
 children-equal-Inv-loop cells places seen₀ a b n k₀ seen k = Going cells places a b n seen k
 
 abbrev children-equal-μ-loop : children-equal-lts.MeasureT-loop
 children-equal-μ-loop cells places seen₀ a b n k₀ seen k = n - k
 
-children-equal-loop-holds : (t : ℕ) → children-equal-lts.Need-loop-holds (
-  wide-reads.Asked,
-  wide-reads.Learnt,
-  child-in-reads.Asked,
-  child-in-reads.Learnt,
-  nodes-equal-below t,
-  nodes-equal.Post,
-) (children-equal-at t) children-equal.Post children-equal-Inv-loop children-equal-μ-loop
+children-equal-loop-holds :
+    (t : ℕ) → children-equal-lts.Need-loop-holds (children-equal-callees t) (children-equal-at t) children-equal.Post children-equal-Inv-loop children-equal-μ-loop
 children-equal-loop-holds t c =
     let s = c .args in
     going-begins (s .cells .now) (s .places .now) (s .seen .now) (s .a) (s .b) (s .n) (c .pre .1)
 
-children-equal-wide-requires : (t : ℕ) → children-equal-lts.Need-wide-requires (
-  wide-reads.Asked,
-  wide-reads.Learnt,
-  child-in-reads.Asked,
-  child-in-reads.Learnt,
-  nodes-equal-below t,
-  nodes-equal.Post,
-) (children-equal-at t) children-equal.Post children-equal-Inv-loop children-equal-μ-loop
+children-equal-wide-requires :
+    (t : ℕ) → children-equal-lts.Need-wide-requires (children-equal-callees t) (children-equal-at t) children-equal.Post children-equal-Inv-loop children-equal-μ-loop
 children-equal-wide-requires t c κs = search needs
 
-children-equal-child-in-requires : (t : ℕ) → children-equal-lts.Need-child-in-requires (
-  wide-reads.Asked,
-  wide-reads.Learnt,
-  child-in-reads.Asked,
-  child-in-reads.Learnt,
-  nodes-equal-below t,
-  nodes-equal.Post,
-) (children-equal-at t) children-equal.Post children-equal-Inv-loop children-equal-μ-loop
+children-equal-child-in-requires :
+    (t : ℕ) → children-equal-lts.Need-child-in-requires (children-equal-callees t) (children-equal-at t) children-equal.Post children-equal-Inv-loop children-equal-μ-loop
 children-equal-child-in-requires t c κs =
     let s = c .before .before .before .args in
     let q = c .before .before .before .pre .1 in
     rw (c .wide .ensures) (q .asked .left, left-there (s .cells .now) (s .places .now) (s .seen .now) (s .a) (s .b) (s .n) q (c .before .before .loop .seen) (c .before .before .loop .k) (c .before .before .loop .inv) (c .before .loop-test .taken))
 
-children-equal-wide-requires-2 : (t : ℕ) → children-equal-lts.Need-wide-requires-2 (
-  wide-reads.Asked,
-  wide-reads.Learnt,
-  child-in-reads.Asked,
-  child-in-reads.Learnt,
-  nodes-equal-below t,
-  nodes-equal.Post,
-) (children-equal-at t) children-equal.Post children-equal-Inv-loop children-equal-μ-loop
+children-equal-wide-requires-2 :
+    (t : ℕ) → children-equal-lts.Need-wide-requires-2 (children-equal-callees t) (children-equal-at t) children-equal.Post children-equal-Inv-loop children-equal-μ-loop
 children-equal-wide-requires-2 t c κs = search needs
 
-children-equal-child-in-requires-2 : (t : ℕ) → children-equal-lts.Need-child-in-requires-2 (
-  wide-reads.Asked,
-  wide-reads.Learnt,
-  child-in-reads.Asked,
-  child-in-reads.Learnt,
-  nodes-equal-below t,
-  nodes-equal.Post,
-) (children-equal-at t) children-equal.Post children-equal-Inv-loop children-equal-μ-loop
+children-equal-child-in-requires-2 :
+    (t : ℕ) → children-equal-lts.Need-child-in-requires-2 (children-equal-callees t) (children-equal-at t) children-equal.Post children-equal-Inv-loop children-equal-μ-loop
 children-equal-child-in-requires-2 t c κs =
     let s = c .before .before .before .before .before .args in
     let q = c .before .before .before .before .before .pre .1 in
     rw (c .wide2 .ensures) (q .asked .right, right-there (s .cells .now) (s .places .now) (s .seen .now) (s .a) (s .b) (s .n) q (c .before .before .before .before .loop .seen) (c .before .before .before .before .loop .k) (c .before .before .before .before .loop .inv) (c .before .before .before .loop-test .taken))
 
-children-equal-nodes-equal-requires : (t : ℕ) → children-equal-lts.Need-nodes-equal-requires (
-  wide-reads.Asked,
-  wide-reads.Learnt,
-  child-in-reads.Asked,
-  child-in-reads.Learnt,
-  nodes-equal-below t,
-  nodes-equal.Post,
-) (children-equal-at t) children-equal.Post children-equal-Inv-loop children-equal-μ-loop
+children-equal-nodes-equal-requires :
+    (t : ℕ) → children-equal-lts.Need-nodes-equal-requires (children-equal-callees t) (children-equal-at t) children-equal.Post children-equal-Inv-loop children-equal-μ-loop
 children-equal-nodes-equal-requires t c κs =
     let s = c .before .before .before .before .before .before .before .args in
     let q = c .before .before .before .before .before .before .before .pre .1 in
@@ -134,14 +128,8 @@ children-equal-nodes-equal-requires t c κs =
     let low = left-lower (s .cells .now) (s .places .now) (s .seen .now) (s .a) (s .b) (s .n) q (c .before .before .before .before .before .before .loop .seen) (c .before .before .before .before .before .before .loop .k) (c .before .before .before .before .before .before .loop .inv) (c .before .before .before .before .before .loop-test .taken) in
     (omega (arith, low, ex, c .before .before .before .before .before .before .before .pre .0), pair-asked (s .cells .now) (s .places .now) (s .seen .now) (s .a) (s .b) (s .n) q (c .before .before .before .before .before .before .loop .seen) (c .before .before .before .before .before .before .loop .k) (c .before .before .before .before .before .before .loop .inv) (c .before .before .before .before .before .loop-test .taken) (c .before .before .before .child-in .result) (c .before .child-in2 .result) ex ey)
 
-children-equal-returns : (t : ℕ) → children-equal-lts.Need-returns (
-  wide-reads.Asked,
-  wide-reads.Learnt,
-  child-in-reads.Asked,
-  child-in-reads.Learnt,
-  nodes-equal-below t,
-  nodes-equal.Post,
-) (children-equal-at t) children-equal.Post children-equal-Inv-loop children-equal-μ-loop
+children-equal-returns :
+    (t : ℕ) → children-equal-lts.Need-returns (children-equal-callees t) (children-equal-at t) children-equal.Post children-equal-Inv-loop children-equal-μ-loop
 children-equal-returns t c =
     let s = c .before .before .before .before .before .before .before .before .before .args in
     let ex = rw (c .before .before .before .before .before .before .wide .ensures) at (c .before .before .before .before .before .child-in .ensures) in
@@ -150,34 +138,16 @@ children-equal-returns t c =
     let w = subst (Answered (s .cells .now) (s .places .now) t (c .before .before .before .before .before .child-in .result) (c .before .before .before .child-in2 .result)) (not-true _ (c .if1 .taken)) (c .before .nodes-equal .ensures) in
     going-stops (s .cells .now) (s .places .now) (s .seen .now) (s .a) (s .b) (s .n) (c .before .before .before .before .before .before .before .before .before .pre .1) (c .before .before .before .before .before .before .before .before .loop .seen) (c .before .before .before .before .before .before .before .before .loop .k) (c .before .before .before .before .before .before .before .before .loop .inv) (c .before .before .before .before .before .before .before .loop-test .taken) (c .before .before .before .before .before .child-in .result) (c .before .before .before .child-in2 .result) ex ey t w
 
-children-equal-add-k : (t : ℕ) → children-equal-lts.Need-add-k (
-  wide-reads.Asked,
-  wide-reads.Learnt,
-  child-in-reads.Asked,
-  child-in-reads.Learnt,
-  nodes-equal-below t,
-  nodes-equal.Post,
-) (children-equal-at t) children-equal.Post children-equal-Inv-loop children-equal-μ-loop
+children-equal-add-k :
+    (t : ℕ) → children-equal-lts.Need-add-k (children-equal-callees t) (children-equal-at t) children-equal.Post children-equal-Inv-loop children-equal-μ-loop
 children-equal-add-k t c = search needs
 
-children-equal-loop-less : (t : ℕ) → children-equal-lts.Need-loop-less (
-  wide-reads.Asked,
-  wide-reads.Learnt,
-  child-in-reads.Asked,
-  child-in-reads.Learnt,
-  nodes-equal-below t,
-  nodes-equal.Post,
-) (children-equal-at t) children-equal.Post children-equal-Inv-loop children-equal-μ-loop
+children-equal-loop-less :
+    (t : ℕ) → children-equal-lts.Need-loop-less (children-equal-callees t) (children-equal-at t) children-equal.Post children-equal-Inv-loop children-equal-μ-loop
 children-equal-loop-less t c = search needs
 
-children-equal-loop-again : (t : ℕ) → children-equal-lts.Need-loop-again (
-  wide-reads.Asked,
-  wide-reads.Learnt,
-  child-in-reads.Asked,
-  child-in-reads.Learnt,
-  nodes-equal-below t,
-  nodes-equal.Post,
-) (children-equal-at t) children-equal.Post children-equal-Inv-loop children-equal-μ-loop
+children-equal-loop-again :
+    (t : ℕ) → children-equal-lts.Need-loop-again (children-equal-callees t) (children-equal-at t) children-equal.Post children-equal-Inv-loop children-equal-μ-loop
 children-equal-loop-again t c =
     let s = c .before .before .before .before .before .before .before .before .before .args in
     let ex = rw (c .before .before .before .before .before .before .wide .ensures) at (c .before .before .before .before .before .child-in .ensures) in
@@ -186,226 +156,66 @@ children-equal-loop-again t c =
     let w = subst (Answered (s .cells .now) (s .places .now) t (c .before .before .before .before .before .child-in .result) (c .before .before .before .child-in2 .result)) (not-false _ (c .if1 .left)) (c .before .nodes-equal .ensures) in
     going-on (s .cells .now) (s .places .now) (s .seen .now) (s .a) (s .b) (s .n) (c .before .before .before .before .before .before .before .before .before .pre .1) (c .before .before .before .before .before .before .before .before .loop .seen) (c .before .before .before .before .before .before .before .before .loop .k) (c .before .before .before .before .before .before .before .before .loop .inv) (c .before .before .before .before .before .before .before .loop-test .taken) (c .before .before .before .before .before .child-in .result) (c .before .before .before .child-in2 .result) ex ey t w
 
-children-equal-returns-2 : (t : ℕ) → children-equal-lts.Need-returns-2 (
-  wide-reads.Asked,
-  wide-reads.Learnt,
-  child-in-reads.Asked,
-  child-in-reads.Learnt,
-  nodes-equal-below t,
-  nodes-equal.Post,
-) (children-equal-at t) children-equal.Post children-equal-Inv-loop children-equal-μ-loop
+children-equal-returns-2 :
+    (t : ℕ) → children-equal-lts.Need-returns-2 (children-equal-callees t) (children-equal-at t) children-equal.Post children-equal-Inv-loop children-equal-μ-loop
 children-equal-returns-2 t c =
     let s = c .before .before .args in
     going-ends (s .cells .now) (s .places .now) (s .seen .now) (s .a) (s .b) (s .n) (c .before .before .pre .1) (c .before .loop .seen) (c .before .loop .k) (c .before .loop .inv) (c .loop-test .left)
 
-nodes-equal-returns : (t : ℕ) → nodes-equal-lts.Need-returns (
-  wide-reads.Asked,
-  wide-reads.Learnt,
-  same-place-reads.Asked,
-  same-place-reads.Learnt,
-  children-pair-up-reads.Asked,
-  children-pair-up-reads.Learnt,
-  has-pair-reads.Asked,
-  has-pair-reads.Learnt,
-  child-count-reads.Asked,
-  child-count-reads.Learnt,
-  children-equal-below t,
-  children-equal.Post,
-  add-pair-reads.Asked,
-  add-pair-reads.Learnt,
-) (nodes-equal-at t) nodes-equal.Post
+nodes-equal-returns :
+    (t : ℕ) → nodes-equal-lts.Need-returns (nodes-equal-callees t) (nodes-equal-at t) nodes-equal.Post
 nodes-equal-returns t c =
     let s = c .before .args in
     self-answered (s .cells .now) (s .places .now) (s .seen .now) (s .a) (s .b) (c .before .pre .1) (c .if1 .taken)
 
-nodes-equal-wide-requires : (t : ℕ) → nodes-equal-lts.Need-wide-requires (
-  wide-reads.Asked,
-  wide-reads.Learnt,
-  same-place-reads.Asked,
-  same-place-reads.Learnt,
-  children-pair-up-reads.Asked,
-  children-pair-up-reads.Learnt,
-  has-pair-reads.Asked,
-  has-pair-reads.Learnt,
-  child-count-reads.Asked,
-  child-count-reads.Learnt,
-  children-equal-below t,
-  children-equal.Post,
-  add-pair-reads.Asked,
-  add-pair-reads.Learnt,
-) (nodes-equal-at t) nodes-equal.Post
+nodes-equal-wide-requires :
+    (t : ℕ) → nodes-equal-lts.Need-wide-requires (nodes-equal-callees t) (nodes-equal-at t) nodes-equal.Post
 nodes-equal-wide-requires t c κs = search needs
 
-nodes-equal-wide-requires-2 : (t : ℕ) → nodes-equal-lts.Need-wide-requires-2 (
-  wide-reads.Asked,
-  wide-reads.Learnt,
-  same-place-reads.Asked,
-  same-place-reads.Learnt,
-  children-pair-up-reads.Asked,
-  children-pair-up-reads.Learnt,
-  has-pair-reads.Asked,
-  has-pair-reads.Learnt,
-  child-count-reads.Asked,
-  child-count-reads.Learnt,
-  children-equal-below t,
-  children-equal.Post,
-  add-pair-reads.Asked,
-  add-pair-reads.Learnt,
-) (nodes-equal-at t) nodes-equal.Post
+nodes-equal-wide-requires-2 :
+    (t : ℕ) → nodes-equal-lts.Need-wide-requires-2 (nodes-equal-callees t) (nodes-equal-at t) nodes-equal.Post
 nodes-equal-wide-requires-2 t c κs = search needs
 
-nodes-equal-same-place-requires : (t : ℕ) → nodes-equal-lts.Need-same-place-requires (
-  wide-reads.Asked,
-  wide-reads.Learnt,
-  same-place-reads.Asked,
-  same-place-reads.Learnt,
-  children-pair-up-reads.Asked,
-  children-pair-up-reads.Learnt,
-  has-pair-reads.Asked,
-  has-pair-reads.Learnt,
-  child-count-reads.Asked,
-  child-count-reads.Learnt,
-  children-equal-below t,
-  children-equal.Post,
-  add-pair-reads.Asked,
-  add-pair-reads.Learnt,
-) (nodes-equal-at t) nodes-equal.Post
+nodes-equal-same-place-requires :
+    (t : ℕ) → nodes-equal-lts.Need-same-place-requires (nodes-equal-callees t) (nodes-equal-at t) nodes-equal.Post
 nodes-equal-same-place-requires t c κs = search needs
 
-nodes-equal-returns-2 : (t : ℕ) → nodes-equal-lts.Need-returns-2 (
-  wide-reads.Asked,
-  wide-reads.Learnt,
-  same-place-reads.Asked,
-  same-place-reads.Learnt,
-  children-pair-up-reads.Asked,
-  children-pair-up-reads.Learnt,
-  has-pair-reads.Asked,
-  has-pair-reads.Learnt,
-  child-count-reads.Asked,
-  child-count-reads.Learnt,
-  children-equal-below t,
-  children-equal.Post,
-  add-pair-reads.Asked,
-  add-pair-reads.Learnt,
-) (nodes-equal-at t) nodes-equal.Post
+nodes-equal-returns-2 :
+    (t : ℕ) → nodes-equal-lts.Need-returns-2 (nodes-equal-callees t) (nodes-equal-at t) nodes-equal.Post
 nodes-equal-returns-2 t c =
     let s = c .before .before .before .before .before .args in
     let p = rw (c .before .before .before .wide .ensures, c .before .before .wide2 .ensures) at (c .before .same-place .ensures) in
     class-answered (s .cells .now) (s .places .now) (s .seen .now) (s .a) (s .b) (c .before .before .before .before .before .pre .1) (sym p ∙ c .if2 .taken)
 
-nodes-equal-children-pair-up-requires : (t : ℕ) → nodes-equal-lts.Need-children-pair-up-requires (
-  wide-reads.Asked,
-  wide-reads.Learnt,
-  same-place-reads.Asked,
-  same-place-reads.Learnt,
-  children-pair-up-reads.Asked,
-  children-pair-up-reads.Learnt,
-  has-pair-reads.Asked,
-  has-pair-reads.Learnt,
-  child-count-reads.Asked,
-  child-count-reads.Learnt,
-  children-equal-below t,
-  children-equal.Post,
-  add-pair-reads.Asked,
-  add-pair-reads.Learnt,
-) (nodes-equal-at t) nodes-equal.Post
+nodes-equal-children-pair-up-requires :
+    (t : ℕ) → nodes-equal-lts.Need-children-pair-up-requires (nodes-equal-callees t) (nodes-equal-at t) nodes-equal.Post
 nodes-equal-children-pair-up-requires t c κs = search needs
 
-nodes-equal-returns-3 : (t : ℕ) → nodes-equal-lts.Need-returns-3 (
-  wide-reads.Asked,
-  wide-reads.Learnt,
-  same-place-reads.Asked,
-  same-place-reads.Learnt,
-  children-pair-up-reads.Asked,
-  children-pair-up-reads.Learnt,
-  has-pair-reads.Asked,
-  has-pair-reads.Learnt,
-  child-count-reads.Asked,
-  child-count-reads.Learnt,
-  children-equal-below t,
-  children-equal.Post,
-  add-pair-reads.Asked,
-  add-pair-reads.Learnt,
-) (nodes-equal-at t) nodes-equal.Post
+nodes-equal-returns-3 :
+    (t : ℕ) → nodes-equal-lts.Need-returns-3 (nodes-equal-callees t) (nodes-equal-at t) nodes-equal.Post
 nodes-equal-returns-3 t c =
     let s = c .before .before .before .before .before .before .before .args in
     let p = rw (c .before .before .before .before .before .wide .ensures, c .before .before .before .before .wide2 .ensures) at (c .before .before .before .same-place .ensures) in
     let m = rw (c .before .before .before .before .before .wide .ensures, c .before .before .before .before .wide2 .ensures) at (c .before .children-pair-up .ensures) in
     unpaired-answered (s .cells .now) (s .places .now) (s .seen .now) (s .a) (s .b) (c .before .before .before .before .before .before .before .pre .1) (c .before .before .before .before .before .before .if1 .left) (sym p ∙ c .before .before .if2 .left) (sym m ∙ not-true _ (c .if3 .taken))
 
-nodes-equal-has-pair-requires : (t : ℕ) → nodes-equal-lts.Need-has-pair-requires (
-  wide-reads.Asked,
-  wide-reads.Learnt,
-  same-place-reads.Asked,
-  same-place-reads.Learnt,
-  children-pair-up-reads.Asked,
-  children-pair-up-reads.Learnt,
-  has-pair-reads.Asked,
-  has-pair-reads.Learnt,
-  child-count-reads.Asked,
-  child-count-reads.Learnt,
-  children-equal-below t,
-  children-equal.Post,
-  add-pair-reads.Asked,
-  add-pair-reads.Learnt,
-) (nodes-equal-at t) nodes-equal.Post
+nodes-equal-has-pair-requires :
+    (t : ℕ) → nodes-equal-lts.Need-has-pair-requires (nodes-equal-callees t) (nodes-equal-at t) nodes-equal.Post
 nodes-equal-has-pair-requires t c κs = search needs
 
-nodes-equal-returns-4 : (t : ℕ) → nodes-equal-lts.Need-returns-4 (
-  wide-reads.Asked,
-  wide-reads.Learnt,
-  same-place-reads.Asked,
-  same-place-reads.Learnt,
-  children-pair-up-reads.Asked,
-  children-pair-up-reads.Learnt,
-  has-pair-reads.Asked,
-  has-pair-reads.Learnt,
-  child-count-reads.Asked,
-  child-count-reads.Learnt,
-  children-equal-below t,
-  children-equal.Post,
-  add-pair-reads.Asked,
-  add-pair-reads.Learnt,
-) (nodes-equal-at t) nodes-equal.Post
+nodes-equal-returns-4 :
+    (t : ℕ) → nodes-equal-lts.Need-returns-4 (nodes-equal-callees t) (nodes-equal-at t) nodes-equal.Post
 nodes-equal-returns-4 t c =
     let s = c .before .before .before .before .before .before .before .before .before .before .args in
     let h = rw (c .before .before .before .before .before .before .before .before .wide .ensures, c .before .before .before .before .before .before .before .wide2 .ensures) at (c .before .has-pair .ensures) in
     pair-answered (s .cells .now) (s .places .now) (s .seen .now) (s .a) (s .b) (c .before .before .before .before .before .before .before .before .before .before .pre .1) (sym h ∙ c .if4 .taken)
 
-nodes-equal-child-count-requires : (t : ℕ) → nodes-equal-lts.Need-child-count-requires (
-  wide-reads.Asked,
-  wide-reads.Learnt,
-  same-place-reads.Asked,
-  same-place-reads.Learnt,
-  children-pair-up-reads.Asked,
-  children-pair-up-reads.Learnt,
-  has-pair-reads.Asked,
-  has-pair-reads.Learnt,
-  child-count-reads.Asked,
-  child-count-reads.Learnt,
-  children-equal-below t,
-  children-equal.Post,
-  add-pair-reads.Asked,
-  add-pair-reads.Learnt,
-) (nodes-equal-at t) nodes-equal.Post
+nodes-equal-child-count-requires :
+    (t : ℕ) → nodes-equal-lts.Need-child-count-requires (nodes-equal-callees t) (nodes-equal-at t) nodes-equal.Post
 nodes-equal-child-count-requires t c κs = search needs
 
-nodes-equal-children-equal-requires : (t : ℕ) → nodes-equal-lts.Need-children-equal-requires (
-  wide-reads.Asked,
-  wide-reads.Learnt,
-  same-place-reads.Asked,
-  same-place-reads.Learnt,
-  children-pair-up-reads.Asked,
-  children-pair-up-reads.Learnt,
-  has-pair-reads.Asked,
-  has-pair-reads.Learnt,
-  child-count-reads.Asked,
-  child-count-reads.Learnt,
-  children-equal-below t,
-  children-equal.Post,
-  add-pair-reads.Asked,
-  add-pair-reads.Learnt,
-) (nodes-equal-at t) nodes-equal.Post
+nodes-equal-children-equal-requires :
+    (t : ℕ) → nodes-equal-lts.Need-children-equal-requires (nodes-equal-callees t) (nodes-equal-at t) nodes-equal.Post
 nodes-equal-children-equal-requires t c κs =
     let s = c .before .before .before .before .before .before .before .before .before .before .before .before .args in
     let p = rw (c .before .before .before .before .before .before .before .before .before .before .wide .ensures, c .before .before .before .before .before .before .before .before .before .wide2 .ensures) at (c .before .before .before .before .before .before .before .before .same-place .ensures) in
@@ -413,22 +223,8 @@ nodes-equal-children-equal-requires t c κs =
     let n = rw (c .before .before .before .before .before .before .before .before .before .before .wide .ensures) at (c .before .child-count .ensures) in
     (omega (arith, c .before .before .before .before .before .before .before .before .before .before .before .before .pre .0), children-asked (s .cells .now) (s .places .now) (s .seen .now) (s .a) (s .b) (c .before .before .before .before .before .before .before .before .before .before .before .before .pre .1) (c .before .before .before .before .before .before .before .before .before .before .before .if1 .left) (sym p ∙ c .before .before .before .before .before .before .before .if2 .left) (c .before .child-count .result) n (sym m ∙ not-false _ (c .before .before .before .before .before .if3 .left)))
 
-nodes-equal-returns-5 : (t : ℕ) → nodes-equal-lts.Need-returns-5 (
-  wide-reads.Asked,
-  wide-reads.Learnt,
-  same-place-reads.Asked,
-  same-place-reads.Learnt,
-  children-pair-up-reads.Asked,
-  children-pair-up-reads.Learnt,
-  has-pair-reads.Asked,
-  has-pair-reads.Learnt,
-  child-count-reads.Asked,
-  child-count-reads.Learnt,
-  children-equal-below t,
-  children-equal.Post,
-  add-pair-reads.Asked,
-  add-pair-reads.Learnt,
-) (nodes-equal-at t) nodes-equal.Post
+nodes-equal-returns-5 :
+    (t : ℕ) → nodes-equal-lts.Need-returns-5 (nodes-equal-callees t) (nodes-equal-at t) nodes-equal.Post
 nodes-equal-returns-5 t c =
     let s = c .before .before .before .before .before .before .before .before .before .before .before .before .before .before .args in
     let p = rw (c .before .before .before .before .before .before .before .before .before .before .before .before .wide .ensures, c .before .before .before .before .before .before .before .before .before .before .before .wide2 .ensures) at (c .before .before .before .before .before .before .before .before .before .before .same-place .ensures) in
@@ -438,40 +234,12 @@ nodes-equal-returns-5 t c =
     let w = subst (AnsweredAll (s .cells .now) (s .places .now) t (s .a) (s .b) (c .before .before .before .child-count .result)) (not-true _ (c .if5 .taken)) (c .before .children-equal .ensures) in
     children-answered (s .cells .now) (s .places .now) (s .seen .now) (s .a) (s .b) (c .before .before .before .before .before .before .before .before .before .before .before .before .before .before .pre .1) (c .before .before .before .before .before .before .before .before .before .before .before .before .before .if1 .left) (sym p ∙ c .before .before .before .before .before .before .before .before .before .if2 .left) (c .before .before .before .child-count .result) n (sym m ∙ not-false _ (c .before .before .before .before .before .before .before .if3 .left)) t w
 
-nodes-equal-add-pair-requires : (t : ℕ) → nodes-equal-lts.Need-add-pair-requires (
-  wide-reads.Asked,
-  wide-reads.Learnt,
-  same-place-reads.Asked,
-  same-place-reads.Learnt,
-  children-pair-up-reads.Asked,
-  children-pair-up-reads.Learnt,
-  has-pair-reads.Asked,
-  has-pair-reads.Learnt,
-  child-count-reads.Asked,
-  child-count-reads.Learnt,
-  children-equal-below t,
-  children-equal.Post,
-  add-pair-reads.Asked,
-  add-pair-reads.Learnt,
-) (nodes-equal-at t) nodes-equal.Post
+nodes-equal-add-pair-requires :
+    (t : ℕ) → nodes-equal-lts.Need-add-pair-requires (nodes-equal-callees t) (nodes-equal-at t) nodes-equal.Post
 nodes-equal-add-pair-requires t c κs = search needs
 
-nodes-equal-returns-6 : (t : ℕ) → nodes-equal-lts.Need-returns-6 (
-  wide-reads.Asked,
-  wide-reads.Learnt,
-  same-place-reads.Asked,
-  same-place-reads.Learnt,
-  children-pair-up-reads.Asked,
-  children-pair-up-reads.Learnt,
-  has-pair-reads.Asked,
-  has-pair-reads.Learnt,
-  child-count-reads.Asked,
-  child-count-reads.Learnt,
-  children-equal-below t,
-  children-equal.Post,
-  add-pair-reads.Asked,
-  add-pair-reads.Learnt,
-) (nodes-equal-at t) nodes-equal.Post
+nodes-equal-returns-6 :
+    (t : ℕ) → nodes-equal-lts.Need-returns-6 (nodes-equal-callees t) (nodes-equal-at t) nodes-equal.Post
 nodes-equal-returns-6 t c =
     let s = c .before .before .before .before .before .before .before .before .before .before .before .before .before .before .before .before .args in
     let p = rw (c .before .before .before .before .before .before .before .before .before .before .before .before .before .before .wide .ensures, c .before .before .before .before .before .before .before .before .before .before .before .before .before .wide2 .ensures) at (c .before .before .before .before .before .before .before .before .before .before .before .before .same-place .ensures) in
@@ -483,15 +251,7 @@ nodes-equal-returns-6 t c =
 
 pub +children-equal+nodes-equal-spec : {M : Type 1} → statement M
 +children-equal+nodes-equal-spec =
-    close μ-children-equal μ-nodes-equal (λ t. children-equal-lts.spec (
-      wide-reads.Asked,
-      wide-reads.Learnt,
-      child-in-reads.Asked,
-      child-in-reads.Learnt,
-      nodes-equal-below t,
-      nodes-equal.Post,
-    )
-    (children-equal-at t)
+    close μ-children-equal μ-nodes-equal (λ t. children-equal-lts.spec (children-equal-callees t) (children-equal-at t)
     children-equal.Post
     children-equal-Inv-loop
     children-equal-μ-loop
@@ -506,23 +266,7 @@ pub +children-equal+nodes-equal-spec : {M : Type 1} → statement M
     (children-equal-loop-less t)
     (children-equal-loop-again t)
     (children-equal-returns-2 t))
-    λ t. nodes-equal-lts.spec (
-      wide-reads.Asked,
-      wide-reads.Learnt,
-      same-place-reads.Asked,
-      same-place-reads.Learnt,
-      children-pair-up-reads.Asked,
-      children-pair-up-reads.Learnt,
-      has-pair-reads.Asked,
-      has-pair-reads.Learnt,
-      child-count-reads.Asked,
-      child-count-reads.Learnt,
-      children-equal-below t,
-      children-equal.Post,
-      add-pair-reads.Asked,
-      add-pair-reads.Learnt,
-    )
-    (nodes-equal-at t)
+    λ t. nodes-equal-lts.spec (nodes-equal-callees t) (nodes-equal-at t)
     nodes-equal.Post
     (nodes-equal-returns t)
     (nodes-equal-wide-requires t)

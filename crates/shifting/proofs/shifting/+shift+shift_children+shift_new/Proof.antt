@@ -70,75 +70,67 @@ abbrev shift-new-below : ℕ → In 2 shift-new-kinds.ps
 shift-new-below t =
     and 2 shift-new-kinds.ps (falls 2 shift-new-kinds.ps _<_ μ-shift-new t) shift-new.Pre
 
-shift-wide-requires : (t : ℕ) → shift-lts.Need-wide-requires (
+-- what shift asks of the functions that it calls and learns of them, below t
+abbrev shift-callees : ℕ → shift-lts.Claims
+shift-callees t = (
   wide-reads.Asked,
   wide-reads.Learnt,
   shift-new-below t,
   shift-new.Post,
   note-reads.Asked,
   note-reads.Learnt,
-) (shift-at t) shift.Post
+)
+
+-- what shift_children asks of the functions that it calls and learns of them, below t
+abbrev shift-children-callees : ℕ → shift-children-lts.Claims
+shift-children-callees t = (
+  wide-reads.Asked,
+  wide-reads.Learnt,
+  shift-below t,
+  shift.Post,
+)
+
+-- what shift_new asks of the functions that it calls and learns of them, below t
+abbrev shift-new-callees : ℕ → shift-new-lts.Claims
+shift-new-callees t = (
+  wide-reads.Asked,
+  wide-reads.Learnt,
+  cell-of-reads.Asked,
+  cell-of-reads.Learnt,
+  shift-column-reads.Asked,
+  shift-column-reads.Learnt,
+  row-of-reads.Asked,
+  row-of-reads.Learnt,
+  shift-children-below t,
+  shift-children.Post,
+  place-reads.Asked,
+  place-reads.Learnt,
+)
+
+shift-wide-requires :
+    (t : ℕ) → shift-lts.Need-wide-requires (shift-callees t) (shift-at t) shift.Post
 shift-wide-requires t c κs = search needs
 
-shift-mul-entry : (t : ℕ) → shift-lts.Need-mul-entry (
-  wide-reads.Asked,
-  wide-reads.Learnt,
-  shift-new-below t,
-  shift-new.Post,
-  note-reads.Asked,
-  note-reads.Learnt,
-) (shift-at t) shift.Post
+shift-mul-entry : (t : ℕ) → shift-lts.Need-mul-entry (shift-callees t) (shift-at t) shift.Post
 shift-mul-entry t c = search needs
 
-shift-element-copy-out-entry : (t : ℕ) → shift-lts.Need-element-copy-out-entry (
-  wide-reads.Asked,
-  wide-reads.Learnt,
-  shift-new-below t,
-  shift-new.Post,
-  note-reads.Asked,
-  note-reads.Learnt,
-) (shift-at t) shift.Post
+shift-element-copy-out-entry :
+    (t : ℕ) → shift-lts.Need-element-copy-out-entry (shift-callees t) (shift-at t) shift.Post
 shift-element-copy-out-entry t c = search needs
 
-shift-sub-t13 : (t : ℕ) → shift-lts.Need-sub-t13 (
-  wide-reads.Asked,
-  wide-reads.Learnt,
-  shift-new-below t,
-  shift-new.Post,
-  note-reads.Asked,
-  note-reads.Learnt,
-) (shift-at t) shift.Post
+shift-sub-t13 : (t : ℕ) → shift-lts.Need-sub-t13 (shift-callees t) (shift-at t) shift.Post
 shift-sub-t13 t c = search needs
 
-shift-returns : (t : ℕ) → shift-lts.Need-returns (
-  wide-reads.Asked,
-  wide-reads.Learnt,
-  shift-new-below t,
-  shift-new.Post,
-  note-reads.Asked,
-  note-reads.Learnt,
-) (shift-at t) shift.Post
+shift-returns : (t : ℕ) → shift-lts.Need-returns (shift-callees t) (shift-at t) shift.Post
 shift-returns t c =
     rw (c .before .before .wide .ensures) (memo-answers (shiftedBy (c .before .before .before .args .lift)) (c .before .before .before .args .cells .now) (c .before .before .before .args .memo .now) (c .before .before .before .args .expr) (c .before .before .before .pre .1 .known .holds) (c .before .before .before .pre .1 .memo-true) (λ z. c .if1 .taken (ap (λ (k : ℕ). getD (c .before .before .before .args .memo .now) k 0) (c .before .before .wide .ensures) ∙ z)))
 
-shift-shift-new-requires : (t : ℕ) → shift-lts.Need-shift-new-requires (
-  wide-reads.Asked,
-  wide-reads.Learnt,
-  shift-new-below t,
-  shift-new.Post,
-  note-reads.Asked,
-  note-reads.Learnt,
-) (shift-at t) shift.Post
+shift-shift-new-requires :
+    (t : ℕ) → shift-lts.Need-shift-new-requires (shift-callees t) (shift-at t) shift.Post
 shift-shift-new-requires t c κs = search needs
 
-shift-note-requires : (t : ℕ) → shift-lts.Need-note-requires (
-  wide-reads.Asked,
-  wide-reads.Learnt,
-  shift-new-below t,
-  shift-new.Post,
-  note-reads.Asked,
-  note-reads.Learnt,
-) (shift-at t) shift.Post
+shift-note-requires :
+    (t : ℕ) → shift-lts.Need-note-requires (shift-callees t) (shift-at t) shift.Post
 shift-note-requires t c κs =
     let w = c .before .shift-new .ensures in (
       omega (arith, c .before .before .before .before .before .before .wide .ensures, c .before .before .before .before .before .before .before .pre .1 .known .below, c .before .before .before .before .before .before .before .pre .1 .known .holds .few),
@@ -147,14 +139,7 @@ shift-note-requires t c κs =
           omega (arith, g .0, length-decode (c .before .shift-new .last .0), w .grew .holds .few),
     )
 
-shift-returns-2 : (t : ℕ) → shift-lts.Need-returns-2 (
-  wide-reads.Asked,
-  wide-reads.Learnt,
-  shift-new-below t,
-  shift-new.Post,
-  note-reads.Asked,
-  note-reads.Learnt,
-) (shift-at t) shift.Post
+shift-returns-2 : (t : ℕ) → shift-lts.Need-returns-2 (shift-callees t) (shift-at t) shift.Post
 shift-returns-2 t c =
     rw (c .note .ensures, c .before .before .before .before .before .before .before .wide .ensures) (memo-noted (shiftedBy (c .before .before .before .before .before .before .before .before .args .lift)) (c .before .before .before .before .before .before .before .before .args .cells .now) (c .before .before .shift-new .last .0) (c .before .before .shift-new .last .1 .0) (c .before .before .before .before .before .before .before .before .args .expr) (c .before .before .shift-new .result) (c .before .before .before .before .before .before .before .before .pre .1 .known .holds) (omega (arith, c .before .before .before .before .before .before .before .before .pre .1 .known .below, length-decode (c .before .before .before .before .before .before .before .before .args .cells .now))) (ready-small (c .before .before .before .before .before .before .before .before .args .lift) (c .before .before .before .before .before .before .before .before .args .cells .now) (c .before .before .before .before .before .before .before .before .args .memo .now) (c .before .before .before .before .before .before .before .before .args .expr) (c .before .before .before .before .before .before .before .before .pre .1)) (c .before .before .shift-new .ensures))
 
@@ -165,95 +150,55 @@ shift-children-Inv-loop cells₀ memo₀ row₀ expr lift n k₀ cells memo row 
 abbrev shift-children-μ-loop : shift-children-lts.MeasureT-loop
 shift-children-μ-loop cells₀ memo₀ row₀ expr lift n k₀ cells memo row k = n - k
 
-shift-children-element-copy-out-wide : (t : ℕ) → shift-children-lts.Need-element-copy-out-wide (
-  wide-reads.Asked,
-  wide-reads.Learnt,
-  shift-below t,
-  shift.Post,
-) (shift-children-at t) shift-children.Post shift-children-Inv-loop shift-children-μ-loop
+shift-children-element-copy-out-wide :
+    (t : ℕ) → shift-children-lts.Need-element-copy-out-wide (shift-children-callees t) (shift-children-at t) shift-children.Post shift-children-Inv-loop shift-children-μ-loop
 shift-children-element-copy-out-wide t c = search needs
 
-shift-children-wide-requires : (t : ℕ) → shift-children-lts.Need-wide-requires (
-  wide-reads.Asked,
-  wide-reads.Learnt,
-  shift-below t,
-  shift.Post,
-) (shift-children-at t) shift-children.Post shift-children-Inv-loop shift-children-μ-loop
+shift-children-wide-requires :
+    (t : ℕ) → shift-children-lts.Need-wide-requires (shift-children-callees t) (shift-children-at t) shift-children.Post shift-children-Inv-loop shift-children-μ-loop
 shift-children-wide-requires t c κs = search needs
 
-shift-children-loop-holds : (t : ℕ) → shift-children-lts.Need-loop-holds (
-  wide-reads.Asked,
-  wide-reads.Learnt,
-  shift-below t,
-  shift.Post,
-) (shift-children-at t) shift-children.Post shift-children-Inv-loop shift-children-μ-loop
+shift-children-loop-holds :
+    (t : ℕ) → shift-children-lts.Need-loop-holds (shift-children-callees t) (shift-children-at t) shift-children.Post shift-children-Inv-loop shift-children-μ-loop
 shift-children-loop-holds t c =
     (search needs, through-begins (shiftedBy (c .before .before .args .lift)) (c .before .before .args .cells .now) (c .before .before .args .row .now) (c .before .before .args .memo .now) (c .before .before .pre .1 .ready .known .holds) (c .before .before .pre .1 .ready .memo-true) (c .before .before .pre .1 .row-is))
 
-shift-children-add-shift : (t : ℕ) → shift-children-lts.Need-add-shift (
-  wide-reads.Asked,
-  wide-reads.Learnt,
-  shift-below t,
-  shift.Post,
-) (shift-children-at t) shift-children.Post shift-children-Inv-loop shift-children-μ-loop
+shift-children-add-shift :
+    (t : ℕ) → shift-children-lts.Need-add-shift (shift-children-callees t) (shift-children-at t) shift-children.Post shift-children-Inv-loop shift-children-μ-loop
 shift-children-add-shift t c =
     let l : c .before .before .before .loop .k < length (childrenOf (c .before .before .before .before .before .before .args .row .now)) = omega (arith, children-count (c .before .before .before .before .before .before .args .row .now), c .before .before .before .before .wide .ensures) in
     omega (arith, l, children-eight (c .before .before .before .before .before .before .args .lift) (c .before .before .before .before .before .before .args .cells .now) (c .before .before .before .before .before .before .args .memo .now) (c .before .before .before .before .before .before .args .row .now) (c .before .before .before .before .before .before .args .expr) (c .before .before .before .before .before .before .pre .1))
 
-shift-children-mul-shift : (t : ℕ) → shift-children-lts.Need-mul-shift (
-  wide-reads.Asked,
-  wide-reads.Learnt,
-  shift-below t,
-  shift.Post,
-) (shift-children-at t) shift-children.Post shift-children-Inv-loop shift-children-μ-loop
+shift-children-mul-shift :
+    (t : ℕ) → shift-children-lts.Need-mul-shift (shift-children-callees t) (shift-children-at t) shift-children.Post shift-children-Inv-loop shift-children-μ-loop
 shift-children-mul-shift t c =
     let l : c .before .before .before .loop .k < length (childrenOf (c .before .before .before .before .before .before .args .row .now)) = omega (arith, children-count (c .before .before .before .before .before .before .args .row .now), c .before .before .before .before .wide .ensures) in
     omega (arith, l, children-eight (c .before .before .before .before .before .before .args .lift) (c .before .before .before .before .before .before .args .cells .now) (c .before .before .before .before .before .before .args .memo .now) (c .before .before .before .before .before .before .args .row .now) (c .before .before .before .before .before .before .args .expr) (c .before .before .before .before .before .before .pre .1))
 
-shift-children-element-copy-out-shift : (t : ℕ) → shift-children-lts.Need-element-copy-out-shift (
-  wide-reads.Asked,
-  wide-reads.Learnt,
-  shift-below t,
-  shift.Post,
-) (shift-children-at t) shift-children.Post shift-children-Inv-loop shift-children-μ-loop
+shift-children-element-copy-out-shift :
+    (t : ℕ) → shift-children-lts.Need-element-copy-out-shift (shift-children-callees t) (shift-children-at t) shift-children.Post shift-children-Inv-loop shift-children-μ-loop
 shift-children-element-copy-out-shift t c =
     let l : c .before .before .before .loop .k < length (childrenOf (c .before .before .before .before .before .before .args .row .now)) = omega (arith, children-count (c .before .before .before .before .before .before .args .row .now), c .before .before .before .before .wide .ensures) in
     omega (arith, l, children-eight (c .before .before .before .before .before .before .args .lift) (c .before .before .before .before .before .before .args .cells .now) (c .before .before .before .before .before .before .args .memo .now) (c .before .before .before .before .before .before .args .row .now) (c .before .before .before .before .before .before .args .expr) (c .before .before .before .before .before .before .pre .1))
 
-shift-children-shift-requires : (t : ℕ) → shift-children-lts.Need-shift-requires (
-  wide-reads.Asked,
-  wide-reads.Learnt,
-  shift-below t,
-  shift.Post,
-) (shift-children-at t) shift-children.Post shift-children-Inv-loop shift-children-μ-loop
+shift-children-shift-requires :
+    (t : ℕ) → shift-children-lts.Need-shift-requires (shift-children-callees t) (shift-children-at t) shift-children.Post shift-children-Inv-loop shift-children-μ-loop
 shift-children-shift-requires t c κs =
     let l : c .before .before .before .before .loop .k < length (childrenOf (c .before .before .before .before .before .before .before .args .row .now)) = omega (arith, children-count (c .before .before .before .before .before .before .before .args .row .now), c .before .before .before .before .before .wide .ensures) in
     let h = c .before .before .before .before .loop .inv .1 in
     let q = through-child (shiftedBy (c .before .before .before .before .before .before .before .args .lift)) (c .before .before .before .before .before .before .before .args .cells .now) (c .before .before .before .before .before .before .before .args .row .now) (c .before .before .before .before .loop .cells) (c .before .before .before .before .loop .memo) (c .before .before .before .before .loop .row) (c .before .before .before .before .loop .k) h l in
     (omega (arith, q, child-lower (c .before .before .before .before .before .before .before .args .lift) (c .before .before .before .before .before .before .before .args .cells .now) (c .before .before .before .before .before .before .before .args .memo .now) (c .before .before .before .before .before .before .before .args .row .now) (c .before .before .before .before .before .before .before .args .expr) (c .before .before .before .before .before .before .before .pre .1) (c .before .before .before .before .loop .k) l, c .before .before .before .before .before .before .before .pre .0), subst (Ready (c .before .before .before .before .before .before .before .args .lift) (c .before .before .before .before .loop .cells) (c .before .before .before .before .loop .memo)) (sym q) (child-ready (c .before .before .before .before .before .before .before .args .lift) (c .before .before .before .before .before .before .before .args .cells .now) (c .before .before .before .before .before .before .before .args .memo .now) (c .before .before .before .before .before .before .before .args .row .now) (c .before .before .before .before .before .before .before .args .expr) (c .before .before .before .before .before .before .before .pre .1) (c .before .before .before .before .loop .cells) (c .before .before .before .before .loop .memo) (c .before .before .before .before .loop .row) (c .before .before .before .before .loop .k) h l))
 
-shift-children-enum-known-i : (t : ℕ) → shift-children-lts.Need-enum-known-i (
-  wide-reads.Asked,
-  wide-reads.Learnt,
-  shift-below t,
-  shift.Post,
-) (shift-children-at t) shift-children.Post shift-children-Inv-loop shift-children-μ-loop
+shift-children-enum-known-i :
+    (t : ℕ) → shift-children-lts.Need-enum-known-i (shift-children-callees t) (shift-children-at t) shift-children.Post shift-children-Inv-loop shift-children-μ-loop
 shift-children-enum-known-i t c = search needs
 
-shift-children-enum-told : (t : ℕ) → shift-children-lts.Need-enum-told (
-  wide-reads.Asked,
-  wide-reads.Learnt,
-  shift-below t,
-  shift.Post,
-) (shift-children-at t) shift-children.Post shift-children-Inv-loop shift-children-μ-loop
+shift-children-enum-told :
+    (t : ℕ) → shift-children-lts.Need-enum-told (shift-children-callees t) (shift-children-at t) shift-children.Post shift-children-Inv-loop shift-children-μ-loop
 shift-children-enum-told t c = search needs
 
-shift-children-returns : (t : ℕ) → shift-children-lts.Need-returns (
-  wide-reads.Asked,
-  wide-reads.Learnt,
-  shift-below t,
-  shift.Post,
-) (shift-children-at t) shift-children.Post shift-children-Inv-loop shift-children-μ-loop
+shift-children-returns :
+    (t : ℕ) → shift-children-lts.Need-returns (shift-children-callees t) (shift-children-at t) shift-children.Post shift-children-Inv-loop shift-children-μ-loop
 shift-children-returns t c =
     let l : c .before .before .before .before .before .before .before .loop .k < length (childrenOf (c .before .before .before .before .before .before .before .before .before .before .args .row .now)) = omega (arith, children-count (c .before .before .before .before .before .before .before .before .before .before .args .row .now), c .before .before .before .before .before .before .before .before .wide .ensures) in
     let h = c .before .before .before .before .before .before .before .loop .inv .1 in
@@ -261,58 +206,34 @@ shift-children-returns t c =
     through-fails (shiftedBy (c .before .before .before .before .before .before .before .before .before .before .args .lift)) (c .before .before .before .before .before .before .before .before .before .before .args .cells .now) (c .before .before .before .before .before .before .before .before .before .before .args .row .now) (c .before .before .before .before .before .before .before .loop .cells) (c .before .before .before .before .before .before .before .loop .memo) (c .before .before .before .before .before .before .before .loop .row) (c .before .before .before .before .before .before .before .loop .k) h l (c .before .before .shift .last .0) (c .before .before .shift .last .1 .0) (child-known (c .before .before .before .before .before .before .before .before .before .before .args .lift) (c .before .before .before .before .before .before .before .before .before .before .args .cells .now) (c .before .before .before .before .before .before .before .before .before .before .args .memo .now) (c .before .before .before .before .before .before .before .before .before .before .args .row .now) (c .before .before .before .before .before .before .before .before .before .before .args .expr) (c .before .before .before .before .before .before .before .before .before .before .pre .1) (c .before .before .before .before .before .before .before .loop .k) l) (c .enum-told .given .0 .0)
     (subst (Walked (shiftedBy (c .before .before .before .before .before .before .before .before .before .before .args .lift)) (c .before .before .before .before .before .before .before .loop .cells) (c .before .before .shift .last .0) (c .before .before .shift .last .1 .0) (getD (childrenOf (c .before .before .before .before .before .before .before .before .before .before .args .row .now)) (c .before .before .before .before .before .before .before .loop .k) 0)) (c .enum-told .given .1) (rw q at (c .before .before .shift .ensures)))
 
-shift-children-add-row : (t : ℕ) → shift-children-lts.Need-add-row (
-  wide-reads.Asked,
-  wide-reads.Learnt,
-  shift-below t,
-  shift.Post,
-) (shift-children-at t) shift-children.Post shift-children-Inv-loop shift-children-μ-loop
+shift-children-add-row :
+    (t : ℕ) → shift-children-lts.Need-add-row (shift-children-callees t) (shift-children-at t) shift-children.Post shift-children-Inv-loop shift-children-μ-loop
 shift-children-add-row t c =
     let l : c .before .before .before .before .before .before .before .before .loop .k < length (childrenOf (c .before .before .before .before .before .before .before .before .before .before .before .args .row .now)) = omega (arith, children-count (c .before .before .before .before .before .before .before .before .before .before .before .args .row .now), c .before .before .before .before .before .before .before .before .before .wide .ensures) in
     omega (arith, l, children-eight (c .before .before .before .before .before .before .before .before .before .before .before .args .lift) (c .before .before .before .before .before .before .before .before .before .before .before .args .cells .now) (c .before .before .before .before .before .before .before .before .before .before .before .args .memo .now) (c .before .before .before .before .before .before .before .before .before .before .before .args .row .now) (c .before .before .before .before .before .before .before .before .before .before .before .args .expr) (c .before .before .before .before .before .before .before .before .before .before .before .pre .1))
 
-shift-children-mul-row : (t : ℕ) → shift-children-lts.Need-mul-row (
-  wide-reads.Asked,
-  wide-reads.Learnt,
-  shift-below t,
-  shift.Post,
-) (shift-children-at t) shift-children.Post shift-children-Inv-loop shift-children-μ-loop
+shift-children-mul-row :
+    (t : ℕ) → shift-children-lts.Need-mul-row (shift-children-callees t) (shift-children-at t) shift-children.Post shift-children-Inv-loop shift-children-μ-loop
 shift-children-mul-row t c =
     let l : c .before .before .before .before .before .before .before .before .loop .k < length (childrenOf (c .before .before .before .before .before .before .before .before .before .before .before .args .row .now)) = omega (arith, children-count (c .before .before .before .before .before .before .before .before .before .before .before .args .row .now), c .before .before .before .before .before .before .before .before .before .wide .ensures) in
     omega (arith, l, children-eight (c .before .before .before .before .before .before .before .before .before .before .before .args .lift) (c .before .before .before .before .before .before .before .before .before .before .before .args .cells .now) (c .before .before .before .before .before .before .before .before .before .before .before .args .memo .now) (c .before .before .before .before .before .before .before .before .before .before .before .args .row .now) (c .before .before .before .before .before .before .before .before .before .before .before .args .expr) (c .before .before .before .before .before .before .before .before .before .before .before .pre .1))
 
-shift-children-element-write-row : (t : ℕ) → shift-children-lts.Need-element-write-row (
-  wide-reads.Asked,
-  wide-reads.Learnt,
-  shift-below t,
-  shift.Post,
-) (shift-children-at t) shift-children.Post shift-children-Inv-loop shift-children-μ-loop
+shift-children-element-write-row :
+    (t : ℕ) → shift-children-lts.Need-element-write-row (shift-children-callees t) (shift-children-at t) shift-children.Post shift-children-Inv-loop shift-children-μ-loop
 shift-children-element-write-row t c =
     let l : c .before .before .before .before .before .before .before .before .loop .k < length (childrenOf (c .before .before .before .before .before .before .before .before .before .before .before .args .row .now)) = omega (arith, children-count (c .before .before .before .before .before .before .before .before .before .before .before .args .row .now), c .before .before .before .before .before .before .before .before .before .wide .ensures) in
     omega (arith, l, children-eight (c .before .before .before .before .before .before .before .before .before .before .before .args .lift) (c .before .before .before .before .before .before .before .before .before .before .before .args .cells .now) (c .before .before .before .before .before .before .before .before .before .before .before .args .memo .now) (c .before .before .before .before .before .before .before .before .before .before .before .args .row .now) (c .before .before .before .before .before .before .before .before .before .before .before .args .expr) (c .before .before .before .before .before .before .before .before .before .before .before .pre .1))
 
-shift-children-add-k : (t : ℕ) → shift-children-lts.Need-add-k (
-  wide-reads.Asked,
-  wide-reads.Learnt,
-  shift-below t,
-  shift.Post,
-) (shift-children-at t) shift-children.Post shift-children-Inv-loop shift-children-μ-loop
+shift-children-add-k :
+    (t : ℕ) → shift-children-lts.Need-add-k (shift-children-callees t) (shift-children-at t) shift-children.Post shift-children-Inv-loop shift-children-μ-loop
 shift-children-add-k t c = search needs
 
-shift-children-loop-less : (t : ℕ) → shift-children-lts.Need-loop-less (
-  wide-reads.Asked,
-  wide-reads.Learnt,
-  shift-below t,
-  shift.Post,
-) (shift-children-at t) shift-children.Post shift-children-Inv-loop shift-children-μ-loop
+shift-children-loop-less :
+    (t : ℕ) → shift-children-lts.Need-loop-less (shift-children-callees t) (shift-children-at t) shift-children.Post shift-children-Inv-loop shift-children-μ-loop
 shift-children-loop-less t c = search needs
 
-shift-children-loop-again : (t : ℕ) → shift-children-lts.Need-loop-again (
-  wide-reads.Asked,
-  wide-reads.Learnt,
-  shift-below t,
-  shift.Post,
-) (shift-children-at t) shift-children.Post shift-children-Inv-loop shift-children-μ-loop
+shift-children-loop-again :
+    (t : ℕ) → shift-children-lts.Need-loop-again (shift-children-callees t) (shift-children-at t) shift-children.Post shift-children-Inv-loop shift-children-μ-loop
 shift-children-loop-again t c =
     let l : c .before .before .before .before .before .before .before .before .loop .k < length (childrenOf (c .before .before .before .before .before .before .before .before .before .before .before .args .row .now)) = omega (arith, children-count (c .before .before .before .before .before .before .before .before .before .before .before .args .row .now), c .before .before .before .before .before .before .before .before .before .wide .ensures) in
     let h = c .before .before .before .before .before .before .before .before .loop .inv .1 in
@@ -322,189 +243,65 @@ shift-children-loop-again t c =
           (subst (Walked (shiftedBy (c .before .before .before .before .before .before .before .before .before .before .before .args .lift)) (c .before .before .before .before .before .before .before .before .loop .cells) (c .before .before .before .shift .last .0) (c .before .before .before .shift .last .1 .0) (getD (childrenOf (c .before .before .before .before .before .before .before .before .before .before .before .args .row .now)) (c .before .before .before .before .before .before .before .before .loop .k) 0)) (c .before .i .given .1) (rw q at (c .before .before .before .shift .ensures))),
     )
 
-shift-children-returns-2 : (t : ℕ) → shift-children-lts.Need-returns-2 (
-  wide-reads.Asked,
-  wide-reads.Learnt,
-  shift-below t,
-  shift.Post,
-) (shift-children-at t) shift-children.Post shift-children-Inv-loop shift-children-μ-loop
+shift-children-returns-2 :
+    (t : ℕ) → shift-children-lts.Need-returns-2 (shift-children-callees t) (shift-children-at t) shift-children.Post shift-children-Inv-loop shift-children-μ-loop
 shift-children-returns-2 t c =
     let e : length (childrenOf (c .before .before .before .before .args .row .now)) ≡ c .before .loop .k = omega (arith, children-count (c .before .before .before .before .args .row .now), c .before .before .wide .ensures) in
     through-ends (shiftedBy (c .before .before .before .before .args .lift)) (c .before .before .before .before .args .cells .now) (c .before .before .before .before .args .row .now) (c .before .loop .cells) (c .before .loop .memo) (c .before .loop .row) (c .before .loop .k) (c .before .loop .inv .1) e
 
-shift-new-wide-requires : (t : ℕ) → shift-new-lts.Need-wide-requires (
-  wide-reads.Asked,
-  wide-reads.Learnt,
-  cell-of-reads.Asked,
-  cell-of-reads.Learnt,
-  shift-column-reads.Asked,
-  shift-column-reads.Learnt,
-  row-of-reads.Asked,
-  row-of-reads.Learnt,
-  shift-children-below t,
-  shift-children.Post,
-  place-reads.Asked,
-  place-reads.Learnt,
-) (shift-new-at t) shift-new.Post
+shift-new-wide-requires :
+    (t : ℕ) → shift-new-lts.Need-wide-requires (shift-new-callees t) (shift-new-at t) shift-new.Post
 shift-new-wide-requires t c κs = search needs
 
-shift-new-cell-of-requires : (t : ℕ) → shift-new-lts.Need-cell-of-requires (
-  wide-reads.Asked,
-  wide-reads.Learnt,
-  cell-of-reads.Asked,
-  cell-of-reads.Learnt,
-  shift-column-reads.Asked,
-  shift-column-reads.Learnt,
-  row-of-reads.Asked,
-  row-of-reads.Learnt,
-  shift-children-below t,
-  shift-children.Post,
-  place-reads.Asked,
-  place-reads.Learnt,
-) (shift-new-at t) shift-new.Post
+shift-new-cell-of-requires :
+    (t : ℕ) → shift-new-lts.Need-cell-of-requires (shift-new-callees t) (shift-new-at t) shift-new.Post
 shift-new-cell-of-requires t c κs = search needs
 
-shift-new-shift-column-requires : (t : ℕ) → shift-new-lts.Need-shift-column-requires (
-  wide-reads.Asked,
-  wide-reads.Learnt,
-  cell-of-reads.Asked,
-  cell-of-reads.Learnt,
-  shift-column-reads.Asked,
-  shift-column-reads.Learnt,
-  row-of-reads.Asked,
-  row-of-reads.Learnt,
-  shift-children-below t,
-  shift-children.Post,
-  place-reads.Asked,
-  place-reads.Learnt,
-) (shift-new-at t) shift-new.Post
+shift-new-shift-column-requires :
+    (t : ℕ) → shift-new-lts.Need-shift-column-requires (shift-new-callees t) (shift-new-at t) shift-new.Post
 shift-new-shift-column-requires t c κs =
     let d = c .before .before .before .before .before .pre .1 in
     rw (c .before .before .before .before .wide .ensures) ((d .known, d .small), (rw (c .before .before .before .before .wide .ensures) at (sym (c .before .before .cell-of .ensures) ∙ c .before .if1 .taken), d .moves))
 
-shift-new-returns : (t : ℕ) → shift-new-lts.Need-returns (
-  wide-reads.Asked,
-  wide-reads.Learnt,
-  cell-of-reads.Asked,
-  cell-of-reads.Learnt,
-  shift-column-reads.Asked,
-  shift-column-reads.Learnt,
-  row-of-reads.Asked,
-  row-of-reads.Learnt,
-  shift-children-below t,
-  shift-children.Post,
-  place-reads.Asked,
-  place-reads.Learnt,
-) (shift-new-at t) shift-new.Post
+shift-new-returns :
+    (t : ℕ) → shift-new-lts.Need-returns (shift-new-callees t) (shift-new-at t) shift-new.Post
 shift-new-returns t c =
     let g = rw (c .before .before .before .before .before .wide .ensures) at (c .shift-column .ensures) in
     record { grew = g; memo-true = memo-kept (shiftedBy (c .before .before .before .before .before .before .args .lift)) (c .before .before .before .before .before .before .args .memo .now) (g .extends) (c .before .before .before .before .before .before .pre .1 .memo-true) }
 
-shift-new-returns-2 : (t : ℕ) → shift-new-lts.Need-returns-2 (
-  wide-reads.Asked,
-  wide-reads.Learnt,
-  cell-of-reads.Asked,
-  cell-of-reads.Learnt,
-  shift-column-reads.Asked,
-  shift-column-reads.Learnt,
-  row-of-reads.Asked,
-  row-of-reads.Learnt,
-  shift-children-below t,
-  shift-children.Post,
-  place-reads.Asked,
-  place-reads.Learnt,
-) (shift-new-at t) shift-new.Post
+shift-new-returns-2 :
+    (t : ℕ) → shift-new-lts.Need-returns-2 (shift-new-callees t) (shift-new-at t) shift-new.Post
 shift-new-returns-2 t c =
     literal-stays (c .before .before .before .before .before .args .lift) (c .before .before .before .before .before .args .cells .now) (c .before .before .before .before .before .args .memo .now) (c .before .before .before .before .before .args .expr) (c .before .before .before .before .before .pre .1) (rw (c .before .before .before .before .wide .ensures) at (sym (c .before .before .cell-of .ensures) ∙ c .if2 .taken))
 
-shift-new-row-of-requires : (t : ℕ) → shift-new-lts.Need-row-of-requires (
-  wide-reads.Asked,
-  wide-reads.Learnt,
-  cell-of-reads.Asked,
-  cell-of-reads.Learnt,
-  shift-column-reads.Asked,
-  shift-column-reads.Learnt,
-  row-of-reads.Asked,
-  row-of-reads.Learnt,
-  shift-children-below t,
-  shift-children.Post,
-  place-reads.Asked,
-  place-reads.Learnt,
-) (shift-new-at t) shift-new.Post
+shift-new-row-of-requires :
+    (t : ℕ) → shift-new-lts.Need-row-of-requires (shift-new-callees t) (shift-new-at t) shift-new.Post
 shift-new-row-of-requires t c κs = search needs
 
-shift-new-shift-children-requires : (t : ℕ) → shift-new-lts.Need-shift-children-requires (
-  wide-reads.Asked,
-  wide-reads.Learnt,
-  cell-of-reads.Asked,
-  cell-of-reads.Learnt,
-  shift-column-reads.Asked,
-  shift-column-reads.Learnt,
-  row-of-reads.Asked,
-  row-of-reads.Learnt,
-  shift-children-below t,
-  shift-children.Post,
-  place-reads.Asked,
-  place-reads.Learnt,
-) (shift-new-at t) shift-new.Post
+shift-new-shift-children-requires :
+    (t : ℕ) → shift-new-lts.Need-shift-children-requires (shift-new-callees t) (shift-new-at t) shift-new.Post
 shift-new-shift-children-requires t c κs =
     let k : c .before .before .before .before .before .before .before .cell-of .result ≡ cellOf (c .before .before .before .before .before .before .before .before .before .before .args .cells .now) (c .before .before .before .before .before .before .before .before .before .before .args .expr) 0 = rw (c .before .before .before .before .before .before .before .before .before .wide .ensures) at (c .before .before .before .before .before .before .before .cell-of .ensures) in
     (omega (arith, c .before .before .before .before .before .before .before .before .before .before .pre .0), ready-all (c .before .before .before .before .before .before .before .before .before .before .args .lift) (c .before .before .before .before .before .before .before .before .before .before .args .cells .now) (c .before .before .before .before .before .before .before .before .before .before .args .memo .now) (c .before .before .before .before .before .before .before .before .before .before .args .expr) (c .before .before .before .before .before .before .before .before .before .before .pre .1) (λ z. c .before .before .before .before .before .before .if1 .left (k ∙ z)) (λ z. c .before .before .before .before .before .if2 .left (k ∙ z)) (c .before .before .before .row-of .result) (rw (c .before .before .before .before .before .before .before .before .before .wide .ensures) at (c .before .before .before .row-of .ensures)))
 
-shift-new-returns-3 : (t : ℕ) → shift-new-lts.Need-returns-3 (
-  wide-reads.Asked,
-  wide-reads.Learnt,
-  cell-of-reads.Asked,
-  cell-of-reads.Learnt,
-  shift-column-reads.Asked,
-  shift-column-reads.Learnt,
-  row-of-reads.Asked,
-  row-of-reads.Learnt,
-  shift-children-below t,
-  shift-children.Post,
-  place-reads.Asked,
-  place-reads.Learnt,
-) (shift-new-at t) shift-new.Post
+shift-new-returns-3 :
+    (t : ℕ) → shift-new-lts.Need-returns-3 (shift-new-callees t) (shift-new-at t) shift-new.Post
 shift-new-returns-3 t c =
     let k : c .before .before .before .before .before .before .before .before .before .cell-of .result ≡ cellOf (c .before .before .before .before .before .before .before .before .before .before .before .before .args .cells .now) (c .before .before .before .before .before .before .before .before .before .before .before .before .args .expr) 0 = rw (c .before .before .before .before .before .before .before .before .before .before .before .wide .ensures) at (c .before .before .before .before .before .before .before .before .before .cell-of .ensures) in
     let a = ready-all (c .before .before .before .before .before .before .before .before .before .before .before .before .args .lift) (c .before .before .before .before .before .before .before .before .before .before .before .before .args .cells .now) (c .before .before .before .before .before .before .before .before .before .before .before .before .args .memo .now) (c .before .before .before .before .before .before .before .before .before .before .before .before .args .expr) (c .before .before .before .before .before .before .before .before .before .before .before .before .pre .1) (λ z. c .before .before .before .before .before .before .before .before .if1 .left (k ∙ z)) (λ z. c .before .before .before .before .before .before .before .if2 .left (k ∙ z)) (c .before .before .before .before .before .row-of .result) (rw (c .before .before .before .before .before .before .before .before .before .before .before .wide .ensures) at (c .before .before .before .before .before .row-of .ensures)) in
     let w = subst (WalkedAll (shiftedBy (c .before .before .before .before .before .before .before .before .before .before .before .before .args .lift)) (c .before .before .before .before .before .before .before .before .before .before .before .before .args .cells .now) (c .before .shift-children .last .0) (c .before .shift-children .last .1 .0) (c .before .before .before .before .before .row-of .result) (c .before .shift-children .last .1 .1 .0)) (not-true _ (c .if3 .taken)) (c .before .shift-children .ensures) in
     children-full (c .before .before .before .before .before .before .before .before .before .before .before .before .args .lift) (c .before .before .before .before .before .before .before .before .before .before .before .before .args .cells .now) (c .before .before .before .before .before .before .before .before .before .before .before .before .args .memo .now) (c .before .before .before .before .before .row-of .result) (c .before .before .before .before .before .before .before .before .before .before .before .before .args .expr) a (c .before .shift-children .last .0) (c .before .shift-children .last .1 .0) (c .before .shift-children .last .1 .1 .0) w 3
 
-shift-new-place-requires : (t : ℕ) → shift-new-lts.Need-place-requires (
-  wide-reads.Asked,
-  wide-reads.Learnt,
-  cell-of-reads.Asked,
-  cell-of-reads.Learnt,
-  shift-column-reads.Asked,
-  shift-column-reads.Learnt,
-  row-of-reads.Asked,
-  row-of-reads.Learnt,
-  shift-children-below t,
-  shift-children.Post,
-  place-reads.Asked,
-  place-reads.Learnt,
-) (shift-new-at t) shift-new.Post
+shift-new-place-requires :
+    (t : ℕ) → shift-new-lts.Need-place-requires (shift-new-callees t) (shift-new-at t) shift-new.Post
 shift-new-place-requires t c κs =
     let k : c .before .before .before .before .before .before .before .before .before .before .before .cell-of .result ≡ cellOf (c .before .before .before .before .before .before .before .before .before .before .before .before .before .before .args .cells .now) (c .before .before .before .before .before .before .before .before .before .before .before .before .before .before .args .expr) 0 = rw (c .before .before .before .before .before .before .before .before .before .before .before .before .before .wide .ensures) at (c .before .before .before .before .before .before .before .before .before .before .before .cell-of .ensures) in
     let a = ready-all (c .before .before .before .before .before .before .before .before .before .before .before .before .before .before .args .lift) (c .before .before .before .before .before .before .before .before .before .before .before .before .before .before .args .cells .now) (c .before .before .before .before .before .before .before .before .before .before .before .before .before .before .args .memo .now) (c .before .before .before .before .before .before .before .before .before .before .before .before .before .before .args .expr) (c .before .before .before .before .before .before .before .before .before .before .before .before .before .before .pre .1) (λ z. c .before .before .before .before .before .before .before .before .before .before .if1 .left (k ∙ z)) (λ z. c .before .before .before .before .before .before .before .before .before .if2 .left (k ∙ z)) (c .before .before .before .before .before .before .before .row-of .result) (rw (c .before .before .before .before .before .before .before .before .before .before .before .before .before .wide .ensures) at (c .before .before .before .before .before .before .before .row-of .ensures)) in
     let w = subst (WalkedAll (shiftedBy (c .before .before .before .before .before .before .before .before .before .before .before .before .before .before .args .lift)) (c .before .before .before .before .before .before .before .before .before .before .before .before .before .before .args .cells .now) (c .before .before .before .shift-children .last .0) (c .before .before .before .shift-children .last .1 .0) (c .before .before .before .before .before .before .before .row-of .result) (c .before .before .before .shift-children .last .1 .1 .0)) (not-false _ (c .before .before .if3 .left)) (c .before .before .before .shift-children .ensures) in
     operation-placeable (c .before .before .before .before .before .before .before .before .before .before .before .before .before .before .args .lift) (c .before .before .before .before .before .before .before .before .before .before .before .before .before .before .args .cells .now) (c .before .before .before .before .before .before .before .before .before .before .before .before .before .before .args .memo .now) (c .before .before .before .before .before .before .before .row-of .result) (c .before .before .before .before .before .before .before .before .before .before .before .before .before .before .args .expr) a (c .before .before .before .shift-children .last .0) (c .before .before .before .shift-children .last .1 .0) (c .before .before .before .shift-children .last .1 .1 .0) w
 
-shift-new-returns-4 : (t : ℕ) → shift-new-lts.Need-returns-4 (
-  wide-reads.Asked,
-  wide-reads.Learnt,
-  cell-of-reads.Asked,
-  cell-of-reads.Learnt,
-  shift-column-reads.Asked,
-  shift-column-reads.Learnt,
-  row-of-reads.Asked,
-  row-of-reads.Learnt,
-  shift-children-below t,
-  shift-children.Post,
-  place-reads.Asked,
-  place-reads.Learnt,
-) (shift-new-at t) shift-new.Post
+shift-new-returns-4 :
+    (t : ℕ) → shift-new-lts.Need-returns-4 (shift-new-callees t) (shift-new-at t) shift-new.Post
 shift-new-returns-4 t c =
     let k : c .before .before .before .before .before .before .before .before .before .before .before .before .cell-of .result ≡ cellOf (c .before .before .before .before .before .before .before .before .before .before .before .before .before .before .before .args .cells .now) (c .before .before .before .before .before .before .before .before .before .before .before .before .before .before .before .args .expr) 0 = rw (c .before .before .before .before .before .before .before .before .before .before .before .before .before .before .wide .ensures) at (c .before .before .before .before .before .before .before .before .before .before .before .before .cell-of .ensures) in
     let a = ready-all (c .before .before .before .before .before .before .before .before .before .before .before .before .before .before .before .args .lift) (c .before .before .before .before .before .before .before .before .before .before .before .before .before .before .before .args .cells .now) (c .before .before .before .before .before .before .before .before .before .before .before .before .before .before .before .args .memo .now) (c .before .before .before .before .before .before .before .before .before .before .before .before .before .before .before .args .expr) (c .before .before .before .before .before .before .before .before .before .before .before .before .before .before .before .pre .1) (λ z. c .before .before .before .before .before .before .before .before .before .before .before .if1 .left (k ∙ z)) (λ z. c .before .before .before .before .before .before .before .before .before .before .if2 .left (k ∙ z)) (c .before .before .before .before .before .before .before .before .row-of .result) (rw (c .before .before .before .before .before .before .before .before .before .before .before .before .before .before .wide .ensures) at (c .before .before .before .before .before .before .before .before .row-of .ensures)) in
@@ -513,15 +310,7 @@ shift-new-returns-4 t c =
 
 pub +shift+shift-children+shift-new-spec : {M : Type 1} → statement M
 +shift+shift-children+shift-new-spec =
-    close μ-shift μ-shift-children μ-shift-new (λ t. shift-lts.spec (
-      wide-reads.Asked,
-      wide-reads.Learnt,
-      shift-new-below t,
-      shift-new.Post,
-      note-reads.Asked,
-      note-reads.Learnt,
-    )
-    (shift-at t)
+    close μ-shift μ-shift-children μ-shift-new (λ t. shift-lts.spec (shift-callees t) (shift-at t)
     shift.Post
     (shift-wide-requires t)
     (shift-mul-entry t)
@@ -531,9 +320,7 @@ pub +shift+shift-children+shift-new-spec : {M : Type 1} → statement M
     (shift-shift-new-requires t)
     (shift-note-requires t)
     (shift-returns-2 t))
-    (λ t. shift-children-lts.spec
-    (wide-reads.Asked, wide-reads.Learnt, shift-below t, shift.Post)
-    (shift-children-at t)
+    (λ t. shift-children-lts.spec (shift-children-callees t) (shift-children-at t)
     shift-children.Post
     shift-children-Inv-loop
     shift-children-μ-loop
@@ -554,21 +341,7 @@ pub +shift+shift-children+shift-new-spec : {M : Type 1} → statement M
     (shift-children-loop-less t)
     (shift-children-loop-again t)
     (shift-children-returns-2 t))
-    λ t. shift-new-lts.spec (
-      wide-reads.Asked,
-      wide-reads.Learnt,
-      cell-of-reads.Asked,
-      cell-of-reads.Learnt,
-      shift-column-reads.Asked,
-      shift-column-reads.Learnt,
-      row-of-reads.Asked,
-      row-of-reads.Learnt,
-      shift-children-below t,
-      shift-children.Post,
-      place-reads.Asked,
-      place-reads.Learnt,
-    )
-    (shift-new-at t)
+    λ t. shift-new-lts.spec (shift-new-callees t) (shift-new-at t)
     shift-new.Post
     (shift-new-wide-requires t)
     (shift-new-cell-of-requires t)
