@@ -1,5 +1,4 @@
 -- What the definitions of classes, conditions and questions come to together, and the demands that they meet.
-pub mod Examples
 pub mod Step
 pub mod Answers
 pub mod Chains

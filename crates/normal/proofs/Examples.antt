@@ -1,4 +1,4 @@
--- The definitions of specs/, tried on small examples by computing them.
+-- The definitions of specs/, tried on small examples by computing them. Document 01's own stand in the crate promises.
 use mathlib.Core.List.{List, [], _∷_, _++_}
 use mathlib.Core.Path.{_≡_, refl}
 use Rattle.laws.specs.Lists.{sameNumbers}
@@ -18,16 +18,6 @@ arena = column 0 0 ∷ column 1 1 ∷ column 2 2 ∷ operation 1 (1 ∷ []) ∷ 
 -- [a,b],[f(b),c]
 abbrev group : List Class
 group = record { members = 0 ∷ 1 ∷ []; constant = noConstant } ∷ record { members = 3 ∷ 2 ∷ []; constant = noConstant } ∷ []
-
--- P4: the normal form of c is f(b), which is not entered again
-p4-c : normal arena group (expressionAt arena 2) ≡ op 1 (col 1 1 ▹ ∅)
-unfolding normalBy replaced replacedBy numberOf find first firstFrom sameNode firstOf firstAt classOf among expressions made madeAfter over those
-p4-c = refl
-
--- P4: the normal form of f(b) is f(a), which is in no class
-p4-f : normal arena group (expressionAt arena 3) ≡ op 1 (col 0 0 ▹ ∅)
-unfolding normalBy normalsBy replaced replacedBy numberOf numbersOf operationOver bothFound find first firstFrom sameNode sameNumbers firstOf firstAt classOf among expressions made madeAfter over those
-p4-f = refl
 
 -- children first: g(f(b), c) becomes g(f(a), f(b))
 nested : normal arena group (expressionAt arena 4) ≡ op 2 (op 1 (col 0 0 ▹ ∅) ▹ op 1 (col 1 1 ▹ ∅) ▹ ∅)

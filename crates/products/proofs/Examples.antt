@@ -7,17 +7,9 @@ use lib.ListN.{length}
 use Rattle.laws.specs.Tests.{first, firstFrom}
 use Rattle.orderings.specs.Ordering.{exprOf, hasExpr, pushed, extended}
 use Rattle.dependencies.specs.Map.{Dependent, placeOf}
-use Rattle.enumeration.specs.Walk.{found, goOn, isSeen, overDependencies, atTarget, atEntry, atPlace, constructed, pairs, constructOrderings, overStart, prefixOrderings}
+use Rattle.enumeration.specs.Walk.{goOn, isSeen, overDependencies, atTarget, atEntry, atPlace, constructed, pairs, constructOrderings, overStart, prefixOrderings}
 use Rattle.products.specs.Orders.{passing, beginning, orders, beforeEach, product}
 use Rattle.products.specs.Generate.{lists, withList, contributing, chained, inAllOrders, allOrders, generated}
-
--- P13: a key with itself as target and only dependency gives no ordering
-abbrev itself : List Dependent
-itself = record { key = 4; target = some 4; dependencies = 4 ∷ [] } ∷ []
-
-p13 : prefixOrderings itself 4 ≡ found [] ((4, 4) ∷ [])
-unfolding prefixOrderings overStart constructOrderings constructed pairs atPlace placeOf first firstFrom atEntry atTarget overDependencies isSeen goOn
-p13 = refl
 
 -- the text's example: a depends on c, b on d; of a and b
 abbrev text : List Dependent

@@ -25,6 +25,8 @@ use Rattle.normal.specs.Calls.{normalized}
 use Rattle.promises.specs.Sequence.{calls, groupAfter, acceptedPairs, seen}
 use Rattle.promises.proofs.EveryCall as EveryCall
 use Rattle.promises.proofs.EveryCall.{EveryCallAnswers, EveryCallChecks}
+use Rattle.promises.proofs.EveryNumber as EveryNumber
+use Rattle.promises.proofs.EveryNumber.{EveryNumberStands}
 use Rattle.promises.proofs.EveryRefusal as EveryRefusal
 use Rattle.promises.proofs.EveryRefusal.{EveryRefusalKeeps}
 use Rattle.promises.proofs.Conditions as Conditions
@@ -39,7 +41,11 @@ every-call-answers = EveryCall.every-call-answers
 pub every-call-checks-for-itself : EveryCallChecks
 every-call-checks-for-itself = EveryCall.every-call-checks
 
--- A refusal leaves arena, group, orderings and output exactly as they were.
+-- A refusal gives its number from the table: what is returned is 0 or one of the numbers that the header names for the call ..
+pub every-number-stands : EveryNumberStands
+every-number-stands = EveryNumber.every-number-stands
+
+-- .. and leaves arena, group, orderings and output exactly as they were.
 pub every-refusal-keeps : EveryRefusalKeeps
 every-refusal-keeps = EveryRefusal.every-refusal-keeps
 

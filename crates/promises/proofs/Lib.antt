@@ -13,5 +13,14 @@ pub mod OnceStates
 pub mod OnceLibrary
 pub mod OnceParts
 pub mod EveryCall
+pub mod Numbers
+pub mod NumbersOfAnswers
+pub mod NumbersOfExpressions
+pub mod NumbersOfGroups
+pub mod NumbersOfProjections
+pub mod NumbersOfOrderings
+pub mod NumbersOfMaps
+pub mod NumbersOfRecords
+pub mod EveryNumber
 pub mod EveryRefusal
 pub mod Demands

@@ -1,7 +1,10 @@
--- Two results that meet a contract are equal: the public functions of merging, shifted_classes, joins, mappings, projection and group_projection.
+-- Two results that meet a contract are equal: the public functions of lent_classes, merging, shifted_classes, joins, mappings, projection and group_projection.
 use Rattle.laws.proofs.Determined.{one-result}
 use denote.Ref.{now}
 use Rattle.promises.proofs.Once.{OneAnswer, OneWith, OneWithBoth}
+use Rattle.lent_classes.proofs.lent.number_at.Reads as LentClassesLentNumberAt
+use Rattle.lent_classes.proofs.lent.new_number.Reads as LentClassesLentNewNumber
+use Rattle.lent_classes.proofs.lent.lent_classes.Reads as LentClassesLentLentClasses
 use Rattle.merging.proofs.bridging.drop_trivial.Reads as MergingBridgingDropTrivial
 use Rattle.merging.proofs.bridging.bridge_classes.Reads as MergingBridgingBridgeClasses
 use Rattle.merging.proofs.bridging.from_classes.Reads as MergingBridgingFromClasses
@@ -12,9 +15,6 @@ use Rattle.merging.proofs.extending.is_trivial.Reads as MergingExtendingIsTrivi
 use Rattle.merging.proofs.extending.one_empty.Reads as MergingExtendingOneEmpty
 use Rattle.merging.proofs.extending.extend.Reads as MergingExtendingExtend
 use Rattle.merging.proofs.extending.push.Reads as MergingExtendingPush
-use Rattle.merging.proofs.lent.number_at.Reads as MergingLentNumberAt
-use Rattle.merging.proofs.lent.new_number.Reads as MergingLentNewNumber
-use Rattle.merging.proofs.lent.lent_classes.Reads as MergingLentLentClasses
 use Rattle.merging.proofs.new.Reads as MergingNew
 use Rattle.shifted_classes.proofs.right_side.members_move.Reads as ShiftedClassesRightSideMembersMove
 use Rattle.shifted_classes.proofs.right_side.rights_move.Reads as ShiftedClassesRightSideRightsMove
@@ -33,6 +33,17 @@ use Rattle.group_projection.proofs.constants.source_constants.Reads as GroupPro
 use Rattle.group_projection.proofs.project.Reads as GroupProjectionProject
 use Rattle.group_projection.proofs.listing.projected_list.Reads as GroupProjectionListingProjectedList
 use Rattle.group_projection.proofs.projecting.project_in.Reads as GroupProjectionProjectingProjectIn
+
+-- ---- lent_classes
+
+pub lent-classes-lent-number-at : (κs : _) (a : _) → OneAnswer (LentClassesLentNumberAt.Learnt κs a)
+lent-classes-lent-number-at κs a r r′ s s′ = one-result
+
+pub lent-classes-lent-new-number : (κs : _) (a : _) → OneAnswer (LentClassesLentNewNumber.Learnt κs a)
+lent-classes-lent-new-number κs a r r′ s s′ = one-result
+
+pub lent-classes-lent-lent-classes : (κs : _) (a : _) → OneAnswer (LentClassesLentLentClasses.Learnt κs a)
+lent-classes-lent-lent-classes κs a r r′ s s′ = one-result
 
 -- ---- merging
 
@@ -65,15 +76,6 @@ merging-extending-extend κs a r r′ s s′ = one-result
 
 pub merging-extending-push : (κs : _) (a : _) → OneAnswer (MergingExtendingPush.Learnt κs a)
 merging-extending-push κs a r r′ s s′ = one-result
-
-pub merging-lent-number-at : (κs : _) (a : _) → OneAnswer (MergingLentNumberAt.Learnt κs a)
-merging-lent-number-at κs a r r′ s s′ = one-result
-
-pub merging-lent-new-number : (κs : _) (a : _) → OneAnswer (MergingLentNewNumber.Learnt κs a)
-merging-lent-new-number κs a r r′ s s′ = one-result
-
-pub merging-lent-lent-classes : (κs : _) (a : _) → OneAnswer (MergingLentLentClasses.Learnt κs a)
-merging-lent-lent-classes κs a r r′ s s′ = one-result
 
 pub merging-new : (κs : _) (a : _) → OneAnswer (MergingNew.Learnt κs a)
 merging-new κs a r r′ s s′ = one-result

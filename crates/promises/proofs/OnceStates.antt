@@ -1,9 +1,7 @@
--- Two results that meet a contract are equal: the public functions of states, answers and unchecked.
+-- Two results that meet a contract are equal: the public functions of states, group_states, answers, group_answers and unchecked.
 use Rattle.laws.proofs.Determined.{one-result}
 use denote.Ref.{now}
 use Rattle.promises.proofs.Once.{OneAnswer, OneLent, OneWith, OneWithBoth}
-use Rattle.states.proofs.groups.load_group.Reads as StatesGroupsLoadGroup
-use Rattle.states.proofs.groups.store_group.Reads as StatesGroupsStoreGroup
 use Rattle.states.proofs.maps.load_map.Reads as StatesMapsLoadMap
 use Rattle.states.proofs.maps.store_map.Reads as StatesMapsStoreMap
 use Rattle.states.proofs.numbers.widened.Reads as StatesNumbersWidened
@@ -12,17 +10,12 @@ use Rattle.states.proofs.numbers.short.Reads as StatesNumbersShort
 use Rattle.states.proofs.orders.keys_from.Reads as StatesOrdersKeysFrom
 use Rattle.states.proofs.orders.load_orderings.Reads as StatesOrdersLoadOrderings
 use Rattle.states.proofs.orders.store_orderings.Reads as StatesOrdersStoreOrderings
+use Rattle.group_states.proofs.groups.load_group.Reads as GroupStatesGroupsLoadGroup
+use Rattle.group_states.proofs.groups.store_group.Reads as GroupStatesGroupsStoreGroup
+use Rattle.answers.proofs.put_1.Reads as AnswersPut1
+use Rattle.answers.proofs.put_2.Reads as AnswersPut2
 use Rattle.answers.proofs.put_sizes.Reads as AnswersPutSizes
-use Rattle.answers.proofs.put_added.Reads as AnswersPutAdded
-use Rattle.answers.proofs.put_read.Reads as AnswersPutRead
-use Rattle.answers.proofs.put_child.Reads as AnswersPutChild
-use Rattle.answers.proofs.put_class_is.Reads as AnswersPutClassIs
-use Rattle.answers.proofs.put_changed.Reads as AnswersPutChanged
-use Rattle.answers.proofs.put_answer.Reads as AnswersPutAnswer
-use Rattle.answers.proofs.put_constant.Reads as AnswersPutConstant
-use Rattle.answers.proofs.put_key.Reads as AnswersPutKey
-use Rattle.answers.proofs.put_sorted.Reads as AnswersPutSorted
-use Rattle.answers.proofs.put_projected.Reads as AnswersPutProjected
+use Rattle.answers.proofs.put_one.Reads as AnswersPutOne
 use Rattle.answers.proofs.put_options.Reads as AnswersPutOptions
 use Rattle.answers.proofs.put_partial.Reads as AnswersPutPartial
 use Rattle.answers.proofs.put_output.Reads as AnswersPutOutput
@@ -30,6 +23,16 @@ use Rattle.answers.proofs.put_enumerated.Reads as AnswersPutEnumerated
 use Rattle.answers.proofs.put_record.Reads as AnswersPutRecord
 use Rattle.answers.proofs.put_written.Reads as AnswersPutWritten
 use Rattle.answers.proofs.given_from.Reads as AnswersGivenFrom
+use Rattle.group_answers.proofs.put_added.Reads as GroupAnswersPutAdded
+use Rattle.group_answers.proofs.put_read.Reads as GroupAnswersPutRead
+use Rattle.group_answers.proofs.put_child.Reads as GroupAnswersPutChild
+use Rattle.group_answers.proofs.put_class_is.Reads as GroupAnswersPutClassIs
+use Rattle.group_answers.proofs.put_changed.Reads as GroupAnswersPutChanged
+use Rattle.group_answers.proofs.put_answer.Reads as GroupAnswersPutAnswer
+use Rattle.group_answers.proofs.put_constant.Reads as GroupAnswersPutConstant
+use Rattle.group_answers.proofs.put_key.Reads as GroupAnswersPutKey
+use Rattle.group_answers.proofs.put_sorted.Reads as GroupAnswersPutSorted
+use Rattle.group_answers.proofs.put_projected.Reads as GroupAnswersPutProjected
 use Rattle.unchecked.proofs.unchecked_add_equal_conditions.Reads as UncheckedUncheckedAddEqualConditions
 use Rattle.unchecked.proofs.unchecked_exprs_equal.Reads as UncheckedUncheckedExprsEqual
 use Rattle.unchecked.proofs.unchecked_normalize_expr.Reads as UncheckedUncheckedNormalizeExpr
@@ -38,12 +41,6 @@ use Rattle.unchecked.proofs.unchecked_add_orderings.Reads as UncheckedUnchecked
 use Rattle.unchecked.proofs.unchecked_generate_dependency_orderings.Reads as UncheckedUncheckedGenerateDependencyOrderings
 
 -- ---- states
-
-pub states-groups-load-group : (κs : _) (a : _) → OneAnswer (StatesGroupsLoadGroup.Learnt κs a)
-states-groups-load-group κs a r r′ s s′ = one-result
-
-pub states-groups-store-group : (κs : _) (a : _) → OneWith (λ s. now (s .1 .0)) (StatesGroupsStoreGroup.Learnt κs a)
-states-groups-store-group κs a r r′ s s′ = one-result
 
 pub states-maps-load-map : (κs : _) (a : _) → OneAnswer (StatesMapsLoadMap.Learnt κs a)
 states-maps-load-map κs a r r′ s s′ = one-result
@@ -69,40 +66,27 @@ states-orders-load-orderings κs a r r′ s s′ = one-result
 pub states-orders-store-orderings : (κs : _) (a : _) → OneWith (λ s. now (s .1 .0)) (StatesOrdersStoreOrderings.Learnt κs a)
 states-orders-store-orderings κs a r r′ s s′ = one-result
 
+-- ---- group_states
+
+pub group-states-groups-load-group : (κs : _) (a : _) → OneAnswer (GroupStatesGroupsLoadGroup.Learnt κs a)
+group-states-groups-load-group κs a r r′ s s′ = one-result
+
+pub group-states-groups-store-group : (κs : _) (a : _) → OneWith (λ s. now (s .1 .0)) (GroupStatesGroupsStoreGroup.Learnt κs a)
+group-states-groups-store-group κs a r r′ s s′ = one-result
+
 -- ---- answers
+
+pub answers-put-1 : (κs : _) (a : _) → OneLent (λ s. now (s .0)) (AnswersPut1.Learnt κs a)
+answers-put-1 κs a r r′ s s′ = one-result
+
+pub answers-put-2 : (κs : _) (a : _) → OneLent (λ s. now (s .0)) (AnswersPut2.Learnt κs a)
+answers-put-2 κs a r r′ s s′ = one-result
 
 pub answers-put-sizes : (κs : _) (a : _) → OneLent (λ s. now (s .0)) (AnswersPutSizes.Learnt κs a)
 answers-put-sizes κs a r r′ s s′ = one-result
 
-pub answers-put-added : (κs : _) (a : _) → OneWith (λ s. now (s .1 .0)) (AnswersPutAdded.Learnt κs a)
-answers-put-added κs a r r′ s s′ = one-result
-
-pub answers-put-read : (κs : _) (a : _) → OneWith (λ s. now (s .1 .0)) (AnswersPutRead.Learnt κs a)
-answers-put-read κs a r r′ s s′ = one-result
-
-pub answers-put-child : (κs : _) (a : _) → OneWith (λ s. now (s .1 .0)) (AnswersPutChild.Learnt κs a)
-answers-put-child κs a r r′ s s′ = one-result
-
-pub answers-put-class-is : (κs : _) (a : _) → OneWith (λ s. now (s .1 .0)) (AnswersPutClassIs.Learnt κs a)
-answers-put-class-is κs a r r′ s s′ = one-result
-
-pub answers-put-changed : (κs : _) (a : _) → OneWithBoth (λ s. now (s .1 .1 .0)) (λ s. now (s .1 .0)) (AnswersPutChanged.Learnt κs a)
-answers-put-changed κs a r r′ s s′ = one-result
-
-pub answers-put-answer : (κs : _) (a : _) → OneWith (λ s. now (s .1 .0)) (AnswersPutAnswer.Learnt κs a)
-answers-put-answer κs a r r′ s s′ = one-result
-
-pub answers-put-constant : (κs : _) (a : _) → OneWith (λ s. now (s .1 .0)) (AnswersPutConstant.Learnt κs a)
-answers-put-constant κs a r r′ s s′ = one-result
-
-pub answers-put-key : (κs : _) (a : _) → OneWith (λ s. now (s .1 .0)) (AnswersPutKey.Learnt κs a)
-answers-put-key κs a r r′ s s′ = one-result
-
-pub answers-put-sorted : (κs : _) (a : _) → OneWith (λ s. now (s .1 .0)) (AnswersPutSorted.Learnt κs a)
-answers-put-sorted κs a r r′ s s′ = one-result
-
-pub answers-put-projected : (κs : _) (a : _) → OneWith (λ s. now (s .1 .0)) (AnswersPutProjected.Learnt κs a)
-answers-put-projected κs a r r′ s s′ = one-result
+pub answers-put-one : (κs : _) (a : _) → OneLent (λ s. now (s .1 .0)) (AnswersPutOne.Learnt κs a)
+answers-put-one κs a r r′ s s′ = one-result
 
 pub answers-put-options : (κs : _) (a : _) → OneWith (λ s. now (s .1 .0)) (AnswersPutOptions.Learnt κs a)
 answers-put-options κs a r r′ s s′ = one-result
@@ -124,6 +108,38 @@ answers-put-written κs a r r′ s s′ = one-result
 
 pub answers-given-from : (κs : _) (a : _) → OneAnswer (AnswersGivenFrom.Learnt κs a)
 answers-given-from κs a r r′ s s′ = one-result
+
+-- ---- group_answers
+
+pub group-answers-put-added : (κs : _) (a : _) → OneWith (λ s. now (s .1 .0)) (GroupAnswersPutAdded.Learnt κs a)
+group-answers-put-added κs a r r′ s s′ = one-result
+
+pub group-answers-put-read : (κs : _) (a : _) → OneWith (λ s. now (s .1 .0)) (GroupAnswersPutRead.Learnt κs a)
+group-answers-put-read κs a r r′ s s′ = one-result
+
+pub group-answers-put-child : (κs : _) (a : _) → OneWith (λ s. now (s .1 .0)) (GroupAnswersPutChild.Learnt κs a)
+group-answers-put-child κs a r r′ s s′ = one-result
+
+pub group-answers-put-class-is : (κs : _) (a : _) → OneWith (λ s. now (s .1 .0)) (GroupAnswersPutClassIs.Learnt κs a)
+group-answers-put-class-is κs a r r′ s s′ = one-result
+
+pub group-answers-put-changed : (κs : _) (a : _) → OneWithBoth (λ s. now (s .1 .1 .0)) (λ s. now (s .1 .0)) (GroupAnswersPutChanged.Learnt κs a)
+group-answers-put-changed κs a r r′ s s′ = one-result
+
+pub group-answers-put-answer : (κs : _) (a : _) → OneWith (λ s. now (s .1 .0)) (GroupAnswersPutAnswer.Learnt κs a)
+group-answers-put-answer κs a r r′ s s′ = one-result
+
+pub group-answers-put-constant : (κs : _) (a : _) → OneWith (λ s. now (s .1 .0)) (GroupAnswersPutConstant.Learnt κs a)
+group-answers-put-constant κs a r r′ s s′ = one-result
+
+pub group-answers-put-key : (κs : _) (a : _) → OneWith (λ s. now (s .1 .0)) (GroupAnswersPutKey.Learnt κs a)
+group-answers-put-key κs a r r′ s s′ = one-result
+
+pub group-answers-put-sorted : (κs : _) (a : _) → OneWith (λ s. now (s .1 .0)) (GroupAnswersPutSorted.Learnt κs a)
+group-answers-put-sorted κs a r r′ s s′ = one-result
+
+pub group-answers-put-projected : (κs : _) (a : _) → OneWith (λ s. now (s .1 .0)) (GroupAnswersPutProjected.Learnt κs a)
+group-answers-put-projected κs a r r′ s s′ = one-result
 
 -- ---- unchecked
 
