@@ -131,6 +131,7 @@ pub record Fitting (body : List ℕ) (used at j m : ℕ) : Type 0 where
   pub whole : at + 8 + 2 * m ≤ length body
   pub short : length body ≤ 65535
 
+-- so it is at each class that the walk has not passed
 pub fitting : (body list : List ℕ) (used at j m n : ℕ) → Shaped body → Before body j at → Gathered (givenOf body) list used at j → j < n → n ≡ length (givenOf body) → m ≡ field body (at + 6)
     → Fitting body used at j m
 fitting body list used at j m n s b g l e q =
