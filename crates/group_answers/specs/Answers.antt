@@ -12,13 +12,13 @@ use Rattle.arena.specs.declared.Child.{Child}
 use Rattle.arena.specs.declared.Child.the-variants.{Number as Child-Number, Absent as Child-Absent, Refused as Child-Refused}
 use Rattle.classes.specs.declared.Changed.{Changed}
 use Rattle.group_checks.specs.declared.ClassIs.{ClassIs}
-use Rattle.classes.specs.declared.ClassIs.the-variants.{At as Class-At, Nowhere as NoClass, Refused as Class-Refused}
+use Rattle.group_checks.specs.declared.ClassIs.the-variants.{At as Class-At, Nowhere as NoClass, Refused as Class-Refused}
 use Rattle.questions.specs.declared.Answer.{Answer}
 use Rattle.questions.specs.declared.Answer.the-variants.{Yes as Equal-Yes, No as Equal-No, Refused as Equal-Refused}
 use Rattle.questions.specs.declared.ConstantIs.{ConstantIs}
 use Rattle.questions.specs.declared.ConstantIs.the-variants.{Is as Constant-Is, Refused as Constant-Refused}
 use Rattle.sort_keys.specs.declared.KeyIs.{KeyIs}
-use Rattle.normal.specs.declared.KeyIs.the-variants.{Is as Key-Is, Refused as Key-Refused}
+use Rattle.sort_keys.specs.declared.KeyIs.the-variants.{Is as Key-Is, Refused as Key-Refused}
 use Rattle.sort_keys.specs.declared.Sorted.{Sorted}
 use Rattle.projection.specs.declared.Projected.{Projected}
 use Rattle.projection.specs.declared.Projected.the-variants.{Number as Projected-Number, Nothing as Projected-Nothing, Refused as Projected-Refused}
