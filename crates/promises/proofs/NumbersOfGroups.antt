@@ -37,7 +37,8 @@ use Rattle.sort_keys.specs.Calls.{keyIs, normalizeSortExpr, keyNumber, normaliz
 use Rattle.sort_keys.specs.declared.KeyIs.the-variants.{Refused as Key-Refused}
 use Rattle.sort_keys.specs.declared.Sorted.{Sorted}
 use Rattle.lent_classes.specs.Lent.{flavoursKnown, whole, membersApart, literalsUniform, membersBelow, classesLent}
-use Rattle.merging.specs.Calls.{newNumber, madeGroup, newAnswer, refusedGroup, madeOrRefused}
+use Rattle.merging.specs.Calls.{madeGroup, newAnswer, refusedGroup, madeOrRefused}
+use Rattle.lent_classes.specs.Check.{newNumber}
 use Rattle.shifted_classes.specs.Lent.{paired, sidesBelow, pairsLent}
 use Rattle.shifted_classes.specs.Shifting.{allMove}
 use Rattle.joins.specs.Kinds.{joinKind}
