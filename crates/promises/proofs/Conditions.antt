@@ -1,7 +1,7 @@
 -- Demand 3 over the calls: the theorems on the list of classes, carried to the lent cells and the struct.
 use Prim.Native.Nat.{ℕ, _≤_, _<_}
 use mathlib.Core.Bool.{Bool, true, false, _&&_}
-use mathlib.Core.List.{List, [], _∷_, map}
+use mathlib.Core.List.{List, [], map}
 use mathlib.Core.Logic.{_↔_}
 use mathlib.Core.Path.{_≡_, refl, sym, ap, _∙_, subst}
 use native.Mathlib.Omega.{arith}
@@ -9,12 +9,12 @@ use borrow.Author.Tests.{ltb-true}
 use lib.Dec.{eqb, ltb, leb}
 use lib.ListN.{length, getD, take}
 use Rattle.laws.specs.Tests.{if_then_else_}
-use Rattle.laws.proofs.Booleans.{and-left, and-right, and-both}
+use Rattle.laws.proofs.Booleans.{and-left}
 use Rattle.arena.specs.Node.{Node}
 use Rattle.arena.specs.Arena.{Sound}
 use Rattle.arena.specs.Expression.{expressionAt}
 use Rattle.arena.specs.Value.{Row, Meaning, value}
-use Rattle.arena.specs.Layout.{lawful, decode as nodes, encode as cellsOf}
+use Rattle.arena.specs.Layout.{lawful, decode as nodes}
 use Rattle.arena.specs.declared.Added.{Added}
 use Rattle.arena.specs.declared.Added.the-variants.{Number, Refused}
 use Rattle.classes.specs.Agree.{PairsAgree}
@@ -38,11 +38,11 @@ use Rattle.questions.specs.declared.Answer.the-variants.{Yes, No, Refused as An
 use Rattle.normal.specs.Calls.{onChecked, normalized, normalizeExpr}
 use Rattle.demands.proofs.Valid.{valid-opened}
 use Rattle.demands.proofs.Demands as Lists
-use Rattle.demands.proofs.Limits.{FirstAccepted, limit-more-first}
+use Rattle.demands.proofs.Limits.{limit-more-first}
 use Rattle.normal.proofs.NormalDemand.{normal-form-keeps-value}
 use Rattle.normal.proofs.NormalKept.{form-kept}
 use Rattle.promises.specs.Sequence.{calls, groupAfter, acceptedPairs, seen}
-use Rattle.promises.proofs.Sequences.{after-is, calls-are, accepted-are, after-checked, after-limit}
+use Rattle.promises.proofs.Sequences.{after-is, calls-are, accepted-are, after-checked}
 
 -- an opened group has the limit and no class
 opened-is : (limit : ℕ) → opened limit .number ≡ 0 → opened limit .group ≡ encode limit []

@@ -1,12 +1,11 @@
 -- The demands, sentence by sentence, in their order. Demand 2 is shown by runs beside the Rust and by the contracts themselves; docs/PROMISES.md says where.
 -- What a call answers is said by the definition that its contract cites, over the lent cells and the lent struct, so a statement on those definitions is one on the code that runs.
 use Prim.Native.Nat.{ℕ, _≤_, _<_}
-use mathlib.Core.Bool.{true, false}
+use mathlib.Core.Bool.{true}
 use mathlib.Core.List.{List, [], map}
 use mathlib.Core.Logic.{_↔_}
 use mathlib.Core.Path.{_≡_}
 use lib.ListN.{length, getD, take}
-use Rattle.arena.specs.Arena.{Sound}
 use Rattle.arena.specs.Expression.{expressionAt}
 use Rattle.arena.specs.Value.{Row, Meaning, value}
 use Rattle.arena.specs.Layout.{lawful, decode as nodes}
@@ -14,7 +13,7 @@ use Rattle.arena.specs.declared.Added.the-variants.{Number}
 use Rattle.classes.specs.Agree.{PairsAgree}
 use Rattle.classes.specs.Group.{sameClass}
 use Rattle.classes.specs.Layout.{decode}
-use Rattle.classes.specs.Steps.{Outcome, refused}
+use Rattle.classes.specs.Steps.{refused}
 use Rattle.classes.specs.Calls.{askGroup}
 use Rattle.group_checks.specs.Calls.{opened}
 use Rattle.classes.specs.declared.Group.{Group}

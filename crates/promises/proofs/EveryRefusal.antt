@@ -61,7 +61,7 @@ both stays e z =
     let k = stays (λ q. z (ap (λ (p : (ℕ × List ℕ) × List ℕ). p .0 .0) e ∙ q)) in
     (ap (λ (p : (ℕ × List ℕ) × List ℕ). p .0 .1) e ∙ k .0, ap (λ (p : (ℕ × List ℕ) × List ℕ). p .1) e ∙ k .1)
 
--- for each exported call that is lent something to write into
+-- for each exported call that is lent something to write into; of `add-column` it is asked that the index has 16 bits, which its type in the source says
 pub record EveryRefusalKeeps : Type 1 where
   pub add-column : (κs : _) (a : ArgsD signature κs) → a .1 .1 .0 < 65536 → KeepsBoth (now (a .1 .1 .1 .0)) (λ s. now (s .1 .1 .1 .0)) (now (a .0)) (λ s. now (s .0)) (AddColumn.Learnt κs a)
   pub add-literal : (κs : _) (a : _) → KeepsBoth (now (a .1 .1 .0)) (λ s. now (s .1 .1 .0)) (now (a .0)) (λ s. now (s .0)) (AddLiteral.Learnt κs a)

@@ -1,16 +1,14 @@
 -- Two results that meet a contract are equal: the public functions whose contract says the parts of the result by an equation each, or the result by what stands before it.
-use Prim.Native.Nat.{ℕ, _≤_, _<_}
+use Prim.Native.Nat.{ℕ, _<_}
 use mathlib.Core.Bool.{Bool, true, false}
 use mathlib.Core.List.{List}
-use mathlib.Core.Path.{_≡_, refl, sym, _∙_}
+use mathlib.Core.Path.{_≡_, refl}
 use native.Mathlib.Omega.{arith}
 use borrow.Author.Tests.{ltb-true, ltb-false}
 use lib.Dec.{ltb}
 use denote.Ref.{now}
-use lib.ListN.{getD}
 use Rattle.laws.proofs.Booleans.{true-not-false}
 use Rattle.laws.proofs.Determined.{one-result}
-use Rattle.classes.specs.declared.Changed.{Changed}
 use Rattle.enumeration.specs.Inner.{Opened}
 use Rattle.enumeration.specs.declared.Seen.{Seen}
 use Rattle.lines.specs.Writing.{Put}

@@ -5,8 +5,7 @@ use mathlib.Core.List.{List, [], _∷_, _++_, map}
 use mathlib.Core.Path.{_≡_, refl, ap, ap₂, _∙_}
 use lib.Dec.{eqb}
 use Rattle.laws.specs.Tests.{if_then_else_}
-use Rattle.arena.specs.Node.{Node}
-use Rattle.arena.specs.Layout.{lawful, decode as nodes}
+use Rattle.arena.specs.Layout.{decode as nodes}
 use Rattle.classes.specs.Class.{Class}
 use Rattle.classes.specs.Layout.{encode, decode}
 use Rattle.classes.specs.Steps.{Outcome}
@@ -15,7 +14,7 @@ use Rattle.classes.specs.declared.Group.{Group}
 use Rattle.classes.specs.declared.Changed.{Changed}
 use Rattle.classes.proofs.Codec.{decode-encode}
 use Rattle.conditions.specs.Steps.{addEqual, outcomes, after, accepted}
-use Rattle.demands.proofs.Valid.{valid-equal, valid-opened}
+use Rattle.demands.proofs.Valid.{valid-equal}
 use Rattle.promises.specs.Sequence.{equalCall, calls, groupAfter, acceptedPairs, seen}
 
 module _ (cells : List ℕ) where
