@@ -9,64 +9,64 @@ use Rattle.ordering_joins.specs.declared.Output.{Output}
 use Rattle.dependencies.specs.declared.Given.{Given}
 use Rattle.dependencies.specs.declared.Given.TheVariants.{Key as Given-Key, Nothing as Given-Nothing}
 use Rattle.dependency_orderings.specs.declared.Enumerated.{Enumerated}
-use Rattle.records.specs.Chosen.{chosenPart, chosenNumber}
+use Rattle.records.specs.Chosen.{chosen_part, chosen_number}
 use Rattle.records.specs.declared.Item.{Item}
 use Rattle.records.specs.declared.Item.TheVariants.{Column, Literal, Operation, EqualPair, Constant, NormalFormOf, EqualityOf, OneOrdering, Malformed}
 use Rattle.transcript.specs.declared.Written.{Written}
 use Rattle.transcript.specs.declared.Written.TheVariants.{Bytes, Refused as Written-Refused}
-use Rattle.states.specs.Orders.{orderingCells}
+use Rattle.states.specs.Orders.{ordering_cells}
 
 -- the first of two put into numbers; the second is what a call leaves in the other memory that it is lent
-unfoldable pub onFirst : {A B : Type 0} → (A → B) → A × List ℕ → B × List ℕ
-onFirst f o = (f o.0, o.1)
+unfoldable pub on_first : {A B : Type 0} → (A → B) → A × List ℕ → B × List ℕ
+on_first f o = (f o.0, o.1)
 
 -- the options of an expression: 1 and these, or that there are none
-unfoldable pub optionsIn : List ℕ → OptionsAre → ℕ × List ℕ
-optionsIn old (Are options) = (0, 1 ∷ options ∷ [])
-optionsIn old Options-Absent = (0, 0 ∷ 0 ∷ [])
-optionsIn old (Options-Refused k) = (k, old)
+unfoldable pub options_in : List ℕ → OptionsAre → ℕ × List ℕ
+options_in old (Are options) = (0, 1 ∷ options ∷ [])
+options_in old Options-Absent = (0, 0 ∷ 0 ∷ [])
+options_in old (Options-Refused k) = (k, old)
 
 -- whether an expression is partly constant
-unfoldable pub partialIn : List ℕ → PartialIs → ℕ × List ℕ
-partialIn old Partial-Yes = (0, 1 ∷ [])
-partialIn old Partial-No = (0, 0 ∷ [])
-partialIn old (Partial-Refused k) = (k, old)
+unfoldable pub partial_in : List ℕ → PartialIs → ℕ × List ℕ
+partial_in old Partial-Yes = (0, 1 ∷ [])
+partial_in old Partial-No = (0, 0 ∷ [])
+partial_in old (Partial-Refused k) = (k, old)
 
 -- the joined ordering
-unfoldable pub outputIn : List ℕ → Output → ℕ × List ℕ
-outputIn old o = if eqb o.number 0 then (0, orderingCells o.ordering) else (o.number, old)
+unfoldable pub output_in : List ℕ → Output → ℕ × List ℕ
+output_in old o = if eqb o.number 0 then (0, ordering_cells o.ordering) else (o.number, old)
 
 -- an enumeration: how many orderings, and how many places of the output they take
-unfoldable pub enumeratedIn : List ℕ → Enumerated → ℕ × List ℕ
-enumeratedIn old e = if eqb e.number 0 then (0, e.count ∷ e.used ∷ []) else (e.number, old)
+unfoldable pub enumerated_in : List ℕ → Enumerated → ℕ × List ℕ
+enumerated_in old e = if eqb e.number 0 then (0, e.count ∷ e.used ∷ []) else (e.number, old)
 
 -- a key that is given as two numbers: 4,294,967,295, which no expression has, stands for none
-unfoldable pub givenFrom : ℕ → ℕ → Given
-givenFrom e options = if eqb e 4294967295 then Given-Nothing else Given-Key e options
+unfoldable pub given_from : ℕ → ℕ → Given
+given_from e options = if eqb e 4294967295 then Given-Nothing else Given-Key e options
 
 -- a record that was read: its kind and up to three numbers
-unfoldable pub itemIn : List ℕ → Item → ℕ × List ℕ
-itemIn old (Column name index) = (0, 1 ∷ name ∷ index ∷ 0 ∷ [])
-itemIn old (Literal value) = (0, 2 ∷ value ∷ 0 ∷ 0 ∷ [])
-itemIn old (Operation label children) = (0, 3 ∷ label ∷ children ∷ 0 ∷ [])
-itemIn old (EqualPair a b) = (0, 4 ∷ a ∷ b ∷ 0 ∷ [])
-itemIn old (Constant e flavour value) = (0, 5 ∷ e ∷ flavour ∷ value ∷ [])
-itemIn old (NormalFormOf e) = (0, 6 ∷ e ∷ 0 ∷ 0 ∷ [])
-itemIn old (EqualityOf a b) = (0, 7 ∷ a ∷ b ∷ 0 ∷ [])
-itemIn old (OneOrdering keys) = (0, 8 ∷ keys ∷ 0 ∷ 0 ∷ [])
-itemIn old Malformed = (9, old)
+unfoldable pub item_in : List ℕ → Item → ℕ × List ℕ
+item_in old (Column name index) = (0, 1 ∷ name ∷ index ∷ 0 ∷ [])
+item_in old (Literal value) = (0, 2 ∷ value ∷ 0 ∷ 0 ∷ [])
+item_in old (Operation label children) = (0, 3 ∷ label ∷ children ∷ 0 ∷ [])
+item_in old (EqualPair a b) = (0, 4 ∷ a ∷ b ∷ 0 ∷ [])
+item_in old (Constant e flavour value) = (0, 5 ∷ e ∷ flavour ∷ value ∷ [])
+item_in old (NormalFormOf e) = (0, 6 ∷ e ∷ 0 ∷ 0 ∷ [])
+item_in old (EqualityOf a b) = (0, 7 ∷ a ∷ b ∷ 0 ∷ [])
+item_in old (OneOrdering keys) = (0, 8 ∷ keys ∷ 0 ∷ 0 ∷ [])
+item_in old Malformed = (9, old)
 
 -- the side that a join of kind 4 to 9 keeps
 unfoldable pub side : ℕ → ℕ
 side kind = if ltb kind 7 then 0 else 1
 
 -- the chosen one of two group records: its side, and how many of its bytes, from the first on, are the part
-unfoldable pub chosenIn : List ℕ → ℕ → List ℕ → List ℕ → ℕ × List ℕ
-chosenIn old kind left right =
-    if eqb (chosenNumber kind left right) 0 then (0, side kind ∷ length (chosenPart kind left right) ∷ [])
-    else (chosenNumber kind left right, old)
+unfoldable pub chosen_in : List ℕ → ℕ → List ℕ → List ℕ → ℕ × List ℕ
+chosen_in old kind left right =
+    if eqb (chosen_number kind left right) 0 then (0, side kind ∷ length (chosen_part kind left right) ∷ [])
+    else (chosen_number kind left right, old)
 
 -- a session: how many bytes were written
-unfoldable pub writtenIn : List ℕ → Written → ℕ × List ℕ
-writtenIn old (Bytes n) = (0, n ∷ [])
-writtenIn old (Written-Refused k) = (k, old)
+unfoldable pub written_in : List ℕ → Written → ℕ × List ℕ
+written_in old (Bytes n) = (0, n ∷ [])
+written_in old (Written-Refused k) = (k, old)

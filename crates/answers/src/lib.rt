@@ -2,7 +2,7 @@
 // answers on orderings, dependency maps, records and sessions; those on nodes and groups stand in the crate
 // group_answers.
 ghost use Rattle.std.specs.Prelude.{[], ◌∷◌, ◌≡◌, ◌<◌};
-ghost use Rattle.answers.specs.Answers.{optionsIn, partialIn, outputIn, enumeratedIn, itemIn, writtenIn, givenFrom};
+ghost use Rattle.answers.specs.Answers.{options_in, partial_in, output_in, enumerated_in, item_in, written_in, given_from};
 
 use arena::cells::wide;
 use dependencies::Given;
@@ -61,7 +61,7 @@ pub fn put_one(ordering: Ordering, answer: &mut [u16; 17])
 
 // The options of an expression: whether there are some, and these.
 pub fn put_options(are: OptionsAre, answer: &mut [u32; 2]) -> u32
-    ensures { (result, answer.new) ≡ optionsIn answer.old are }
+    ensures { (result, answer.new) ≡ options_in answer.old are }
 {
     match are {
         OptionsAre::Are(options) => {
@@ -78,7 +78,7 @@ pub fn put_options(are: OptionsAre, answer: &mut [u32; 2]) -> u32
 
 // Whether an expression is partly constant: 1 for yes, 0 for no.
 pub fn put_partial(is: PartialIs, answer: &mut [u32; 1]) -> u32
-    ensures { (result, answer.new) ≡ partialIn answer.old is }
+    ensures { (result, answer.new) ≡ partial_in answer.old is }
 {
     match is {
         PartialIs::Yes => {
@@ -96,7 +96,7 @@ pub fn put_partial(is: PartialIs, answer: &mut [u32; 1]) -> u32
 // The joined ordering: how many keys, and these.
 pub fn put_output(output: Output, answer: &mut [u16; 17]) -> u32
     requires { output.ordering.size < 65536 }
-    ensures { (result, answer.new) ≡ outputIn answer.old output }
+    ensures { (result, answer.new) ≡ output_in answer.old output }
 {
     if output.number != 0 {
         return output.number;
@@ -108,7 +108,7 @@ pub fn put_output(output: Output, answer: &mut [u16; 17]) -> u32
 
 // An enumeration: how many orderings, and how many places of the output they take.
 pub fn put_enumerated(enumerated: Enumerated, answer: &mut [usize; 2]) -> u32
-    ensures { (result, answer.new) ≡ enumeratedIn answer.old enumerated }
+    ensures { (result, answer.new) ≡ enumerated_in answer.old enumerated }
 {
     if enumerated.number != 0 {
         return enumerated.number;
@@ -119,7 +119,7 @@ pub fn put_enumerated(enumerated: Enumerated, answer: &mut [usize; 2]) -> u32
 
 // A record that was read: its kind and up to three numbers.
 pub fn put_record(item: Item, answer: &mut [usize; 4]) -> u32
-    ensures { (result, answer.new) ≡ itemIn answer.old item }
+    ensures { (result, answer.new) ≡ item_in answer.old item }
 {
     match item {
         Item::Column(name, index) => {
@@ -160,7 +160,7 @@ pub fn put_record(item: Item, answer: &mut [usize; 4]) -> u32
 
 // A session: how many bytes were written.
 pub fn put_written(written: Written, answer: &mut [usize; 1]) -> u32
-    ensures { (result, answer.new) ≡ writtenIn answer.old written }
+    ensures { (result, answer.new) ≡ written_in answer.old written }
 {
     match written {
         Written::Bytes(n) => {
@@ -173,7 +173,7 @@ pub fn put_written(written: Written, answer: &mut [usize; 1]) -> u32
 
 // A key that is given as two numbers, or none.
 pub fn given_from(expr: u32, options: u32) -> Given
-    ensures { result ≡ givenFrom expr options }
+    ensures { result ≡ given_from expr options }
 {
     if expr == NONE {
         Given::Nothing

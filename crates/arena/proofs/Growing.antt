@@ -4,18 +4,18 @@ use mathlib.Core.List.{List, [], ◌∷◌}
 use mathlib.Core.Path.{◌≡◌, refl, sym, ap, ap₂, ◌∙◌, subst₂}
 use native.Mathlib.Omega.{arith}
 use lib.ListN.{length, get_or}
-use Rattle.arena.specs.Node.{Node, column, literal, operation, nodeAt}
-use Rattle.arena.specs.Expression.{Expression, Expressions, col, lit, op, ∅, ◌▹◌, size, those, over, expressions, expressionAt}
-use Rattle.arena.specs.Arena.{Allowed, Sound, Extends, Small, AllSmall, Placed, placed, full, and_then, add, addExpression, addExpressions}
+use Rattle.arena.specs.Node.{Node, column, literal, operation, node_at}
+use Rattle.arena.specs.Expression.{Expression, Expressions, col, lit, op, ∅, ◌▹◌, size, those, over, expressions, expression_at}
+use Rattle.arena.specs.Arena.{Allowed, Sound, Extends, Small, AllSmall, Placed, placed, full, and_then, add, add_expression, add_expressions}
 use Rattle.arena.proofs.Nodes.{extends-none, extends-both, extends-longer, AddedNode, add-node, add-old}
-use Rattle.arena.proofs.Trees.{those-cong, expression-kept, expression-is}
+use Rattle.arena.proofs.Trees.{those_cong, expression-kept, expression-is}
 
 -- what adding an expression comes to: the arena is extended, it is sound, and the number answered is the expression's
 pub record AddedExpression (e : Expression) (ns : List Node) (i : ℕ) (ms : List Node) : Type 0 where
   pub extends : Extends ns ms
   pub sound : Sound ms
   pub below : i < length ms
-  pub is : expressionAt ms i ≡ e
+  pub is : expression_at ms i ≡ e
 
 -- the same for expressions in a row, with a number for each
 pub record AddedExpressions (es : Expressions) (ns : List Node) (ks : List ℕ) (ms : List Node) : Type 0 where
@@ -49,7 +49,7 @@ node-added n ns i ms a = record {
 
 -- numbers of an arena stand for the same expressions in its extensions
 those-kept : {ns ms : List Node} → Extends ns ms → (ks : List ℕ) → ((k : ℕ) → k < length ks → get_or ks k 0 < length ns) → those (expressions ms) ks ≡ those (expressions ns) ks
-those-kept {ns} {ms} x ks b = those-cong (expressions ms) (expressions ns) ks (λ k l. expression-kept x (get_or ks k 0) (b k l))
+those-kept {ns} {ms} x ks b = those_cong (expressions ms) (expressions ns) ks (λ k l. expression-kept x (get_or ks k 0) (b k l))
 
 -- an operation over expressions that were added
 op-added : (label : ℕ) (es : Expressions) (ns : List Node) (ks : List ℕ) (ms : List Node) (i : ℕ) (os : List Node)
@@ -86,23 +86,23 @@ placed-added : (es : Expressions) (ns : List Node) (ks js : List ℕ) (ms os : L
 placed-added es ns ks js ms os e a = subst₂ (λ (l : List ℕ) (m : List Node). AddedExpressions es ns l m) (cc) (cc) a
 
 mutual
-  unfolding addExpression addExpressions Allowed Small AllSmall over those size
+  unfolding add_expression add_expressions Allowed Small AllSmall over those size
 
   -- an expression that is added has the number answered, in a sound extension of the arena
-  pub add-expression : (e : Expression) (ns : List Node) → Sound ns → Small e → (i : ℕ) (ms : List Node) → addExpression e ns ≡ placed i ms → AddedExpression e ns i ms
+  pub add-expression : (e : Expression) (ns : List Node) → Sound ns → Small e → (i : ℕ) (ms : List Node) → add_expression e ns ≡ placed i ms → AddedExpression e ns i ms
   add-expression (col name index) ns s l i ms e = node-added (column name index) ns i ms (add-node (column name index) ns s l i ms e)
   add-expression (lit v) ns s l i ms e = node-added (literal v) ns i ms (add-node (literal v) ns s tt i ms e)
   add-expression (op label es) ns s l i ms e =
-      let b = between (addExpressions es ns) (λ ks ms. add (operation label ks) ms) i ms e in
+      let b = between (add_expressions es ns) (λ ks ms. add (operation label ks) ms) i ms e in
       op-added label es ns b.answer b.arena i ms l.0 (add-expressions es ns s l.1 b.answer b.arena b.first) b.then
 
   -- so do expressions in a row
-  pub add-expressions : (es : Expressions) (ns : List Node) → Sound ns → AllSmall es → (ks : List ℕ) (ms : List Node) → addExpressions es ns ≡ placed ks ms → AddedExpressions es ns ks ms
+  pub add-expressions : (es : Expressions) (ns : List Node) → Sound ns → AllSmall es → (ks : List ℕ) (ms : List Node) → add_expressions es ns ≡ placed ks ms → AddedExpressions es ns ks ms
   add-expressions ∅ ns s l ks ms e =
       placed-added ∅ ns [] ks ns ms e (record { extends = extends-none ns; sound = s; below = λ k b. absurd (omega arith); counted = refl; is = refl })
   add-expressions (x ▹ es) ns s l ks ms e =
-      let b = between (addExpression x ns) (λ k os. and_then (addExpressions es os) (λ js qs. placed (k ∷ js) qs)) ks ms e in
-      let c = between (addExpressions es b.arena) (λ js qs. placed (b.answer ∷ js) qs) ks ms b.then in
+      let b = between (add_expression x ns) (λ k os. and_then (add_expressions es os) (λ js qs. placed (k ∷ js) qs)) ks ms e in
+      let c = between (add_expressions es b.arena) (λ js qs. placed (b.answer ∷ js) qs) ks ms b.then in
       let p = add-expression x ns s l.0 b.answer b.arena b.first in
       placed-added (x ▹ es) ns (b.answer ∷ c.answer) ks c.arena ms c.then
       (more_added x es ns b.answer b.arena c.answer c.arena p (add-expressions es b.arena p.sound l.1 c.answer c.arena c.first))
@@ -136,22 +136,22 @@ over-op es i (literal w) label children p e = absurd (let z : ◌≡◌ {A = ℕ
 over-op es i (operation l ks) label children p e = record { numbers = ks; node = cc; lower = p.1; is = cc }
 
 mutual
-  unfolding addExpression addExpressions and_then those
+  unfolding add_expression add_expressions and_then those
 
   -- an expression of the arena is found again, and the arena stays
-  pub add-expression-old : (e : Expression) (ns : List Node) → Sound ns → (i : ℕ) → i < length ns → expressionAt ns i ≡ e → addExpression e ns ≡ placed i ns
-  add-expression-old (col name index) ns s i l e =
-      add-old (column name index) ns s i l (over-col (expressions ns) (nodeAt ns i) name index (sym (expression-is ns s i l) ∙ e))
-  add-expression-old (lit v) ns s i l e =
-      add-old (literal v) ns s i l (over-lit (expressions ns) (nodeAt ns i) v (sym (expression-is ns s i l) ∙ e))
-  add-expression-old (op label es) ns s i l e =
-      let o = over-op (expressions ns) i (nodeAt ns i) label es (s.allowed i l) (sym (expression-is ns s i l) ∙ e) in
-      rw (add-expressions-old es ns s o.numbers (λ k b. let c = o.lower k b in omega arith) o.is) (add-old (operation label o.numbers) ns s i l o.node)
+  pub add_expression-old : (e : Expression) (ns : List Node) → Sound ns → (i : ℕ) → i < length ns → expression_at ns i ≡ e → add_expression e ns ≡ placed i ns
+  add_expression-old (col name index) ns s i l e =
+      add-old (column name index) ns s i l (over-col (expressions ns) (node_at ns i) name index (sym (expression-is ns s i l) ∙ e))
+  add_expression-old (lit v) ns s i l e =
+      add-old (literal v) ns s i l (over-lit (expressions ns) (node_at ns i) v (sym (expression-is ns s i l) ∙ e))
+  add_expression-old (op label es) ns s i l e =
+      let o = over-op (expressions ns) i (node_at ns i) label es (s.allowed i l) (sym (expression-is ns s i l) ∙ e) in
+      rw (add_expressions-old es ns s o.numbers (λ k b. let c = o.lower k b in omega arith) o.is) (add-old (operation label o.numbers) ns s i l o.node)
 
   -- so are expressions in a row
-  pub add-expressions-old : (es : Expressions) (ns : List Node) → Sound ns → (ks : List ℕ) → ((k : ℕ) → k < length ks → get_or ks k 0 < length ns) → those (expressions ns) ks ≡ es → addExpressions es ns ≡ placed ks ns
-  add-expressions-old ∅ ns s [] b e = refl
-  add-expressions-old ∅ ns s (k ∷ ks) b e = absurd (let z : ◌≡◌ {A = ℕ} 0 1 = cc in omega arith)
-  add-expressions-old (x ▹ es) ns s [] b e = absurd (let z : ◌≡◌ {A = ℕ} 0 1 = cc in omega arith)
-  add-expressions-old (x ▹ es) ns s (k ∷ ks) b e =
-      rw (add-expression-old x ns s k (b 0 (omega arith)) (cc), add-expressions-old es ns s ks (λ j l. b (suc j) (omega arith)) (cc))
+  pub add_expressions-old : (es : Expressions) (ns : List Node) → Sound ns → (ks : List ℕ) → ((k : ℕ) → k < length ks → get_or ks k 0 < length ns) → those (expressions ns) ks ≡ es → add_expressions es ns ≡ placed ks ns
+  add_expressions-old ∅ ns s [] b e = refl
+  add_expressions-old ∅ ns s (k ∷ ks) b e = absurd (let z : ◌≡◌ {A = ℕ} 0 1 = cc in omega arith)
+  add_expressions-old (x ▹ es) ns s [] b e = absurd (let z : ◌≡◌ {A = ℕ} 0 1 = cc in omega arith)
+  add_expressions-old (x ▹ es) ns s (k ∷ ks) b e =
+      rw (add_expression-old x ns s k (b 0 (omega arith)) (cc), add_expressions-old es ns s ks (λ j l. b (suc j) (omega arith)) (cc))

@@ -12,66 +12,66 @@ use lib.Dec.{eqb, leb}
 use lib.ListN.{length, get_or, take, drop, set, replicate, length-append, length-replicate, length-set, get_or-append}
 use lib.Seq.{ext_get_or, get_or_at, get_or-set_same, get_or-set_other, get_or-take, get_or-drop, length-take-le, paste, length-paste, length_paste_head}
 use Rattle.laws.specs.Tests.{each, first, is_some}
-use Rattle.laws.proofs.Booleans.{true-not-false, and_left, and_right, and_both, same_test}
+use Rattle.laws.proofs.Booleans.{true_not_false, and_left, and_right, and_both, same_test}
 use Rattle.laws.proofs.Each.{each_all, each_holds}
 use Rattle.laws.proofs.First.{first-none, first-missing, first_cong}
-use Rattle.laws.proofs.Table.{length-table, getD-table, table_is}
-use Rattle.arena.specs.Node.{Node, literal, nodeAt, sameNode}
+use Rattle.laws.proofs.Table.{length-table, get_or-table, table_is}
+use Rattle.arena.specs.Node.{Node, literal, node_at, same_node}
 use Rattle.arena.specs.Arena.{Allowed, Sound, find}
-use Rattle.arena.specs.Layout.{row, rows, encode, count, cell_of, rowOf, node_of, decode, sameRow, rowBelow, lawfulRow, lawfulNode, cellsUnused, lawful}
+use Rattle.arena.specs.Layout.{row, rows, encode, count, cell_of, row_of, node_of, decode, same_row, row_below, lawful_row, lawful_node, cells_unused, lawful}
 use Rattle.arena.specs.Inner.{Coded, Holds}
 use Rattle.arena.proofs.Nodes.{same-node, node-same}
 use Rattle.arena.proofs.Rows.{row-length, node_row, row-coded, coded-length, get_d_past, LawfulRow, lawful-row, row_lawful}
 
 module _ (cells : List ℕ) where
   -- a node has 11 cells
-  pub length-row-of : (i : ℕ) → length (rowOf cells i) ≡ 11
-  unfolding rowOf
-  length-row-of i = length-table (λ (j : ℕ). cell_of cells i j) 11
+  pub length-row_of : (i : ℕ) → length (row_of cells i) ≡ 11
+  unfolding row_of
+  length-row_of i = length-table (λ (j : ℕ). cell_of cells i j) 11
 
   -- the cells of a node by their places
-  pub at-row-of : (i j : ℕ) → j < 11 → get_or (rowOf cells i) j 0 ≡ cell_of cells i j
-  unfolding rowOf
-  at-row-of i j l = getD-table (λ (k : ℕ). cell_of cells i k) 11 j 0 l
+  pub at-row_of : (i j : ℕ) → j < 11 → get_or (row_of cells i) j 0 ≡ cell_of cells i j
+  unfolding row_of
+  at-row_of i j l = get_or-table (λ (k : ℕ). cell_of cells i k) 11 j 0 l
 
   -- the arena in the cells has as many nodes as cell 0 says
   pub length-decode : length (decode cells) ≡ count cells
   unfolding decode
-  length-decode = length-table (λ (i : ℕ). node_of (rowOf cells i)) (count cells)
+  length-decode = length-table (λ (i : ℕ). node_of (row_of cells i)) (count cells)
 
   -- a node of the arena in the cells is the node of its row
-  pub node-decode : (i : ℕ) → i < count cells → nodeAt (decode cells) i ≡ node_of (rowOf cells i)
+  pub node-decode : (i : ℕ) → i < count cells → node_at (decode cells) i ≡ node_of (row_of cells i)
   unfolding decode
-  node-decode i l = getD-table (λ (j : ℕ). node_of (rowOf cells j)) (count cells) i (literal 0) l
+  node-decode i l = get_or-table (λ (j : ℕ). node_of (row_of cells j)) (count cells) i (literal 0) l
 
   -- a row that passes the comparison is the node's row
-  pub same_row : (i : ℕ) (r : List ℕ) → length r ≡ 11 → sameRow cells i r ≡ true → rowOf cells i ≡ r
-  unfolding sameRow
-  same_row i r l e =
-      ext_get_or 0 (rowOf cells i) r (length-row-of i ∙ sym l)
-      (λ j b. let c : j < 11 = omega (arith, length-row-of i) in
-      at-row-of i j c ∙ eqb-true (cell_of cells i j) (get_or r j 0) (each_holds (λ (k : ℕ). eqb (cell_of cells i k) (get_or r k 0)) 11 j e c))
+  pub same_row_lem : (i : ℕ) (r : List ℕ) → length r ≡ 11 → same_row cells i r ≡ true → row_of cells i ≡ r
+  unfolding same_row
+  same_row_lem i r l e =
+      ext_get_or 0 (row_of cells i) r (length-row_of i ∙ sym l)
+      (λ j b. let c : j < 11 = omega (arith, length-row_of i) in
+      at-row_of i j c ∙ eqb-true (cell_of cells i j) (get_or r j 0) (each_holds (λ (k : ℕ). eqb (cell_of cells i k) (get_or r k 0)) 11 j e c))
 
   -- the node's row passes the comparison
-  pub row_same : (i : ℕ) (r : List ℕ) → rowOf cells i ≡ r → sameRow cells i r ≡ true
-  unfolding sameRow
+  pub row_same : (i : ℕ) (r : List ℕ) → row_of cells i ≡ r → same_row cells i r ≡ true
+  unfolding same_row
   row_same i r e =
       each_all (λ (k : ℕ). eqb (cell_of cells i k) (get_or r k 0)) 11
-      (λ j l. eq-eqb (cell_of cells i j) (get_or r j 0) (sym (at-row-of i j l) ∙ ap (λ (s : List ℕ). get_or s j 0) e))
+      (λ j l. eq-eqb (cell_of cells i j) (get_or r j 0) (sym (at-row_of i j l) ∙ ap (λ (s : List ℕ). get_or s j 0) e))
 
 -- layouts of the same node are equal
 coded-same : (r s : List ℕ) → Coded r → Coded s → node_of r ≡ node_of s → r ≡ s
 coded-same r s c d e = sym c ∙ ap row e ∙ d
 
 -- the search for a row is the search for its node
-pub row-below-is : (cells r : List ℕ) → Holds cells → Coded r → length r ≡ 11 → rowBelow cells (count cells) r ≡ find (node_of r) (decode cells)
-unfolding rowBelow find
-row-below-is cells r h c l =
+pub row_below-is : (cells r : List ℕ) → Holds cells → Coded r → length r ≡ 11 → row_below cells (count cells) r ≡ find (node_of r) (decode cells)
+unfolding row_below find
+row_below-is cells r h c l =
     rw (length-decode cells)
-    (first_cong (λ (i : ℕ). sameRow cells i r) (λ (i : ℕ). sameNode (node_of r) (nodeAt (decode cells) i)) (count cells)
-    (λ i b. same_test (sameRow cells i r) (sameNode (node_of r) (nodeAt (decode cells) i))
-    (λ e. rw (node-decode cells i b, same_row cells i r l e) (node-same (node_of r)))
-    (λ e. row_same cells i r (coded-same (rowOf cells i) r (h.coded i b) c (sym (same-node (node_of r) (nodeAt (decode cells) i) e ∙ node-decode cells i b))))))
+    (first_cong (λ (i : ℕ). same_row cells i r) (λ (i : ℕ). same_node (node_of r) (node_at (decode cells) i)) (count cells)
+    (λ i b. same_test (same_row cells i r) (same_node (node_of r) (node_at (decode cells) i))
+    (λ e. rw (node-decode cells i b, same_row_lem cells i r l e) (node-same (node_of r)))
+    (λ e. row_same cells i r (coded-same (row_of cells i) r (h.coded i b) c (sym (same-node (node_of r) (node_at (decode cells) i) e ∙ node-decode cells i b))))))
 
 -- zeros are 0 everywhere
 zeros-at : (n k : ℕ) → get_or (replicate {A = ℕ} n 0) k 0 ≡ 0
@@ -80,14 +80,14 @@ zeros-at (suc n) zero = refl
 zeros-at (suc n) (suc k) = zeros-at n k
 
 -- rows of 11 cells, one after the other
-length-rows : (ns : List Node) → ((i : ℕ) → i < length ns → length (row (nodeAt ns i)) ≡ 11) → length (rows ns) ≡ 11 * length ns
+length-rows : (ns : List Node) → ((i : ℕ) → i < length ns → length (row (node_at ns i)) ≡ 11) → length (rows ns) ≡ 11 * length ns
 unfolding rows
 length-rows [] h = refl
 length-rows (n ∷ ns) h = omega (arith, length-append (row n) (rows ns), h 0 (omega arith), length-rows ns (λ i l. h (suc i) (omega arith)))
 
 -- and their cells by their places
-at_rows : (ns : List Node) → ((i : ℕ) → i < length ns → length (row (nodeAt ns i)) ≡ 11)
-    → (i j : ℕ) → i < length ns → j < 11 → get_or (rows ns) (11 * i + j) 0 ≡ get_or (row (nodeAt ns i)) j 0
+at_rows : (ns : List Node) → ((i : ℕ) → i < length ns → length (row (node_at ns i)) ≡ 11)
+    → (i j : ℕ) → i < length ns → j < 11 → get_or (rows ns) (11 * i + j) 0 ≡ get_or (row (node_at ns i)) j 0
 unfolding rows
 at_rows [] h i j l b = absurd (omega arith)
 at_rows (n ∷ ns) h zero j l b =
@@ -100,8 +100,8 @@ at_rows (n ∷ ns) h (suc i) j l b =
 
 module _ (ns : List Node) (s : Sound ns) where
   -- each row of a sound arena has 11 cells
-  row-long : (i : ℕ) → i < length ns → length (row (nodeAt ns i)) ≡ 11
-  row-long i l = row-length i (nodeAt ns i) (s.allowed i l)
+  row-long : (i : ℕ) → i < length ns → length (row (node_at ns i)) ≡ 11
+  row-long i l = row-length i (node_at ns i) (s.allowed i l)
 
   -- the cells of an arena are 11,265
   pub length-encode : length (encode ns) ≡ 11265
@@ -115,7 +115,7 @@ module _ (ns : List Node) (s : Sound ns) where
   count-encode = refl
 
   -- the cells of a node are its row
-  pub cell-encode : (i j : ℕ) → i < length ns → j < 11 → cell_of (encode ns) i j ≡ get_or (row (nodeAt ns i)) j 0
+  pub cell-encode : (i j : ℕ) → i < length ns → j < 11 → cell_of (encode ns) i j ≡ get_or (row (node_at ns i)) j 0
   unfolding encode
   cell-encode i j l b =
       let e : 1 + 11 * i + j ≡ suc (11 * i + j) = omega arith in
@@ -131,7 +131,7 @@ module _ (ns : List Node) (s : Sound ns) where
 
   -- cells with the count, the rows and zeros are the arena's
   pub encode-is : (cells : List ℕ) → length cells ≡ 11265 → count cells ≡ length ns
-      → ((i j : ℕ) → i < length ns → j < 11 → cell_of cells i j ≡ get_or (row (nodeAt ns i)) j 0)
+      → ((i j : ℕ) → i < length ns → j < 11 → cell_of cells i j ≡ get_or (row (node_at ns i)) j 0)
       → ((k : ℕ) → 1 + 11 * length ns ≤ k → k < 11265 → get_or cells k 0 ≡ 0) → cells ≡ encode ns
   encode-is cells sized counted inside rest =
       ext_get_or 0 cells (encode ns) (sized ∙ sym length-encode) (λ k b. at k (omega (arith, sized)) (ℕ_discrete k 0) (dec_lt k (1 + 11 * length ns)))
@@ -147,33 +147,33 @@ module _ (ns : List Node) (s : Sound ns) where
       at k b (no z) (no d) = rest k (omega arith) b ∙ sym (rest-encode k (omega arith))
 
   -- the 11 cells of a node are its row
-  pub row-encode : (i : ℕ) → i < length ns → rowOf (encode ns) i ≡ row (nodeAt ns i)
+  pub row-encode : (i : ℕ) → i < length ns → row_of (encode ns) i ≡ row (node_at ns i)
   row-encode i l =
-      ext_get_or 0 (rowOf (encode ns) i) (row (nodeAt ns i)) (length-row-of (encode ns) i ∙ sym (row-long i l))
-      (λ j b. let c : j < 11 = omega (arith, length-row-of (encode ns) i) in at-row-of (encode ns) i j c ∙ cell-encode i j l c)
+      ext_get_or 0 (row_of (encode ns) i) (row (node_at ns i)) (length-row_of (encode ns) i ∙ sym (row-long i l))
+      (λ j b. let c : j < 11 = omega (arith, length-row_of (encode ns) i) in at-row_of (encode ns) i j c ∙ cell-encode i j l c)
 
   -- the arena in its cells is the arena
   pub decode-encode : decode (encode ns) ≡ ns
   unfolding decode
   decode-encode =
-      sym (table_is (λ (i : ℕ). node_of (rowOf (encode ns) i)) (count (encode ns)) ns (literal 0) (sym count-encode)
+      sym (table_is (λ (i : ℕ). node_of (row_of (encode ns) i)) (count (encode ns)) ns (literal 0) (sym count-encode)
       (λ i l. let b : i < length ns = omega (arith, count-encode) in
-      sym (ap node_of (row-encode i b) ∙ node_row i (nodeAt ns i) (s.allowed i b))))
+      sym (ap node_of (row-encode i b) ∙ node_row i (node_at ns i) (s.allowed i b))))
 
   -- the cells of a sound arena are the layout of one
   pub encode-holds : Holds (encode ns)
   encode-holds = record {
     sized = length-encode;
     few = omega (arith, s.few, count-encode);
-    coded = λ i l. let b : i < length ns = omega (arith, count-encode) in rw (row-encode i b) (row-coded i (nodeAt ns i) (s.allowed i b));
+    coded = λ i l. let b : i < length ns = omega (arith, count-encode) in rw (row-encode i b) (row-coded i (node_at ns i) (s.allowed i b));
     rest = λ k l b. rest-encode k (omega (arith, count-encode));
     sound = rw decode-encode s;
   }
 
 module _ (cells : List ℕ) (h : Holds cells) where
   -- each cell of a node is its row's
-  cell_row : (i j : ℕ) → i < count cells → j < 11 → cell_of cells i j ≡ get_or (row (nodeAt (decode cells) i)) j 0
-  cell_row i j l b = sym (rw (node-decode cells i l, h.coded i l) (at-row-of cells i j b))
+  cell_row : (i j : ℕ) → i < count cells → j < 11 → cell_of cells i j ≡ get_or (row (node_at (decode cells) i)) j 0
+  cell_row i j l b = sym (rw (node-decode cells i l, h.coded i l) (at-row_of cells i j b))
 
   -- cells that are the layout of a sound arena are the layout of the arena in them
   pub coded-cells : encode (decode cells) ≡ cells
@@ -182,28 +182,28 @@ module _ (cells : List ℕ) (h : Holds cells) where
       (λ i j l b. cell_row i j (omega (arith, length-decode cells)) b) (λ k l b. h.rest k (omega (arith, length-decode cells)) b))
 
   -- a node of the cells may stand at its number
-  row-allowed : (i : ℕ) → i < count cells → Allowed i (node_of (rowOf cells i))
+  row-allowed : (i : ℕ) → i < count cells → Allowed i (node_of (row_of cells i))
   row-allowed i l = rw (node-decode cells i l) at (h.sound.allowed i (omega (arith, length-decode cells)))
 
   -- each node of the cells passes the test
-  node-lawful : (i : ℕ) → i < count cells → lawfulNode cells i ≡ true
-  unfolding lawfulNode rowBelow is_some
+  node-lawful : (i : ℕ) → i < count cells → lawful_node cells i ≡ true
+  unfolding lawful_node row_below is_some
   node-lawful i l =
-      and_both (subst (λ (r : List ℕ). lawfulRow i r ≡ true) (h.coded i l) (row_lawful i (node_of (rowOf cells i)) (row-allowed i l)))
-      (rw (first-missing (λ (j : ℕ). sameRow cells j (rowOf cells i)) i (λ j b. new j b (sameRow cells j (rowOf cells i)) refl)))
+      and_both (subst (λ (r : List ℕ). lawful_row i r ≡ true) (h.coded i l) (row_lawful i (node_of (row_of cells i)) (row-allowed i l)))
+      (rw (first-missing (λ (j : ℕ). same_row cells j (row_of cells i)) i (λ j b. new j b (same_row cells j (row_of cells i)) refl)))
     where
-      new : (j : ℕ) → j < i → (b : Bool) → sameRow cells j (rowOf cells i) ≡ b → b ≡ false
+      new : (j : ℕ) → j < i → (b : Bool) → same_row cells j (row_of cells i) ≡ b → b ≡ false
       new j m true e =
           absurd (h.sound.distinct j i m (omega (arith, length-decode cells))
-          (node-decode cells j (omega arith) ∙ ap node_of (same_row cells j (rowOf cells i) (length-row-of cells i) e) ∙ sym (node-decode cells i l)))
+          (node-decode cells j (omega arith) ∙ ap node_of (same_row_lem cells j (row_of cells i) (length-row_of cells i) e) ∙ sym (node-decode cells i l)))
       new j m false e = refl
 
   -- the layout of a sound arena passes the test
   pub holds-lawful : lawful cells ≡ true
-  unfolding lawful cellsUnused
+  unfolding lawful cells_unused
   holds-lawful =
       and_both (and_both (and_both (eq-eqb (length cells) 11265 h.sized) (le-leb (count cells) 1024 h.few))
-      (each_all (λ (i : ℕ). lawfulNode cells i) (count cells) node-lawful))
+      (each_all (λ (i : ℕ). lawful_node cells i) (count cells) node-lawful))
       (each_all (λ (k : ℕ). eqb (get_or cells (1 + 11 * count cells + k) 0) 0) (11264 - 11 * count cells)
       (λ k l. eq-eqb (get_or cells (1 + 11 * count cells + k) 0) 0 (h.rest (1 + 11 * count cells + k) (omega arith) (omega arith))))
 
@@ -211,7 +211,7 @@ module _ (cells : List ℕ) (h : Holds cells) where
 not_some : (o : Option ℕ) → not (is_some o) ≡ true → o ≡ none
 unfolding is_some
 not_some none e = refl
-not_some (some i) e = absurd (true-not-false e refl)
+not_some (some i) e = absurd (true_not_false e refl)
 
 module _ (cells : List ℕ) (e : lawful cells ≡ true) where
   -- the test of the cells says that they are 11,265, for at most 1,024 nodes
@@ -222,51 +222,51 @@ module _ (cells : List ℕ) (e : lawful cells ≡ true) where
       (eqb-true (length cells) 11265 (and_left _ _ c), leb-true (count cells) 1024 (and_right (eqb (length cells) 11265) _ c))
 
   -- and that each node passes its own
-  lawful-at : (i : ℕ) → i < count cells → lawfulNode cells i ≡ true
+  lawful-at : (i : ℕ) → i < count cells → lawful_node cells i ≡ true
   unfolding lawful
-  lawful-at i l = each_holds (λ (j : ℕ). lawfulNode cells j) (count cells) i (and_right (eqb (length cells) 11265 && leb (count cells) 1024) _ (and_left _ _ e)) l
+  lawful-at i l = each_holds (λ (j : ℕ). lawful_node cells j) (count cells) i (and_right (eqb (length cells) 11265 && leb (count cells) 1024) _ (and_left _ _ e)) l
 
   -- the node at a number is the layout of one that may stand there
-  lawful-row-at : (i : ℕ) → i < count cells → LawfulRow i (rowOf cells i)
-  unfolding lawfulNode
-  lawful-row-at i l = lawful-row i (rowOf cells i) (length-row-of cells i) (and_left (lawfulRow i (rowOf cells i)) (not (is_some (rowBelow cells i (rowOf cells i)))) (lawful-at i l))
+  lawful_row-at : (i : ℕ) → i < count cells → LawfulRow i (row_of cells i)
+  unfolding lawful_node
+  lawful_row-at i l = lawful-row i (row_of cells i) (length-row_of cells i) (and_left (lawful_row i (row_of cells i)) (not (is_some (row_below cells i (row_of cells i)))) (lawful-at i l))
 
   -- the cells after the nodes are 0
   lawful-rest : (k : ℕ) → 1 + 11 * count cells ≤ k → k < 11265 → get_or cells k 0 ≡ 0
-  unfolding lawful cellsUnused
+  unfolding lawful cells_unused
   lawful-rest k l b =
       let q : 1 + 11 * count cells + (k - (1 + 11 * count cells)) ≡ k = omega arith in
       rw q at (eqb-true (get_or cells (1 + 11 * count cells + (k - (1 + 11 * count cells))) 0) 0
       (each_holds (λ (j : ℕ). eqb (get_or cells (1 + 11 * count cells + j) 0) 0) (11264 - 11 * count cells) (k - (1 + 11 * count cells))
-      (and_right (eqb (length cells) 11265 && leb (count cells) 1024 && each (λ (i : ℕ). lawfulNode cells i) (count cells)) _ e) (omega arith)))
+      (and_right (eqb (length cells) 11265 && leb (count cells) 1024 && each (λ (i : ℕ). lawful_node cells i) (count cells)) _ e) (omega arith)))
 
   -- no two nodes are equal
-  lawful-distinct : (i j : ℕ) → i < j → j < count cells → node_of (rowOf cells i) ≡ node_of (rowOf cells j) → ⊥
-  unfolding lawfulNode rowBelow
+  lawful-distinct : (i j : ℕ) → i < j → j < count cells → node_of (row_of cells i) ≡ node_of (row_of cells j) → ⊥
+  unfolding lawful_node row_below
   lawful-distinct i j b l q =
-      true-not-false
-      (row_same cells i (rowOf cells j) (coded-same (rowOf cells i) (rowOf cells j) (lawful-row-at i (omega arith)).coded (lawful-row-at j l).coded q))
-      (first-none (λ (k : ℕ). sameRow cells k (rowOf cells j)) j
-      (not_some (first (λ (k : ℕ). sameRow cells k (rowOf cells j)) j) (and_right (lawfulRow j (rowOf cells j)) _ (lawful-at j l))) i b)
+      true_not_false
+      (row_same cells i (row_of cells j) (coded-same (row_of cells i) (row_of cells j) (lawful_row-at i (omega arith)).coded (lawful_row-at j l).coded q))
+      (first-none (λ (k : ℕ). same_row cells k (row_of cells j)) j
+      (not_some (first (λ (k : ℕ). same_row cells k (row_of cells j)) j) (and_right (lawful_row j (row_of cells j)) _ (lawful-at j l))) i b)
 
   -- cells that pass the test are the layout of a sound arena
   pub lawful-holds : Holds cells
   lawful-holds = record {
     sized = lawful-counts.0;
     few = lawful-counts.1;
-    coded = λ i l. (lawful-row-at i l).coded;
+    coded = λ i l. (lawful_row-at i l).coded;
     rest = lawful-rest;
     sound = record {
       few = omega (arith, lawful-counts.1, length-decode cells);
-      allowed = λ i l. let b : i < count cells = omega (arith, length-decode cells) in rw (node-decode cells i b) (lawful-row-at i b).allowed;
+      allowed = λ i l. let b : i < count cells = omega (arith, length-decode cells) in rw (node-decode cells i b) (lawful_row-at i b).allowed;
       distinct = λ i j b l q. let c : j < count cells = omega (arith, length-decode cells) in
           lawful-distinct i j b c (sym (node-decode cells i (omega arith)) ∙ q ∙ node-decode cells j c);
     };
   }
 
 -- the test passes exactly the layouts of sound arenas
-pub lawful-exactly : (cells : List ℕ) → lawful cells ≡ true ↔ ((ns : List Node) × (Sound ns × (cells ≡ encode ns)))
-lawful-exactly cells = (
+pub lawful_exactly : (cells : List ℕ) → lawful cells ≡ true ↔ ((ns : List Node) × (Sound ns × (cells ≡ encode ns)))
+lawful_exactly cells = (
   λ e. let h = lawful-holds cells e in (decode cells, (h.sound, sym (coded-cells cells h))),
   λ t. rw t.1.1 (holds-lawful (encode t.0) (encode-holds t.0 t.1.0)),
 )
@@ -327,7 +327,7 @@ append-cells cells r h c a s =
     kept : (k : ℕ) → 0 < k → get_or (set pasted 0 (count cells + 1)) k 0 ≡ get_or pasted k 0
     kept k l = get_or-set_other pasted 0 k (count cells + 1) 0 (omega arith)
 
-    inside : (i j : ℕ) → i < length one → j < 11 → Dec (i ≡ count cells) → get_or pasted (1 + 11 * i + j) 0 ≡ get_or (row (nodeAt one i)) j 0
+    inside : (i j : ℕ) → i < length one → j < 11 → Dec (i ≡ count cells) → get_or pasted (1 + 11 * i + j) 0 ≡ get_or (row (node_at one i)) j 0
     inside i j l b (yes q) =
         rw (q, get_or_at (decode cells) (node_of r) [] (literal 0) (count cells) (length-decode cells), c) (paste-inside cells start r 11 fits long j b)
     inside i j l b (no q) =

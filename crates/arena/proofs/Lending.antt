@@ -11,20 +11,20 @@ use Rattle.laws.proofs.Each.{each_holds}
 use Rattle.arena.specs.Node.{Node, operation}
 use Rattle.arena.specs.Arena.{Allowed}
 use Rattle.arena.specs.Layout.{row, node_of, count, decode, lawful}
-use Rattle.arena.specs.Calls.{onLent}
+use Rattle.arena.specs.Calls.{on_lent}
 use Rattle.arena.specs.Inner.{Known, Placeable}
 use Rattle.arena.proofs.Rows.{node_row}
 use Rattle.arena.proofs.Layouts.{length-decode, lawful-holds}
 
 module _ {A : Type 0} (refused : A) (call : List Node → A) (s : List ℕ) where
   -- no arena
-  pub on_none : lawful s ≡ false → onLent refused call s ≡ refused
-  unfolding onLent
+  pub on_none : lawful s ≡ false → on_lent refused call s ≡ refused
+  unfolding on_lent
   on_none e = rw e
 
   -- an arena
-  pub on-arena : lawful s ≡ true → onLent refused call s ≡ call (decode s)
-  unfolding onLent
+  pub on-arena : lawful s ≡ true → on_lent refused call s ≡ call (decode s)
+  unfolding on_lent
   on-arena e = rw e
 
 module _ (s r : List ℕ) (n : Node) (l : lawful s ≡ true) (q : r ≡ row n) (a : Allowed (count s) n) where

@@ -10,16 +10,16 @@ use lib.Dec.{ltb, leb}
 use lib.ListN.{length, get_or}
 use Rattle.laws.specs.Tests.{if◌then◌else◌, each}
 use Rattle.laws.proofs.Each.{each_holds, each_all}
-use Rattle.arena.specs.Node.{Node, column, operation, nodeAt}
-use Rattle.arena.specs.Expression.{Expression, Expressions, col, lit, op, those, over, expressions, expressionAt}
-use Rattle.arena.specs.Arena.{Allowed, Sound, Extends, Small, Placed, placed, full, find, placed_at, add, addExpression}
+use Rattle.arena.specs.Node.{Node, column, operation, node_at}
+use Rattle.arena.specs.Expression.{Expression, Expressions, col, lit, op, those, over, expressions, expression_at}
+use Rattle.arena.specs.Arena.{Allowed, Sound, Extends, Small, Placed, placed, full, find, placed_at, add, add_expression}
 use Rattle.arena.specs.Layout.{encode, decode, lawful}
-use Rattle.arena.specs.Calls.{Outcome, answered, addColumn, addLiteral, addOperation, inCells, lent, addedNumber}
+use Rattle.arena.specs.Calls.{Outcome, answered, add_column, add_literal, add_operation, in_cells, lent, added_number}
 use Rattle.arena.specs.declared.Added.{Added}
 use Rattle.arena.specs.declared.Added.TheVariants.{Number, Refused}
 use Rattle.arena.proofs.Nodes.{find-some, find_none, extends-none, extends-longer, extends-node, AddedNode, add-node, add-old}
-use Rattle.arena.proofs.Trees.{those-cong, expression-kept, expression-is}
-use Rattle.arena.proofs.Growing.{add-expression, add-expression-old}
+use Rattle.arena.proofs.Trees.{those_cong, expression-kept, expression-is}
+use Rattle.arena.proofs.Growing.{add-expression, add_expression-old}
 use Rattle.arena.proofs.Layouts.{encode-holds, coded-cells, holds-lawful, lawful-holds}
 use Rattle.arena.proofs.Lending.{on_none, on-arena}
 
@@ -27,7 +27,7 @@ use Rattle.arena.proofs.Lending.{on_none, on-arena}
 pub record Kept (ns : List Node) (o : Outcome) : Type 0 where
   pub sound : Sound o.1
   pub extends : Extends ns o.1
-  pub refused : (addedNumber o.0 ≡ 0 → ⊥) → o.1 ≡ ns
+  pub refused : (added_number o.0 ≡ 0 → ⊥) → o.1 ≡ ns
 
 -- a call that adds nothing keeps the arena
 pub kept-none : (a : Added) (ns : List Node) → Sound ns → Kept ns (a, ns)
@@ -47,40 +47,40 @@ node_kept n ns s a = go (add n ns) refl
     go full e = kept-none (Refused 3) ns s
 
 -- adding a small expression keeps the arena
-pub tree-kept : (x : Expression) (ns : List Node) → Sound ns → Small x → Kept ns (answered ns (addExpression x ns))
+pub tree_kept : (x : Expression) (ns : List Node) → Sound ns → Small x → Kept ns (answered ns (add_expression x ns))
 unfolding answered
-tree-kept x ns s a = go (addExpression x ns) refl
+tree_kept x ns s a = go (add_expression x ns) refl
   where
-    go : (p : Placed ℕ) → addExpression x ns ≡ p → Kept ns (answered ns p)
+    go : (p : Placed ℕ) → add_expression x ns ≡ p → Kept ns (answered ns p)
     go (placed i ms) e = let m = add-expression x ns s a i ms e in kept-number i ns ms m.sound m.extends
     go full e = kept-none (Refused 3) ns s
 
 -- adding a column keeps the arena
-pub column-kept : (name index : ℕ) (ns : List Node) → Sound ns → index < 65536 → Kept ns (addColumn name index ns)
-unfolding addColumn addExpression Small
-column-kept name index ns s l = tree-kept (col name index) ns s l
+pub column-kept : (name index : ℕ) (ns : List Node) → Sound ns → index < 65536 → Kept ns (add_column name index ns)
+unfolding add_column add_expression Small
+column-kept name index ns s l = tree_kept (col name index) ns s l
 
 -- adding a literal keeps it
-pub literal-kept : (value : ℕ) (ns : List Node) → Sound ns → Kept ns (addLiteral value ns)
-unfolding addLiteral addExpression Small
-literal-kept value ns s = tree-kept (lit value) ns s tt
+pub literal-kept : (value : ℕ) (ns : List Node) → Sound ns → Kept ns (add_literal value ns)
+unfolding add_literal add_expression Small
+literal-kept value ns s = tree_kept (lit value) ns s tt
 
 -- the children of an operation are all known
-abbrev allKnown : List ℕ → List Node → Bool
-allKnown children ns = each (λ k. ltb (get_or children k 0) (length ns)) (length children)
+abbrev all_known : List ℕ → List Node → Bool
+all_known children ns = each (λ k. ltb (get_or children k 0) (length ns)) (length children)
 
 -- an operation over at most 8 known children may have the next number
-next-operation : (label : ℕ) (children : List ℕ) (ns : List Node) → allKnown children ns ≡ true → length children ≤ 8 → Allowed (length ns) (operation label children)
+next-operation : (label : ℕ) (children : List ℕ) (ns : List Node) → all_known children ns ≡ true → length children ≤ 8 → Allowed (length ns) (operation label children)
 unfolding Allowed
 next-operation label children ns t l =
     (l, λ k b. ltb-true (get_or children k 0) (length ns) (each_holds (λ k. ltb (get_or children k 0) (length ns)) (length children) k t b))
 
 -- adding an operation keeps it
-pub operation-kept : (label : ℕ) (children : List ℕ) (ns : List Node) → Sound ns → Kept ns (addOperation label children ns)
-unfolding addOperation
-operation-kept label children ns s = go (allKnown children ns) refl (leb (length children) 8) refl
+pub operation-kept : (label : ℕ) (children : List ℕ) (ns : List Node) → Sound ns → Kept ns (add_operation label children ns)
+unfolding add_operation
+operation-kept label children ns s = go (all_known children ns) refl (leb (length children) 8) refl
   where
-    go : (a : Bool) → allKnown children ns ≡ a → (b : Bool) → leb (length children) 8 ≡ b
+    go : (a : Bool) → all_known children ns ≡ a → (b : Bool) → leb (length children) 8 ≡ b
         → Kept ns (if a then (if b then answered ns (add (operation label children) ns) else (Refused 2, ns)) else (Refused 1, ns))
     go true t true u = node_kept (operation label children) ns s (next-operation label children ns t (leb-true (length children) 8 u))
     go true t false u = kept-none (Refused 2) ns s
@@ -102,26 +102,26 @@ was-placed ns (placed j os) i ms e =
 was-placed ns full i ms e = absurd (not-number 3 i ns ms e)
 
 -- the number that is answered for a small expression is the expression's
-pub tree_is : (x : Expression) (ns : List Node) (i : ℕ) (ms : List Node) → Sound ns → Small x → answered ns (addExpression x ns) ≡ (Number i, ms)
-    → (i < length ms) × (expressionAt ms i ≡ x)
-tree_is x ns i ms s a e = let m = add-expression x ns s a i ms (was-placed ns (addExpression x ns) i ms e) in (m.below, m.is)
+pub tree_is : (x : Expression) (ns : List Node) (i : ℕ) (ms : List Node) → Sound ns → Small x → answered ns (add_expression x ns) ≡ (Number i, ms)
+    → (i < length ms) × (expression_at ms i ≡ x)
+tree_is x ns i ms s a e = let m = add-expression x ns s a i ms (was-placed ns (add_expression x ns) i ms e) in (m.below, m.is)
 
 -- an expression once there is found again, in any sound extension
-tree_again : (x : Expression) (i : ℕ) (ms : List Node) → (i < length ms) × (expressionAt ms i ≡ x) → (os : List Node) → Sound os → Extends ms os
-    → answered os (addExpression x os) ≡ (Number i, os)
+tree_again : (x : Expression) (i : ℕ) (ms : List Node) → (i < length ms) × (expression_at ms i ≡ x) → (os : List Node) → Sound os → Extends ms os
+    → answered os (add_expression x os) ≡ (Number i, os)
 unfolding answered
-tree_again x i ms h os t y = rw (add-expression-old x os t i (omega (arith, extends-longer y)) (expression-kept y i h.0 ∙ h.1))
+tree_again x i ms h os t y = rw (add_expression-old x os t i (omega (arith, extends-longer y)) (expression-kept y i h.0 ∙ h.1))
 
 -- the number that is answered for a column is the column's
-pub column-is : (name index : ℕ) (ns : List Node) (i : ℕ) (ms : List Node) → Sound ns → index < 65536 → addColumn name index ns ≡ (Number i, ms)
-    → (i < length ms) × (expressionAt ms i ≡ col name index)
-unfolding addColumn addExpression Small
+pub column-is : (name index : ℕ) (ns : List Node) (i : ℕ) (ms : List Node) → Sound ns → index < 65536 → add_column name index ns ≡ (Number i, ms)
+    → (i < length ms) × (expression_at ms i ≡ col name index)
+unfolding add_column add_expression Small
 column-is name index ns i ms s l e = tree_is (col name index) ns i ms s l e
 
 -- the number that is answered for a literal is the literal's
-pub literal-is : (value : ℕ) (ns : List Node) (i : ℕ) (ms : List Node) → Sound ns → addLiteral value ns ≡ (Number i, ms)
-    → (i < length ms) × (expressionAt ms i ≡ lit value)
-unfolding addLiteral addExpression Small
+pub literal-is : (value : ℕ) (ns : List Node) (i : ℕ) (ms : List Node) → Sound ns → add_literal value ns ≡ (Number i, ms)
+    → (i < length ms) × (expression_at ms i ≡ lit value)
+unfolding add_literal add_expression Small
 literal-is value ns i ms s e = tree_is (lit value) ns i ms s tt e
 
 -- what is known where an operation was added
@@ -131,11 +131,11 @@ record Operated (label : ℕ) (children : List ℕ) (ns : List Node) (i : ℕ) (
   node : AddedNode (operation label children) ns i ms
 
 -- where a number is answered for an operation, its children were few and known, and the node was added
-operated : (label : ℕ) (children : List ℕ) (ns : List Node) (i : ℕ) (ms : List Node) → Sound ns → addOperation label children ns ≡ (Number i, ms) → Operated label children ns i ms
-unfolding addOperation Allowed
-operated label children ns i ms s e = go (allKnown children ns) refl (leb (length children) 8) refl e
+operated : (label : ℕ) (children : List ℕ) (ns : List Node) (i : ℕ) (ms : List Node) → Sound ns → add_operation label children ns ≡ (Number i, ms) → Operated label children ns i ms
+unfolding add_operation Allowed
+operated label children ns i ms s e = go (all_known children ns) refl (leb (length children) 8) refl e
   where
-    go : (a : Bool) → allKnown children ns ≡ a → (b : Bool) → leb (length children) 8 ≡ b
+    go : (a : Bool) → all_known children ns ≡ a → (b : Bool) → leb (length children) 8 ≡ b
         → ◌≡◌ {A = Outcome} (if a then (if b then answered ns (add (operation label children) ns) else (Refused 2, ns)) else (Refused 1, ns)) (Number i, ms)
         → Operated label children ns i ms
     go true t true u q =
@@ -145,32 +145,32 @@ operated label children ns i ms s e = go (allKnown children ns) refl (leb (lengt
     go false t b u q = absurd (not-number 1 i ns ms q)
 
 -- the number that is answered for an operation is that of the operation over its children's expressions
-pub operation-is : (label : ℕ) (children : List ℕ) (ns : List Node) (i : ℕ) (ms : List Node) → Sound ns → addOperation label children ns ≡ (Number i, ms)
-    → (i < length ms) × (expressionAt ms i ≡ op label (those (expressions ns) children))
+pub operation-is : (label : ℕ) (children : List ℕ) (ns : List Node) (i : ℕ) (ms : List Node) → Sound ns → add_operation label children ns ≡ (Number i, ms)
+    → (i < length ms) × (expression_at ms i ≡ op label (those (expressions ns) children))
 unfolding over
 operation-is label children ns i ms s e =
     let o = operated label children ns i ms s e in (
       o.node.below,
       expression-is ms o.node.sound i o.node.below ∙ ap (λ (n : Node). over (expressions ms) n) o.node.is
-          ∙ ap (λ (c : Expressions). op label c) (those-cong (expressions ms) (expressions ns) children (λ k l. expression-kept o.node.extends (get_or children k 0) (o.below k l))),
+          ∙ ap (λ (c : Expressions). op label c) (those_cong (expressions ms) (expressions ns) children (λ k l. expression-kept o.node.extends (get_or children k 0) (o.below k l))),
     )
 
 -- a column once added is found again, also in a full arena
-pub column_again : (name index : ℕ) (ns : List Node) (i : ℕ) (ms : List Node) → Sound ns → index < 65536 → addColumn name index ns ≡ (Number i, ms)
-    → (os : List Node) → Sound os → Extends ms os → addColumn name index os ≡ (Number i, os)
-unfolding addColumn addExpression Small
+pub column_again : (name index : ℕ) (ns : List Node) (i : ℕ) (ms : List Node) → Sound ns → index < 65536 → add_column name index ns ≡ (Number i, ms)
+    → (os : List Node) → Sound os → Extends ms os → add_column name index os ≡ (Number i, os)
+unfolding add_column add_expression Small
 column_again name index ns i ms s l e os t y = tree_again (col name index) i ms (tree_is (col name index) ns i ms s l e) os t y
 
 -- so is a literal
-pub literal-again : (value : ℕ) (ns : List Node) (i : ℕ) (ms : List Node) → Sound ns → addLiteral value ns ≡ (Number i, ms)
-    → (os : List Node) → Sound os → Extends ms os → addLiteral value os ≡ (Number i, os)
-unfolding addLiteral addExpression Small
+pub literal-again : (value : ℕ) (ns : List Node) (i : ℕ) (ms : List Node) → Sound ns → add_literal value ns ≡ (Number i, ms)
+    → (os : List Node) → Sound os → Extends ms os → add_literal value os ≡ (Number i, os)
+unfolding add_literal add_expression Small
 literal-again value ns i ms s e os t y = tree_again (lit value) i ms (tree_is (lit value) ns i ms s tt e) os t y
 
 -- so is an operation
-pub operation-again : (label : ℕ) (children : List ℕ) (ns : List Node) (i : ℕ) (ms : List Node) → Sound ns → addOperation label children ns ≡ (Number i, ms)
-    → (os : List Node) → Sound os → Extends ms os → addOperation label children os ≡ (Number i, os)
-unfolding addOperation answered
+pub operation-again : (label : ℕ) (children : List ℕ) (ns : List Node) (i : ℕ) (ms : List Node) → Sound ns → add_operation label children ns ≡ (Number i, ms)
+    → (os : List Node) → Sound os → Extends ms os → add_operation label children os ≡ (Number i, os)
+unfolding add_operation answered
 operation-again label children ns i ms s e os t y =
     let o = operated label children ns i ms s e in
     let l = extends-longer y in
@@ -185,48 +185,48 @@ operation-again label children ns i ms s e os t y =
 module _ (call : List Node → Outcome) (keeps : (ns : List Node) → Sound ns → Kept ns (call ns)) where
   -- the cells of an arena are the cells of an arena afterwards
   pub lent-lawful : (cells : List ℕ) → lawful cells ≡ true → lawful (lent call cells).1 ≡ true
-  unfolding inCells
+  unfolding in_cells
   lent-lawful cells e =
       let h = lawful-holds cells e in
       let k = keeps (decode cells) h.sound in
-      rw (on-arena {A = Added × List ℕ} (Refused 11, cells) (λ ns. inCells (call ns)) cells e)
+      rw (on-arena {A = Added × List ℕ} (Refused 11, cells) (λ ns. in_cells (call ns)) cells e)
       (holds-lawful (encode (call (decode cells)).1) (encode-holds (call (decode cells)).1 k.sound))
 
   -- a refusal leaves every cell as it was, also where the cells are no arena
-  pub lent-refused : (cells : List ℕ) → (addedNumber (lent call cells).0 ≡ 0 → ⊥) → (lent call cells).1 ≡ cells
-  unfolding inCells
+  pub lent-refused : (cells : List ℕ) → (added_number (lent call cells).0 ≡ 0 → ⊥) → (lent call cells).1 ≡ cells
+  unfolding in_cells
   lent-refused cells q = go (lawful cells) refl
     where
       go : (b : Bool) → lawful cells ≡ b → (lent call cells).1 ≡ cells
       go true e =
           let h = lawful-holds cells e in
-          let o = on-arena {A = Added × List ℕ} (Refused 11, cells) (λ ns. inCells (call ns)) cells e in
+          let o = on-arena {A = Added × List ℕ} (Refused 11, cells) (λ ns. in_cells (call ns)) cells e in
           ap (λ (r : Added × List ℕ). r.1) o
-          ∙ ap encode ((keeps (decode cells) h.sound).refused (λ z. q (ap (λ (r : Added × List ℕ). addedNumber r.0) o ∙ z)))
+          ∙ ap encode ((keeps (decode cells) h.sound).refused (λ z. q (ap (λ (r : Added × List ℕ). added_number r.0) o ∙ z)))
           ∙ coded-cells cells h
-      go false e = ap (λ (r : Added × List ℕ). r.1) (on_none {A = Added × List ℕ} (Refused 11, cells) (λ ns. inCells (call ns)) cells e)
+      go false e = ap (λ (r : Added × List ℕ). r.1) (on_none {A = Added × List ℕ} (Refused 11, cells) (λ ns. in_cells (call ns)) cells e)
 
 -- a column is refused for want of room only where the arena has 1,024 nodes and none of them is that column
-pub column-full : (name index : ℕ) (ns : List Node) → Sound ns → (addColumn name index ns).0 ≡ Refused 3
-    → (length ns ≡ 1024) × ((i : ℕ) → i < length ns → nodeAt ns i ≡ column name index → ⊥)
-unfolding addColumn answered add placed_at
+pub column-full : (name index : ℕ) (ns : List Node) → Sound ns → (add_column name index ns).0 ≡ Refused 3
+    → (length ns ≡ 1024) × ((i : ℕ) → i < length ns → node_at ns i ≡ column name index → ⊥)
+unfolding add_column answered add placed_at
 column-full name index ns s e = go (find (column name index) ns) refl e
   where
     new : find (column name index) ns ≡ none → (b : Bool) → ltb (length ns) 1024 ≡ b
         → (answered ns (if b then placed (length ns) (ns ++ (column name index ∷ [])) else full)).0 ≡ Refused 3
-        → (length ns ≡ 1024) × ((i : ℕ) → i < length ns → nodeAt ns i ≡ column name index → ⊥)
+        → (length ns ≡ 1024) × ((i : ℕ) → i < length ns → node_at ns i ≡ column name index → ⊥)
     new f true t q = absurd (let z : ◌≡◌ {A = ℕ} 0 1 = cc in omega arith)
     new f false t q = (omega (arith, s.few, ltb-false (length ns) 1024 t), find_none (column name index) ns f)
 
     go : (o : Option ℕ) → find (column name index) ns ≡ o → (answered ns (placed_at o (column name index) ns)).0 ≡ Refused 3
-        → (length ns ≡ 1024) × ((i : ℕ) → i < length ns → nodeAt ns i ≡ column name index → ⊥)
+        → (length ns ≡ 1024) × ((i : ℕ) → i < length ns → node_at ns i ≡ column name index → ⊥)
     go (some j) f q = absurd (let z : ◌≡◌ {A = ℕ} 0 1 = cc in omega arith)
     go none f q = new f (ltb (length ns) 1024) refl q
 
 -- and there it is refused
-pub column-no-room : (name index : ℕ) (ns : List Node) → length ns ≡ 1024 → ((i : ℕ) → i < length ns → nodeAt ns i ≡ column name index → ⊥) → addColumn name index ns ≡ (Refused 3, ns)
-unfolding addColumn answered add placed_at
-column-no-room name index ns l h = go (find (column name index) ns) refl
+pub column_no_room : (name index : ℕ) (ns : List Node) → length ns ≡ 1024 → ((i : ℕ) → i < length ns → node_at ns i ≡ column name index → ⊥) → add_column name index ns ≡ (Refused 3, ns)
+unfolding add_column answered add placed_at
+column_no_room name index ns l h = go (find (column name index) ns) refl
   where
     go : (o : Option ℕ) → find (column name index) ns ≡ o → answered ns (placed_at o (column name index) ns) ≡ (Refused 3, ns)
     go (some i) f = let q = find-some (column name index) ns i f in absurd (h i q.0 q.1)

@@ -4,8 +4,8 @@ use mathlib.Core.List.{List, [], ◌∷◌}
 use mathlib.Core.Path.{◌≡◌, refl, sym, ap, ap₂, ◌∙◌}
 use native.Mathlib.Omega.{arith}
 use lib.ListN.{length, get_or}
-use Rattle.arena.specs.Node.{Node, column, literal, operation, nodeAt}
-use Rattle.arena.specs.Expression.{Expression, Expressions, lit, op, ◌▹◌, size, those, over, expressions, expressionAt}
+use Rattle.arena.specs.Node.{Node, column, literal, operation, node_at}
+use Rattle.arena.specs.Expression.{Expression, Expressions, lit, op, ◌▹◌, size, those, over, expressions, expression_at}
 use Rattle.arena.specs.Arena.{Allowed, Sound, Extends, Small, AllSmall}
 use Rattle.arena.proofs.Nodes.{same_number}
 use Rattle.arena.proofs.Made.{length-made, made_kept, made-is}
@@ -17,17 +17,17 @@ size-those es [] = refl
 size-those es (k ∷ ks) = ap suc (size-those es ks)
 
 -- those expressions depend only on the entries at the numbers named
-pub those-cong : (es fs : List Expression) (ks : List ℕ) → ((k : ℕ) → k < length ks → get_or es (get_or ks k 0) (lit 0) ≡ get_or fs (get_or ks k 0) (lit 0)) → those es ks ≡ those fs ks
+pub those_cong : (es fs : List Expression) (ks : List ℕ) → ((k : ℕ) → k < length ks → get_or es (get_or ks k 0) (lit 0) ≡ get_or fs (get_or ks k 0) (lit 0)) → those es ks ≡ those fs ks
 unfolding those
-those-cong es fs [] h = refl
-those-cong es fs (k ∷ ks) h = ap₂ {C = Expressions} (λ a b. a ▹ b) (h 0 (omega arith)) (those-cong es fs ks (λ j l. h (suc j) (omega arith)))
+those_cong es fs [] h = refl
+those_cong es fs (k ∷ ks) h = ap₂ {C = Expressions} (λ a b. a ▹ b) (h 0 (omega arith)) (those_cong es fs ks (λ j l. h (suc j) (omega arith)))
 
 -- the expression of a node that may have the number i depends only on the entries below i
-over-cong : (es fs : List Expression) (i : ℕ) (n : Node) → Allowed i n → ((k : ℕ) → k < i → get_or es k (lit 0) ≡ get_or fs k (lit 0)) → over es n ≡ over fs n
+over_cong : (es fs : List Expression) (i : ℕ) (n : Node) → Allowed i n → ((k : ℕ) → k < i → get_or es k (lit 0) ≡ get_or fs k (lit 0)) → over es n ≡ over fs n
 unfolding over Allowed
-over-cong es fs i (column name index) a h = refl
-over-cong es fs i (literal value) a h = refl
-over-cong es fs i (operation label ks) a h = ap (λ (c : Expressions). op label c) (those-cong es fs ks (λ k l. h (get_or ks k 0) (a.1 k l)))
+over_cong es fs i (column name index) a h = refl
+over_cong es fs i (literal value) a h = refl
+over_cong es fs i (operation label ks) a h = ap (λ (c : Expressions). op label c) (those_cong es fs ks (λ k l. h (get_or ks k 0) (a.1 k l)))
 
 -- an arena has one expression for each number
 pub length-expressions : (ns : List Node) → length (expressions ns) ≡ length ns
@@ -35,7 +35,7 @@ unfolding expressions
 length-expressions ns = length-made (λ es i n. over es n) (lit 0) ns
 
 -- an old number keeps its expression
-pub expression-kept : {ns ms : List Node} → Extends ns ms → (i : ℕ) → i < length ns → expressionAt ms i ≡ expressionAt ns i
+pub expression-kept : {ns ms : List Node} → Extends ns ms → (i : ℕ) → i < length ns → expression_at ms i ≡ expression_at ns i
 unfolding expressions
 expression-kept x i l = made_kept (λ es i n. over es n) (lit 0) x i l
 
@@ -82,29 +82,29 @@ over-small es i (operation label ks) a h = (omega (arith, size-those es ks), tho
 
 module _ (ns : List Node) (s : Sound ns) where
   -- a number's expression is its node over the arena's expressions
-  pub expression-is : (i : ℕ) → i < length ns → expressionAt ns i ≡ over (expressions ns) (nodeAt ns i)
+  pub expression-is : (i : ℕ) → i < length ns → expression_at ns i ≡ over (expressions ns) (node_at ns i)
   unfolding expressions
-  expression-is i l = made-is (λ es i n. over es n) (lit 0) ns s over-cong i l
+  expression-is i l = made-is (λ es i n. over es n) (lit 0) ns s over_cong i l
 
   -- below a bound, different numbers are different expressions
-  distinct-below : (n i j : ℕ) → i < n → j < n → i < length ns → j < length ns → expressionAt ns i ≡ expressionAt ns j → i ≡ j
+  distinct-below : (n i j : ℕ) → i < n → j < n → i < length ns → j < length ns → expression_at ns i ≡ expression_at ns j → i ≡ j
   distinct-below zero i j a b li lj e = absurd (omega arith)
   distinct-below (suc n) i j a b li lj e =
       same_number ns s i j li lj
-      (over-same (expressions ns) i j (nodeAt ns i) (nodeAt ns j) (s.allowed i li) (s.allowed j lj)
+      (over-same (expressions ns) i j (node_at ns i) (node_at ns j) (s.allowed i li) (s.allowed j lj)
       (λ k l bk bl. distinct-below n k l (omega arith) (omega arith) (omega arith) (omega arith))
       (sym (expression-is i li) ∙ e ∙ expression-is j lj))
 
   -- different numbers of a sound arena are different expressions
-  pub distinct-expressions : (i j : ℕ) → i < length ns → j < length ns → expressionAt ns i ≡ expressionAt ns j → i ≡ j
+  pub distinct-expressions : (i j : ℕ) → i < length ns → j < length ns → expression_at ns i ≡ expression_at ns j → i ≡ j
   distinct-expressions i j li lj e = distinct-below (length ns) i j li lj li lj e
 
   -- below a bound, every expression is small
-  small-below : (n i : ℕ) → i < n → i < length ns → Small (expressionAt ns i)
+  small-below : (n i : ℕ) → i < n → i < length ns → Small (expression_at ns i)
   small-below zero i a l = absurd (omega arith)
   small-below (suc n) i a l =
-      rw (expression-is i l) (over-small (expressions ns) i (nodeAt ns i) (s.allowed i l) (λ k b. small-below n k (omega arith) (omega arith)))
+      rw (expression-is i l) (over-small (expressions ns) i (node_at ns i) (s.allowed i l) (λ k b. small-below n k (omega arith) (omega arith)))
 
   -- every expression of a sound arena is small
-  pub expression-small : (i : ℕ) → i < length ns → Small (expressionAt ns i)
+  pub expression-small : (i : ℕ) → i < length ns → Small (expression_at ns i)
   expression-small i l = small-below (length ns) i l l

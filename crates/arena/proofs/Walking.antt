@@ -9,18 +9,18 @@ use native.Mathlib.Numerals.{add-one, add-three}
 use native.Mathlib.Omega.{arith}
 use lib.ListN.{length, get_or, set, drop, replicate, length-append, get_or-append}
 use lib.Seq.{get_or-set_other, get_or-set_same, set_out, drop-cons, drop-length, set_at, get_or_at, append_snoc}
-use Rattle.laws.proofs.Table.{length-table, table_is, table-cong}
+use Rattle.laws.proofs.Table.{length-table, table_is, table_cong}
 use Rattle.arena.specs.Node.{Node, operation}
-use Rattle.arena.specs.Expression.{Expression, expressions, expressionAt, those}
-use Rattle.arena.specs.Arena.{Extends, Small, Placed, placed, full, and_then, add, addExpression, addExpressions}
-use Rattle.arena.specs.Layout.{row, node_of, childrenOf, decode, encode}
-use Rattle.arena.specs.Calls.{answered, inCells}
-use Rattle.arena.specs.Inner.{Holds, Placeable, told, Grew, Noted, Memo, noted, Walked, mapAll, toldAll, operationRow, WalkedAll}
+use Rattle.arena.specs.Expression.{Expression, expressions, expression_at, those}
+use Rattle.arena.specs.Arena.{Extends, Small, Placed, placed, full, and_then, add, add_expression, add_expressions}
+use Rattle.arena.specs.Layout.{row, node_of, children_of, decode, encode}
+use Rattle.arena.specs.Calls.{answered, in_cells}
+use Rattle.arena.specs.Inner.{Holds, Placeable, told, Grew, Noted, Memo, noted, Walked, map_all, told_all, operation_row, WalkedAll}
 use Rattle.arena.specs.declared.Added.{Added}
 use Rattle.arena.specs.declared.Added.TheVariants.{Number, Refused}
 use Rattle.arena.proofs.Nodes.{add-node, extends-none, extends-both, extends-longer}
 use Rattle.arena.proofs.Trees.{expression-kept}
-use Rattle.arena.proofs.Growing.{add-expression, add-expression-old}
+use Rattle.arena.proofs.Growing.{add-expression, add_expression-old}
 use Rattle.arena.proofs.Layouts.{length-decode, coded-cells, decode-encode, encode-holds}
 
 -- ---- placing
@@ -31,8 +31,8 @@ pub record PlacedRow (r s t : List ℕ) (a : Added) : Type 0 where
   pub extends : Extends (decode s) (decode t)
   pub is : told a (decode t) ≡ add (node_of r) (decode s)
 
-pub placed_row : (r s t : List ℕ) (a : Added) → Placeable s r → (a, t) ≡ inCells (answered (decode s) (add (node_of r) (decode s))) → PlacedRow r s t a
-unfolding inCells answered told
+pub placed_row : (r s t : List ℕ) (a : Added) → Placeable s r → (a, t) ≡ in_cells (answered (decode s) (add (node_of r) (decode s))) → PlacedRow r s t a
+unfolding in_cells answered told
 placed_row r s t a p e = go (add (node_of r) (decode s)) refl
   where
     go : (o : Placed ℕ) → add (node_of r) (decode s) ≡ o → PlacedRow r s t a
@@ -80,7 +80,7 @@ module _ (F : Expression → Expression) where
       }
 
   -- an answer is noted
-  pub memo-more : (ns : List Node) (memo : List ℕ) (e i : ℕ) → Memo F ns memo → e < length ns → i < length ns → expressionAt ns i ≡ F (expressionAt ns e) → Memo F ns (set memo e (i + 1))
+  pub memo-more : (ns : List Node) (memo : List ℕ) (e i : ℕ) → Memo F ns memo → e < length ns → i < length ns → expression_at ns i ≡ F (expression_at ns e) → Memo F ns (set memo e (i + 1))
   memo-more ns memo e i m a b q j h = at (ℕ_discrete j e)
     where
       new : get_or (set memo e (i + 1)) j 0 ≡ i + 1 → j ≡ e → Noted F ns j (get_or (set memo e (i + 1)) j 0)
@@ -109,27 +109,27 @@ module _ (F : Expression → Expression) where
             record {
               holds = h;
               extends = extends-none (decode s);
-              is = sym (add-expression-old (F (expressionAt (decode s) e)) (decode s) h.sound (get_or memo e 0 - 1) o.old o.is);
+              is = sym (add_expression-old (F (expression_at (decode s) e)) (decode s) h.sound (get_or memo e 0 - 1) o.old o.is);
             };
-        memo-true = m;
+        memo_true = m;
       }
 
   -- what grew has the number that was answered
-  pub grew-number : (x : Expression) (s t : List ℕ) (i : ℕ) → Holds s → Small x → Grew x s t (Number i) → (i < length (decode t)) × (expressionAt (decode t) i ≡ x)
+  pub grew-number : (x : Expression) (s t : List ℕ) (i : ℕ) → Holds s → Small x → Grew x s t (Number i) → (i < length (decode t)) × (expression_at (decode t) i ≡ x)
   unfolding told
   grew-number x s t i h m g =
       let a = add-expression x (decode s) h.sound m i (decode t) (sym g.is) in
       (a.below, a.is)
 
   -- an answer is noted for its expression
-  pub memo-noted : (s t memo : List ℕ) (e : ℕ) (a : Added) → Holds s → e < length (decode s) → Small (F (expressionAt (decode s) e)) → Walked F s t memo e a → Walked F s t (noted memo e a) e a
+  pub memo-noted : (s t memo : List ℕ) (e : ℕ) (a : Added) → Holds s → e < length (decode s) → Small (F (expression_at (decode s) e)) → Walked F s t memo e a → Walked F s t (noted memo e a) e a
   unfolding noted
   memo-noted s t memo e (Number i) h b m w =
-      let g = grew-number (F (expressionAt (decode s) e)) s t i h m w.grew in
+      let g = grew-number (F (expression_at (decode s) e)) s t i h m w.grew in
       let x = w.grew.extends in
       record {
         grew = w.grew;
-        memo-true = memo-more (decode t) memo e i w.memo-true (omega (arith, extends-longer x)) g.0 (g.1 ∙ ap F (sym (expression-kept x e b)));
+        memo_true = memo-more (decode t) memo e i w.memo_true (omega (arith, extends-longer x)) g.0 (g.1 ∙ ap F (sym (expression-kept x e b)));
       }
   memo-noted s t memo e (Refused k) h b m w = w
 
@@ -144,23 +144,23 @@ prefixed done full = full
 pub record Through (F : Expression → Expression) (s t memo r r' : List ℕ) (k : ℕ) : Type 0 where
   pub holds : Holds t
   pub extends : Extends (decode s) (decode t)
-  pub memo-true : Memo F (decode t) memo
+  pub memo_true : Memo F (decode t) memo
   pub done : List ℕ
   pub counted : length done ≡ k
-  pub row_is : r' ≡ operationRow r (done ++ drop k (childrenOf r))
-  pub goes : addExpressions (mapAll F (those (expressions (decode s)) (childrenOf r))) (decode s)
-      ≡ prefixed done (addExpressions (mapAll F (those (expressions (decode s)) (drop k (childrenOf r)))) (decode t))
+  pub row_is : r' ≡ operation_row r (done ++ drop k (children_of r))
+  pub goes : add_expressions (map_all F (those (expressions (decode s)) (children_of r))) (decode s)
+      ≡ prefixed done (add_expressions (map_all F (those (expressions (decode s)) (drop k (children_of r)))) (decode t))
 
 -- how many children a row has
-pub children-count : (r : List ℕ) → length (childrenOf r) ≡ get_or r 2 0
-unfolding childrenOf
+pub children-count : (r : List ℕ) → length (children_of r) ≡ get_or r 2 0
+unfolding children_of
 children-count r = length-table (λ k. get_or r (3 + k) 0) (get_or r 2 0)
 
 -- the children of an operation's row
-pub children-row : (label : ℕ) (ks : List ℕ) → childrenOf (row (operation label ks)) ≡ ks
-unfolding childrenOf row
+pub children-row : (label : ℕ) (ks : List ℕ) → children_of (row (operation label ks)) ≡ ks
+unfolding children_of row
 children-row label ks =
-    sym (table_is (λ k. get_or (ks ++ replicate (8 - length ks) 0) k 0) (length ks) ks 0 refl (λ i b. sym (get_or-append ks (replicate (8 - length ks) 0) 0 i b)) ∙ table-cong _ _ (length ks) (λ i b. rw (add_comm 3 i, add-three)))
+    sym (table_is (λ k. get_or (ks ++ replicate (8 - length ks) 0) k 0) (length ks) ks 0 refl (λ i b. sym (get_or-append ks (replicate (8 - length ks) 0) 0 i b)) ∙ table_cong _ _ (length ks) (λ i b. rw (add_comm 3 i, add-three)))
 
 -- an operation's row, parted at a child
 split-row : (label c : ℕ) (done rest : List ℕ) → row (operation label (done ++ (c ∷ rest))) ≡ (3 ∷ label ∷ length (done ++ (c ∷ rest)) ∷ done) ++ (c ∷ (rest ++ replicate (8 - length (done ++ (c ∷ rest))) 0))
@@ -194,88 +194,88 @@ prefixed-more done i full = refl
 
 module _ (F : Expression → Expression) (s r : List ℕ) where
   -- nothing done
-  pub through-begins : (memo : List ℕ) → Holds s → Memo F (decode s) memo → r ≡ operationRow r (childrenOf r) → Through F s s memo r r 0
+  pub through-begins : (memo : List ℕ) → Holds s → Memo F (decode s) memo → r ≡ operation_row r (children_of r) → Through F s s memo r r 0
   through-begins memo h m q =
       record {
         holds = h;
         extends = extends-none (decode s);
-        memo-true = m;
+        memo_true = m;
         done = [];
         counted = refl;
         row_is = q;
-        goes = prefixed-none (addExpressions (mapAll F (those (expressions (decode s)) (childrenOf r))) (decode s));
+        goes = prefixed-none (add_expressions (map_all F (those (expressions (decode s)) (children_of r))) (decode s));
       }
 
-  module _ (t memo r' : List ℕ) (k : ℕ) (h : Through F s t memo r r' k) (l : k < length (childrenOf r)) where
+  module _ (t memo r' : List ℕ) (k : ℕ) (h : Through F s t memo r r' k) (l : k < length (children_of r)) where
     -- the rest begins with child k
-    rest : drop k (childrenOf r) ≡ get_or (childrenOf r) k 0 ∷ drop (k + 1) (childrenOf r)
-    rest = drop-cons (childrenOf r) k 0 l ∙ rw add-one
+    rest : drop k (children_of r) ≡ get_or (children_of r) k 0 ∷ drop (k + 1) (children_of r)
+    rest = drop-cons (children_of r) k 0 l ∙ rw add-one
 
     -- the row, parted at child k
-    parted : r' ≡ operationRow r (h.done ++ (get_or (childrenOf r) k 0 ∷ drop (k + 1) (childrenOf r)))
-    parted = h.row_is ∙ ap (λ (l : List ℕ). operationRow r (h.done ++ l)) rest
+    parted : r' ≡ operation_row r (h.done ++ (get_or (children_of r) k 0 ∷ drop (k + 1) (children_of r)))
+    parted = h.row_is ∙ ap (λ (l : List ℕ). operation_row r (h.done ++ l)) rest
 
     -- child k stands in the row
-    pub through-child : get_or r' (3 + k) 0 ≡ get_or (childrenOf r) k 0
+    pub through-child : get_or r' (3 + k) 0 ≡ get_or (children_of r) k 0
     through-child =
         ap (λ (l : List ℕ). get_or l (3 + k) 0) parted
-        ∙ row-child (get_or r 1 0) (get_or (childrenOf r) k 0) 0 k h.done (drop (k + 1) (childrenOf r)) h.counted
+        ∙ row-child (get_or r 1 0) (get_or (children_of r) k 0) 0 k h.done (drop (k + 1) (children_of r)) h.counted
 
     -- what is added after child k
     abbrev after : ℕ → List Node → Placed (List ℕ)
-    after i ms = and_then (addExpressions (mapAll F (those (expressions (decode s)) (drop (k + 1) (childrenOf r)))) ms) (λ ks os. placed (i ∷ ks) os)
+    after i ms = and_then (add_expressions (map_all F (those (expressions (decode s)) (drop (k + 1) (children_of r)))) ms) (λ ks os. placed (i ∷ ks) os)
 
     -- what is to be added, child k first
-    turn : addExpressions (mapAll F (those (expressions (decode s)) (drop k (childrenOf r)))) (decode t) ≡ and_then (addExpression (F (expressionAt (decode s) (get_or (childrenOf r) k 0))) (decode t)) after
-    unfolding addExpressions mapAll those
+    turn : add_expressions (map_all F (those (expressions (decode s)) (drop k (children_of r)))) (decode t) ≡ and_then (add_expression (F (expression_at (decode s) (get_or (children_of r) k 0))) (decode t)) after
+    unfolding add_expressions map_all those
     turn = rw rest
 
-    module _ (u memo₂ : List ℕ) (below : get_or (childrenOf r) k 0 < length (decode s)) where
-      same : expressionAt (decode t) (get_or (childrenOf r) k 0) ≡ expressionAt (decode s) (get_or (childrenOf r) k 0)
-      same = expression-kept h.extends (get_or (childrenOf r) k 0) below
+    module _ (u memo₂ : List ℕ) (below : get_or (children_of r) k 0 < length (decode s)) where
+      same : expression_at (decode t) (get_or (children_of r) k 0) ≡ expression_at (decode s) (get_or (children_of r) k 0)
+      same = expression-kept h.extends (get_or (children_of r) k 0) below
 
       -- child k is done
-      pub through-more : (i : ℕ) → Walked F t u memo₂ (get_or (childrenOf r) k 0) (Number i) → Through F s u memo₂ r (set r' (3 + k) i) (k + 1)
+      pub through-more : (i : ℕ) → Walked F t u memo₂ (get_or (children_of r) k 0) (Number i) → Through F s u memo₂ r (set r' (3 + k) i) (k + 1)
       unfolding told and_then
       through-more i w =
-          let a : addExpression (F (expressionAt (decode s) (get_or (childrenOf r) k 0))) (decode t) ≡ placed i (decode u) = ap (λ (x : Expression). addExpression (F x) (decode t)) (sym same) ∙ sym w.grew.is in
+          let a : add_expression (F (expression_at (decode s) (get_or (children_of r) k 0))) (decode t) ≡ placed i (decode u) = ap (λ (x : Expression). add_expression (F x) (decode t)) (sym same) ∙ sym w.grew.is in
           record {
             holds = w.grew.holds;
             extends = extends-both h.extends w.grew.extends;
-            memo-true = w.memo-true;
+            memo_true = w.memo_true;
             done = h.done ++ (i ∷ []);
             counted = length-append h.done (i ∷ []) ∙ rw h.counted;
             row_is =
                 ap (λ (l : List ℕ). set l (3 + k) i) parted
-                ∙ row-set (get_or r 1 0) (get_or (childrenOf r) k 0) i k h.done (drop (k + 1) (childrenOf r)) h.counted
-                ∙ ap (operationRow r) (sym (append_snoc h.done i (drop (k + 1) (childrenOf r))));
-            goes = h.goes ∙ ap (prefixed h.done) (turn ∙ ap (λ (o : Placed ℕ). and_then o after) a) ∙ prefixed-more h.done i (addExpressions (mapAll F (those (expressions (decode s)) (drop (k + 1) (childrenOf r)))) (decode u));
+                ∙ row-set (get_or r 1 0) (get_or (children_of r) k 0) i k h.done (drop (k + 1) (children_of r)) h.counted
+                ∙ ap (operation_row r) (sym (append_snoc h.done i (drop (k + 1) (children_of r))));
+            goes = h.goes ∙ ap (prefixed h.done) (turn ∙ ap (λ (o : Placed ℕ). and_then o after) a) ∙ prefixed-more h.done i (add_expressions (map_all F (those (expressions (decode s)) (drop (k + 1) (children_of r)))) (decode u));
           }
 
       -- there was no room for child k
-      pub through-fails : (j : ℕ) → Walked F t u memo₂ (get_or (childrenOf r) k 0) (Refused j) → WalkedAll F s u memo₂ r r' false
-      unfolding told and_then toldAll prefixed
-      through-fails j w =
-          let a : addExpression (F (expressionAt (decode s) (get_or (childrenOf r) k 0))) (decode t) ≡ full = ap (λ (x : Expression). addExpression (F x) (decode t)) (sym same) ∙ sym w.grew.is in
+      pub through_fails : (j : ℕ) → Walked F t u memo₂ (get_or (children_of r) k 0) (Refused j) → WalkedAll F s u memo₂ r r' false
+      unfolding told and_then told_all prefixed
+      through_fails j w =
+          let a : add_expression (F (expression_at (decode s) (get_or (children_of r) k 0))) (decode t) ≡ full = ap (λ (x : Expression). add_expression (F x) (decode t)) (sym same) ∙ sym w.grew.is in
           record {
             holds = w.grew.holds;
             extends = extends-both h.extends w.grew.extends;
-            memo-true = w.memo-true;
+            memo_true = w.memo_true;
             is = sym (h.goes ∙ ap (prefixed h.done) (turn ∙ ap (λ (o : Placed ℕ). and_then o after) a));
             row_is = λ z. absurd (let q : ◌≡◌ {A = ℕ} 0 1 = cc in omega arith);
           }
 
   -- all done
-  pub through-ends : (t memo r' : List ℕ) (k : ℕ) → Through F s t memo r r' k → length (childrenOf r) ≡ k → WalkedAll F s t memo r r' true
-  unfolding toldAll prefixed addExpressions mapAll those
+  pub through-ends : (t memo r' : List ℕ) (k : ℕ) → Through F s t memo r r' k → length (children_of r) ≡ k → WalkedAll F s t memo r r' true
+  unfolding told_all prefixed add_expressions map_all those
   through-ends t memo r' k h e =
-      let d : drop k (childrenOf r) ≡ [] = rw (← e) (drop-length (childrenOf r)) in
-      let q : r' ≡ operationRow r h.done = h.row_is ∙ rw (d, append-nil) in
-      let c : childrenOf r' ≡ h.done = ap childrenOf q ∙ children-row (get_or r 1 0) h.done in
+      let d : drop k (children_of r) ≡ [] = rw (← e) (drop-length (children_of r)) in
+      let q : r' ≡ operation_row r h.done = h.row_is ∙ rw (d, append-nil) in
+      let c : children_of r' ≡ h.done = ap children_of q ∙ children-row (get_or r 1 0) h.done in
       record {
         holds = h.holds;
         extends = h.extends;
-        memo-true = h.memo-true;
+        memo_true = h.memo_true;
         is = sym (h.goes ∙ rw (d, append-nil, c));
         row_is = λ z. rw c q;
       }

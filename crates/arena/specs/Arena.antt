@@ -2,7 +2,7 @@
 use Rattle.std.specs.Prelude.{ℕ, ◌<◌, ◌≤◌, List, [], ◌∷◌, ◌++◌, ◌≡◌, ltb, length, get_or}
 use Rattle.std.proofs.Math.Option.{Option, none, some}
 use Rattle.laws.specs.Tests.{if◌then◌else◌, first}
-use Rattle.arena.specs.Node.{Node, column, literal, operation, nodeAt, sameNode}
+use Rattle.arena.specs.Node.{Node, column, literal, operation, node_at, same_node}
 use Rattle.arena.specs.Expression.{Expression, Expressions, col, lit, op, ∅, ◌▹◌, size}
 
 -- a node may have the number i: a column's index has 16 bits, an operation has at most 8 children, and they are lower than i
@@ -14,8 +14,8 @@ Allowed i (operation label children) = (length children ≤ 8) × ((k : ℕ) →
 -- an arena is sound: at most 1,024 nodes, each allowed at its number, no two equal
 pub record Sound (ns : List Node) : Type 0 where
   pub few : length ns ≤ 1024
-  pub allowed : (i : ℕ) → i < length ns → Allowed i (nodeAt ns i)
-  pub distinct : (i j : ℕ) → i < j → j < length ns → nodeAt ns i ≡ nodeAt ns j → ⊥
+  pub allowed : (i : ℕ) → i < length ns → Allowed i (node_at ns i)
+  pub distinct : (i j : ℕ) → i < j → j < length ns → node_at ns i ≡ node_at ns j → ⊥
 
 -- an arena with nodes added at its end, or none
 pub record Extends (ns ms : List Node) : Type 0 where
@@ -46,7 +46,7 @@ and_then full f = full
 
 -- the number of the node that equals n
 unfoldable pub find : Node → List Node → Option ℕ
-find n ns = first (λ i. sameNode n (nodeAt ns i)) (length ns)
+find n ns = first (λ i. same_node n (node_at ns i)) (length ns)
 
 -- found: the old number. Not found: the next number, if one is left
 unfoldable pub placed_at : Option ℕ → Node → List Node → Placed ℕ
@@ -59,12 +59,12 @@ add n ns = placed_at (find n ns) n ns
 
 unfoldable mutual
   -- the missing nodes of an expression are added, children before parents, left to right
-  pub addExpression : Expression → List Node → Placed ℕ
-  addExpression (col name index) ns = add (column name index) ns
-  addExpression (lit v) ns = add (literal v) ns
-  addExpression (op label children) ns = and_then (addExpressions children ns) (λ ks ms. add (operation label ks) ms)
+  pub add_expression : Expression → List Node → Placed ℕ
+  add_expression (col name index) ns = add (column name index) ns
+  add_expression (lit v) ns = add (literal v) ns
+  add_expression (op label children) ns = and_then (add_expressions children ns) (λ ks ms. add (operation label ks) ms)
 
   -- of each, one after the other
-  pub addExpressions : Expressions → List Node → Placed (List ℕ)
-  addExpressions ∅ ns = placed [] ns
-  addExpressions (e ▹ es) ns = and_then (addExpression e ns) (λ k ms. and_then (addExpressions es ms) (λ ks os. placed (k ∷ ks) os))
+  pub add_expressions : Expressions → List Node → Placed (List ℕ)
+  add_expressions ∅ ns = placed [] ns
+  add_expressions (e ▹ es) ns = and_then (add_expression e ns) (λ k ms. and_then (add_expressions es ms) (λ ks os. placed (k ∷ ks) os))

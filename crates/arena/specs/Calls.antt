@@ -2,7 +2,7 @@
 -- A refusal is a case that hands back what came in.
 use Rattle.std.specs.Prelude.{ℕ, List, ltb, leb, length, get_or}
 use Rattle.laws.specs.Tests.{if◌then◌else◌, each}
-use Rattle.arena.specs.Node.{Node, column, literal, operation, nodeAt, childNumbers}
+use Rattle.arena.specs.Node.{Node, column, literal, operation, node_at, child_numbers}
 use Rattle.arena.specs.Arena.{Placed, placed, full, add}
 use Rattle.arena.specs.Layout.{encode, decode, lawful}
 use Rattle.arena.specs.declared.Added.{Added}
@@ -22,16 +22,16 @@ answered ns (placed i ms) = (Number i, ms)
 answered ns full = (Refused 3, ns)
 
 -- add a column
-unfoldable pub addColumn : ℕ → ℕ → List Node → Outcome
-addColumn name index ns = answered ns (add (column name index) ns)
+unfoldable pub add_column : ℕ → ℕ → List Node → Outcome
+add_column name index ns = answered ns (add (column name index) ns)
 
 -- add a literal
-unfoldable pub addLiteral : ℕ → List Node → Outcome
-addLiteral value ns = answered ns (add (literal value) ns)
+unfoldable pub add_literal : ℕ → List Node → Outcome
+add_literal value ns = answered ns (add (literal value) ns)
 
 -- add an operation: 1 where a child is unknown, 2 where there are more than 8 children
-unfoldable pub addOperation : ℕ → List ℕ → List Node → Outcome
-addOperation label children ns =
+unfoldable pub add_operation : ℕ → List ℕ → List Node → Outcome
+add_operation label children ns =
     if each (λ k. ltb (get_or children k 0) (length ns)) (length children) then
     (if leb (length children) 8 then answered ns (add (operation label children) ns) else (Refused 2, ns))
     else (Refused 1, ns)
@@ -44,45 +44,45 @@ read_of (operation label children) = Operation label (length children)
 
 -- read the node with a number: 1 where it is unknown
 unfoldable pub read_node : ℕ → List Node → Read
-read_node e ns = if ltb e (length ns) then read_of (nodeAt ns e) else Read-Refused 1
+read_node e ns = if ltb e (length ns) then read_of (node_at ns e) else Read-Refused 1
 
 -- read a child of a node; a place that the node doesn't have is no refusal, and the answer says that there is none
-unfoldable pub readChild : ℕ → ℕ → List Node → Child
-readChild e k ns =
+unfoldable pub read_child : ℕ → ℕ → List Node → Child
+read_child e k ns =
     if ltb e (length ns) then
-    (if ltb k (length (childNumbers (nodeAt ns e))) then Child-Number (get_or (childNumbers (nodeAt ns e)) k 0) else Absent)
+    (if ltb k (length (child_numbers (node_at ns e))) then Child-Number (get_or (child_numbers (node_at ns e)) k 0) else Absent)
     else Child-Refused 1
 
 -- a call on lent cells: where they are no arena, the refusal; else the call on the arena in them
-unfoldable pub onLent : {A : Type 0} → A → (List Node → A) → List ℕ → A
-onLent refused call cells = if lawful cells then call (decode cells) else refused
+unfoldable pub on_lent : {A : Type 0} → A → (List Node → A) → List ℕ → A
+on_lent refused call cells = if lawful cells then call (decode cells) else refused
 
 -- an answer and the arena afterwards, laid out in cells
-unfoldable pub inCells : {A : Type 0} → A × List Node → A × List ℕ
-inCells o = (o.0, encode o.1)
+unfoldable pub in_cells : {A : Type 0} → A × List Node → A × List ℕ
+in_cells o = (o.0, encode o.1)
 
 -- a call that changes the arena in lent cells: 11 and the cells as they were, or its outcome
 abbrev pub lent : (List Node → Outcome) → List ℕ → Added × List ℕ
-lent call cells = onLent (Refused 11, cells) (λ ns. inCells (call ns)) cells
+lent call cells = on_lent (Refused 11, cells) (λ ns. in_cells (call ns)) cells
 
 -- the check alone: 0 or 11
 abbrev pub checked : List ℕ → ℕ
-checked cells = onLent 11 (λ ns. 0) cells
+checked cells = on_lent 11 (λ ns. 0) cells
 
 -- document 01's number of each answer, 0 is done: of a call that adds
-abbrev pub addedNumber : Added → ℕ
-addedNumber (Number i) = 0
-addedNumber (Refused k) = k
+abbrev pub added_number : Added → ℕ
+added_number (Number i) = 0
+added_number (Refused k) = k
 
 -- the same of a node that was read
-abbrev pub readNumber : Read → ℕ
-readNumber (Column name index) = 0
-readNumber (Literal value) = 0
-readNumber (Operation label children) = 0
-readNumber (Read-Refused k) = k
+abbrev pub read_number : Read → ℕ
+read_number (Column name index) = 0
+read_number (Literal value) = 0
+read_number (Operation label children) = 0
+read_number (Read-Refused k) = k
 
 -- and of a child that was read
-abbrev pub childNumber : Child → ℕ
-childNumber (Child-Number i) = 0
-childNumber Absent = 0
-childNumber (Child-Refused k) = k
+abbrev pub child_number : Child → ℕ
+child_number (Child-Number i) = 0
+child_number Absent = 0
+child_number (Child-Refused k) = k

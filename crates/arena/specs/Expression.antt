@@ -36,5 +36,5 @@ unfoldable pub expressions : List Node → List Expression
 expressions ns = made (λ es i n. over es n) ns
 
 -- the expression with a number
-abbrev pub expressionAt : List Node → ℕ → Expression
-expressionAt ns e = get_or (expressions ns) e (lit 0)
+abbrev pub expression_at : List Node → ℕ → Expression
+expression_at ns e = get_or (expressions ns) e (lit 0)

@@ -4,9 +4,9 @@ use Rattle.std.proofs.Math.Option.{Option, none, some}
 use Rattle.std.proofs.Math.Seq.{paste}
 use Rattle.laws.specs.Tests.{if◌then◌else◌}
 use Rattle.arena.specs.Node.{Node, operation}
-use Rattle.arena.specs.Expression.{Expression, Expressions, ∅, ◌▹◌, expressionAt, expressions, those}
-use Rattle.arena.specs.Arena.{Sound, Allowed, Extends, Placed, placed, full, addExpression, addExpressions}
-use Rattle.arena.specs.Layout.{row, count, rowOf, node_of, childrenOf, decode}
+use Rattle.arena.specs.Expression.{Expression, Expressions, ∅, ◌▹◌, expression_at, expressions, those}
+use Rattle.arena.specs.Arena.{Sound, Allowed, Extends, Placed, placed, full, add_expression, add_expressions}
+use Rattle.arena.specs.Layout.{row, count, row_of, node_of, children_of, decode}
 use Rattle.arena.specs.declared.Added.{Added}
 use Rattle.arena.specs.declared.Added.TheVariants.{Number, Refused}
 use Rattle.arena.specs.declared.Found.{Found}
@@ -25,7 +25,7 @@ Coded r = row (node_of r) ≡ r
 pub record Holds (cells : List ℕ) : Type 0 where
   pub sized : length cells ≡ 11265
   pub few : count cells ≤ 1024
-  pub coded : (i : ℕ) → i < count cells → Coded (rowOf cells i)
+  pub coded : (i : ℕ) → i < count cells → Coded (row_of cells i)
   pub rest : (k : ℕ) → 1 + 11 * count cells ≤ k → k < 11265 → get_or cells k 0 ≡ 0
   pub sound : Sound (decode cells)
 
@@ -60,13 +60,13 @@ is_refused (Refused k) = true
 pub record Grew (x : Expression) (s t : List ℕ) (answer : Added) : Type 0 where
   pub holds : Holds t
   pub extends : Extends (decode s) (decode t)
-  pub is : told answer (decode t) ≡ addExpression x (decode s)
+  pub is : told answer (decode t) ≡ add_expression x (decode s)
 
 -- where the memo of a walk F has an entry for a number, the entry less one is the number of what F makes of the expression
 pub record Noted (F : Expression → Expression) (ns : List Node) (e entry : ℕ) : Type 0 where
   pub known : e < length ns
   pub old : entry - 1 < length ns
-  pub is : expressionAt ns (entry - 1) ≡ F (expressionAt ns e)
+  pub is : expression_at ns (entry - 1) ≡ F (expression_at ns e)
 
 -- what the memo says is true. A place with 0 says nothing
 abbrev pub Memo : (Expression → Expression) → List Node → List ℕ → Type 0
@@ -79,27 +79,27 @@ noted memo e (Refused k) = memo
 
 -- what a walk F promises at node e: its expression was added, and the memo is true
 pub record Walked (F : Expression → Expression) (s t memo : List ℕ) (e : ℕ) (answer : Added) : Type 0 where
-  pub grew : Grew (F (expressionAt (decode s) e)) s t answer
-  pub memo-true : Memo F (decode t) memo
+  pub grew : Grew (F (expression_at (decode s) e)) s t answer
+  pub memo_true : Memo F (decode t) memo
 
 -- F of each expression
-unfoldable pub mapAll : (Expression → Expression) → Expressions → Expressions
-mapAll F ∅ = ∅
-mapAll F (e ▹ es) = F e ▹ mapAll F es
+unfoldable pub map_all : (Expression → Expression) → Expressions → Expressions
+map_all F ∅ = ∅
+map_all F (e ▹ es) = F e ▹ map_all F es
 
 -- a walk over the children in a row as a placing: the numbers in the row afterwards, or no room
-unfoldable pub toldAll : Bool → List ℕ → List Node → Placed (List ℕ)
-toldAll true r ns = placed (childrenOf r) ns
-toldAll false r ns = full
+unfoldable pub told_all : Bool → List ℕ → List Node → Placed (List ℕ)
+told_all true r ns = placed (children_of r) ns
+told_all false r ns = full
 
 -- the row of an operation with the label and the children that r has
-abbrev pub operationRow : List ℕ → List ℕ → List ℕ
-operationRow r children = row (operation (get_or r 1 0) children)
+abbrev pub operation_row : List ℕ → List ℕ → List ℕ
+operation_row r children = row (operation (get_or r 1 0) children)
 
 -- what a walk F over the children in the row r promises: what F makes of them was added, and r' is the operation's row over that
 pub record WalkedAll (F : Expression → Expression) (s t memo r r' : List ℕ) (all : Bool) : Type 0 where
   pub holds : Holds t
   pub extends : Extends (decode s) (decode t)
-  pub memo-true : Memo F (decode t) memo
-  pub is : toldAll all r' (decode t) ≡ addExpressions (mapAll F (those (expressions (decode s)) (childrenOf r))) (decode s)
-  pub row_is : all ≡ true → r' ≡ operationRow r (childrenOf r')
+  pub memo_true : Memo F (decode t) memo
+  pub is : told_all all r' (decode t) ≡ add_expressions (map_all F (those (expressions (decode s)) (children_of r))) (decode s)
+  pub row_is : all ≡ true → r' ≡ operation_row r (children_of r')

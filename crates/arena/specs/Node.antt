@@ -10,32 +10,32 @@ pub data Node : Type 0 where
   operation : (label : ℕ) (children : List ℕ) → Node
 
 -- the node with a number; past the end, which no call asks for, a literal
-abbrev pub nodeAt : List Node → ℕ → Node
-nodeAt ns i = get_or ns i (literal 0)
+abbrev pub node_at : List Node → ℕ → Node
+node_at ns i = get_or ns i (literal 0)
 
 -- the numbers of a node's children; a leaf has none
-unfoldable pub childNumbers : Node → List ℕ
-childNumbers (column name index) = []
-childNumbers (literal value) = []
-childNumbers (operation label children) = children
+unfoldable pub child_numbers : Node → List ℕ
+child_numbers (column name index) = []
+child_numbers (literal value) = []
+child_numbers (operation label children) = children
 
 -- two nodes are equal: the same kind, the same numbers, the same children in the same order
-unfoldable pub sameNode : Node → Node → Bool
-sameNode (column a x) (column b y) = eqb a b && eqb x y
-sameNode (column a x) (literal w) = false
-sameNode (column a x) (operation m ks) = false
-sameNode (literal v) (column b y) = false
-sameNode (literal v) (literal w) = eqb v w
-sameNode (literal v) (operation m ks) = false
-sameNode (operation l js) (column b y) = false
-sameNode (operation l js) (literal w) = false
-sameNode (operation l js) (operation m ks) = eqb l m && same_numbers js ks
+unfoldable pub same_node : Node → Node → Bool
+same_node (column a x) (column b y) = eqb a b && eqb x y
+same_node (column a x) (literal w) = false
+same_node (column a x) (operation m ks) = false
+same_node (literal v) (column b y) = false
+same_node (literal v) (literal w) = eqb v w
+same_node (literal v) (operation m ks) = false
+same_node (operation l js) (column b y) = false
+same_node (operation l js) (literal w) = false
+same_node (operation l js) (operation m ks) = eqb l m && same_numbers js ks
 
 -- xs, and after them what a rule makes of the nodes ns, each from all that stands before it and the node's number
-unfoldable pub madeAfter : {A : Type 0} → (List A → ℕ → Node → A) → List A → List Node → List A
-madeAfter rule xs [] = xs
-madeAfter rule xs (n ∷ ns) = madeAfter rule (xs ++ (rule xs (length xs) n ∷ [])) ns
+unfoldable pub made_after : {A : Type 0} → (List A → ℕ → Node → A) → List A → List Node → List A
+made_after rule xs [] = xs
+made_after rule xs (n ∷ ns) = made_after rule (xs ++ (rule xs (length xs) n ∷ [])) ns
 
 -- what a rule makes of each node of an arena, by number, from what it makes of the nodes before it
 unfoldable pub made : {A : Type 0} → (List A → ℕ → Node → A) → List Node → List A
-made rule ns = madeAfter rule [] ns
+made rule ns = made_after rule [] ns

@@ -4,8 +4,8 @@ ghost use Rattle.std.proofs.Math.Seq.{paste};
 ghost use Rattle.laws.specs.Tests.{each};
 ghost use Rattle.arena.specs.Node.{column, literal, operation};
 ghost use Rattle.arena.specs.Arena.{add};
-ghost use Rattle.arena.specs.Layout.{row as rowOfNode, count, node_of, decode};
-ghost use Rattle.arena.specs.Calls.{answered, inCells};
+ghost use Rattle.arena.specs.Layout.{row as row_of_node, count, node_of, decode};
+ghost use Rattle.arena.specs.Calls.{answered, in_cells};
 ghost use Rattle.arena.specs.Inner.{Placeable, appended};
 
 use crate::cells::{narrow, node_count, wide};
@@ -14,7 +14,7 @@ use crate::{Added, Found};
 
 // The row of a column.
 pub fn column_row(name: u16, index: u16) -> [u32; 11]
-    ensures { result ≡ rowOfNode (column name index) }
+    ensures { result ≡ row_of_node (column name index) }
 {
     [
         1,
@@ -33,7 +33,7 @@ pub fn column_row(name: u16, index: u16) -> [u32; 11]
 
 // The row of a literal.
 pub fn literal_row(value: u32) -> [u32; 11]
-    ensures { result ≡ rowOfNode (literal value) }
+    ensures { result ≡ row_of_node (literal value) }
 {
     [2, value, 0, 0, 0, 0, 0, 0, 0, 0, 0]
 }
@@ -41,7 +41,7 @@ pub fn literal_row(value: u32) -> [u32; 11]
 // The row of an operation.
 pub fn operation_row(label: u32, children: &[u32]) -> [u32; 11]
     requires { length children.now ≤ 8 }
-    ensures { result ≡ rowOfNode (operation label children.now) }
+    ensures { result ≡ row_of_node (operation label children.now) }
 {
     let n = children.len();
     let mut row = [3, label, n as u32, 0, 0, 0, 0, 0, 0, 0, 0];
@@ -97,7 +97,7 @@ fn append(cells: &mut [u32; 11265], row: &[u32; 11]) -> Added
 // Adds a node by its row: an equal node answers its old number, also in a full arena.
 pub fn place(cells: &mut [u32; 11265], row: &[u32; 11]) -> Added
     requires { Placeable cells.old row.now }
-    ensures { (result, cells.new) ≡ inCells (answered (decode cells.old) (add (node_of row.now) (decode cells.old))) }
+    ensures { (result, cells.new) ≡ in_cells (answered (decode cells.old) (add (node_of row.now) (decode cells.old))) }
 {
     let n = node_count(cells);
     match row_below(cells, n, row) {

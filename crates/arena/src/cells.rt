@@ -1,6 +1,6 @@
 // Reading the cells of an arena.
 ghost use Rattle.std.specs.Prelude.{◌≡◌, ◌≤◌, ◌<◌};
-ghost use Rattle.arena.specs.Layout.{count, cell_of, rowOf};
+ghost use Rattle.arena.specs.Layout.{count, cell_of, row_of};
 
 // A 32-bit number as an index.
 pub fn wide(x: u32) -> usize
@@ -35,7 +35,7 @@ pub fn cell_of(cells: &[u32; 11265], i: usize, j: usize) -> u32
 // The 11 cells of node i.
 pub fn row_of(cells: &[u32; 11265], i: usize) -> [u32; 11]
     requires { i < 1024 }
-    ensures { result ≡ rowOf cells.now i }
+    ensures { result ≡ row_of cells.now i }
 {
     [
         cell_of(cells, i, 0),

@@ -1,6 +1,6 @@
 // The check of a lent arena: document 01's rule 11.
 ghost use Rattle.std.specs.Prelude.{◌≡◌, ◌≤◌, ◌<◌, ◌+◌, eqb, length};
-ghost use Rattle.arena.specs.Layout.{sameRow, rowBelow, lawfulKind, childrenBelow, placesUnused, lawfulRow, lawfulNode, cellsUnused, lawful};
+ghost use Rattle.arena.specs.Layout.{same_row, row_below, lawful_kind, children_below, places_unused, lawful_row, lawful_node, cells_unused, lawful};
 ghost use Rattle.arena.specs.Inner.{found_at};
 ghost use Rattle.laws.specs.Tests.{each};
 
@@ -10,7 +10,7 @@ use crate::cells::{cell_of, node_count, row_of, wide};
 // Node i has this row.
 fn same_row(cells: &[u32; 11265], i: usize, row: &[u32; 11]) -> bool
     requires { i < 1024 }
-    ensures { result ≡ sameRow cells.now i row.now }
+    ensures { result ≡ same_row cells.now i row.now }
 {
     let mut j = 0;
     while j < 11 {
@@ -25,7 +25,7 @@ fn same_row(cells: &[u32; 11265], i: usize, row: &[u32; 11]) -> bool
 // The first of the first n nodes that has this row.
 pub fn row_below(cells: &[u32; 11265], n: usize, row: &[u32; 11]) -> Found
     requires { n ≤ 1024 }
-    ensures { result ≡ found_at (rowBelow cells.now n row.now) }
+    ensures { result ≡ found_at (row_below cells.now n row.now) }
 {
     let mut i = 0;
     while i < n {
@@ -39,7 +39,7 @@ pub fn row_below(cells: &[u32; 11265], n: usize, row: &[u32; 11]) -> Found
 
 // A node of this kind may have this many children.
 fn lawful_kind(kind: u32, children: u32) -> bool
-    ensures { result ≡ lawfulKind kind children }
+    ensures { result ≡ lawful_kind kind children }
 {
     if kind == 1 {
         return children == 0;
@@ -56,7 +56,7 @@ fn lawful_kind(kind: u32, children: u32) -> bool
 // The first n children of a row are below i.
 fn children_below(row: &[u32; 11], n: usize, i: usize) -> bool
     requires { n ≤ 8 }
-    ensures { result ≡ childrenBelow i n row.now }
+    ensures { result ≡ children_below i n row.now }
 {
     let mut k = 0;
     while k < n {
@@ -71,7 +71,7 @@ fn children_below(row: &[u32; 11], n: usize, i: usize) -> bool
 // The places for children after the first n are 0.
 fn places_unused(row: &[u32; 11], n: usize) -> bool
     requires { n ≤ 8 }
-    ensures { result ≡ placesUnused n row.now }
+    ensures { result ≡ places_unused n row.now }
 {
     let mut k = 0;
     while k < 8 - n {
@@ -85,7 +85,7 @@ fn places_unused(row: &[u32; 11], n: usize) -> bool
 
 // A row may stand at number i.
 fn lawful_row(i: usize, row: &[u32; 11]) -> bool
-    ensures { result ≡ lawfulRow i row.now }
+    ensures { result ≡ lawful_row i row.now }
 {
     let n = row[2];
     if !lawful_kind(row[0], n) {
@@ -100,7 +100,7 @@ fn lawful_row(i: usize, row: &[u32; 11]) -> bool
 // Node i is lawful, and no earlier node equals it.
 fn lawful_node(cells: &[u32; 11265], i: usize) -> bool
     requires { i < 1024 }
-    ensures { result ≡ lawfulNode cells.now i }
+    ensures { result ≡ lawful_node cells.now i }
 {
     let row = row_of(cells, i);
     if !lawful_row(i, &row) {
@@ -115,7 +115,7 @@ fn lawful_node(cells: &[u32; 11265], i: usize) -> bool
 // The cells after the first n nodes are 0.
 fn cells_unused(cells: &[u32; 11265], n: usize) -> bool
     requires { n ≤ 1024 }
-    ensures { result ≡ cellsUnused n cells.now }
+    ensures { result ≡ cells_unused n cells.now }
 {
     let mut k = 0;
     while k < 11264 - 11 * n {
@@ -137,7 +137,7 @@ fn sized(cells: &[u32]) -> bool
 // Each of the first n nodes is lawful.
 fn lawful_nodes(cells: &[u32; 11265], n: usize) -> bool
     requires { n ≤ 1024 }
-    ensures { result ≡ each (λ i. lawfulNode cells.now i) n }
+    ensures { result ≡ each (λ i. lawful_node cells.now i) n }
 {
     let mut i = 0;
     while i < n {

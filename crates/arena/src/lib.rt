@@ -15,7 +15,7 @@ pub mod memo;
 pub mod reading;
 
 ghost use Rattle.std.specs.Prelude.{◌≡◌};
-ghost use Rattle.arena.specs.Calls.{checked, lent, onLent, addColumn, addLiteral, addOperation, read_node, readChild};
+ghost use Rattle.arena.specs.Calls.{checked, lent, on_lent, add_column, add_literal, add_operation, read_node, read_child};
 
 use adding::{all_below, column_row, literal_row, operation_row, place};
 use cells::{node_count, wide};
@@ -64,7 +64,7 @@ pub fn check_arena(cells: &[u32; 11265]) -> u32
 
 // Adds a column. Refusals: 11, 3.
 pub fn add_column(cells: &mut [u32; 11265], name: u16, index: u16) -> Added
-    ensures { (result, cells.new) ≡ lent (addColumn name index) cells.old }
+    ensures { (result, cells.new) ≡ lent (add_column name index) cells.old }
 {
     if !lawful_arena(cells) {
         return Added::Refused(11);
@@ -75,7 +75,7 @@ pub fn add_column(cells: &mut [u32; 11265], name: u16, index: u16) -> Added
 
 // Adds a literal. Refusals: 11, 3.
 pub fn add_literal(cells: &mut [u32; 11265], value: u32) -> Added
-    ensures { (result, cells.new) ≡ lent (addLiteral value) cells.old }
+    ensures { (result, cells.new) ≡ lent (add_literal value) cells.old }
 {
     if !lawful_arena(cells) {
         return Added::Refused(11);
@@ -86,7 +86,7 @@ pub fn add_literal(cells: &mut [u32; 11265], value: u32) -> Added
 
 // Adds an operation over children that are there. Refusals: 11, 1, 2, 3.
 pub fn add_operation(cells: &mut [u32; 11265], label: u32, children: &[u32]) -> Added
-    ensures { (result, cells.new) ≡ lent (addOperation label children.now) cells.old }
+    ensures { (result, cells.new) ≡ lent (add_operation label children.now) cells.old }
 {
     if !lawful_arena(cells) {
         return Added::Refused(11);
@@ -104,7 +104,7 @@ pub fn add_operation(cells: &mut [u32; 11265], label: u32, children: &[u32]) -> 
 
 // Reads a node. Refusals: 11, 1.
 pub fn read_node(cells: &[u32; 11265], expr: u32) -> Read
-    ensures { result ≡ onLent (Read.Refused 11) (read_node expr) cells.now }
+    ensures { result ≡ on_lent (Read.Refused 11) (read_node expr) cells.now }
 {
     if !lawful_arena(cells) {
         return Read::Refused(11);
@@ -120,7 +120,7 @@ pub fn read_node(cells: &[u32; 11265], expr: u32) -> Read
 // Reads the child of a node at a place counted from 0. A place that the node doesn't have is answered
 // with Absent. Refusals: 11, 1.
 pub fn read_child(cells: &[u32; 11265], expr: u32, place: u32) -> Child
-    ensures { result ≡ onLent (Child.Refused 11) (readChild expr place) cells.now }
+    ensures { result ≡ on_lent (Child.Refused 11) (read_child expr place) cells.now }
 {
     if !lawful_arena(cells) {
         return Child::Refused(11);

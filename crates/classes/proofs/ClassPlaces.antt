@@ -8,7 +8,7 @@ use Rattle.classes.specs.Layout.{decode}
 use Rattle.classes.specs.Inner.{Coded, place_of}
 use Rattle.classes.specs.declared.Group.{Group}
 use Rattle.classes.specs.declared.Place.TheVariants.{At, Nowhere}
-use Rattle.classes.proofs.Places.{classOf-some}
+use Rattle.classes.proofs.Places.{class_of-some}
 use Rattle.classes.proofs.Codec.{length-decode}
 
 -- what the search answered
@@ -22,7 +22,7 @@ place-nowhere (some j) e = absurd (let z : ◌≡◌ {A = ℕ} 0 1 = cc in omega
 
 -- the place is that of a class, and so one of 64
 pub class-below : (g : Group) (e i : ℕ) → class_of (decode g) e ≡ some i → i < g.count
-class-below g e i q = omega (arith, (classOf-some (decode g) e i q).0, length-decode g)
+class-below g e i q = omega (arith, (class_of-some (decode g) e i q).0, length-decode g)
 
 pub place-there : (g : Group) (e i : ℕ) → At i ≡ place_of (class_of (decode g) e) → i < g.count
 place-there g e i q = class-below g e i (place_at (class_of (decode g) e) i q)

@@ -10,7 +10,7 @@ use Rattle.laws.proofs.Table.{length-table, table_is}
 use Rattle.classes.specs.Class.{Class}
 use Rattle.classes.specs.Group.{class_at, total}
 use Rattle.classes.specs.Good.{flat}
-use Rattle.classes.specs.Layout.{flavourOf, value_of, constantFrom, padded, encode, sum_to, classIn, decode}
+use Rattle.classes.specs.Layout.{flavour_of, value_of, constant_from, padded, encode, sum_to, class_in, decode}
 use Rattle.classes.specs.Inner.{Coded}
 use Rattle.classes.specs.declared.Group.{Group}
 use Rattle.classes.proofs.Numbers.{zeros-after}
@@ -21,11 +21,11 @@ use Rattle.classes.proofs.Places.{nothing, length-flat}
 abbrev pub size_of : Class → ℕ
 size_of c = length c.members
 
-abbrev pub flavourIn : Class → ℕ
-flavourIn c = flavourOf c.constant
+abbrev pub flavour_in : Class → ℕ
+flavour_in c = flavour_of c.constant
 
-abbrev pub valueIn : Class → ℕ
-valueIn c = value_of c.constant
+abbrev pub value_in : Class → ℕ
+value_in c = value_of c.constant
 
 module _ (n : ℕ) (xs : List ℕ) where
   pub at-padded : (i : ℕ) → get_or (padded n xs) i 0 ≡ get_or xs i 0
@@ -42,9 +42,9 @@ module _ (n : ℕ) (xs : List ℕ) where
   set-padded i v l = rw (length-set xs i v) (set-append_left xs (replicate (n - length xs) 0) i v l)
 
   -- the first place after it is set
-  pub snoc-padded : (v : ℕ) → length xs < n → set (padded n xs) (length xs) v ≡ padded n (xs ++ (v ∷ []))
+  pub snoc_padded : (v : ℕ) → length xs < n → set (padded n xs) (length xs) v ≡ padded n (xs ++ (v ∷ []))
   unfolding padded
-  snoc-padded v l =
+  snoc_padded v l =
       let e : n - length xs ≡ suc (n - length (xs ++ (v ∷ []))) = omega (arith, length-append xs (v ∷ [])) in
       rw e (set_at xs 0 (replicate (n - length (xs ++ (v ∷ []))) 0) v (length xs) refl ∙ sym (append_snoc xs v (replicate (n - length (xs ++ (v ∷ []))) 0)))
 
@@ -109,13 +109,13 @@ module _ (l : ℕ) (cs : List Class) where
   unfolding encode
   size-encode j = at-padded 64 (map size_of cs) j ∙ get_or-map size_of cs j nothing
 
-  pub flavour-encode : (j : ℕ) → get_or (encode l cs).flavours j 0 ≡ flavourOf (class_at cs j).constant
-  unfolding encode flavourOf
-  flavour-encode j = at-padded 64 (map flavourIn cs) j ∙ get_or-map flavourIn cs j nothing
+  pub flavour-encode : (j : ℕ) → get_or (encode l cs).flavours j 0 ≡ flavour_of (class_at cs j).constant
+  unfolding encode flavour_of
+  flavour-encode j = at-padded 64 (map flavour_in cs) j ∙ get_or-map flavour_in cs j nothing
 
   pub value-encode : (j : ℕ) → get_or (encode l cs).values j 0 ≡ value_of (class_at cs j).constant
   unfolding encode value_of
-  value-encode j = at-padded 64 (map valueIn cs) j ∙ get_or-map valueIn cs j nothing
+  value-encode j = at-padded 64 (map value_in cs) j ∙ get_or-map value_in cs j nothing
 
   -- a class starts after the members of those before it
   pub start-encode : (j : ℕ) → sum_to (encode l cs).sizes j ≡ total (take j cs)
@@ -133,20 +133,20 @@ module _ (l : ℕ) (cs : List Class) where
   member-encode j k b = rw (start-encode j) (flat-encode (total (take j cs) + k) ∙ at-flat cs j k b)
 
   -- a class of the struct is the class
-  pub class-encode : (j : ℕ) → classIn (encode l cs) j ≡ class_at cs j
-  unfolding classIn
+  pub class-encode : (j : ℕ) → class_in (encode l cs) j ≡ class_at cs j
+  unfolding class_in
   class-encode j = λ i. record { members = same i; constant = like i }
     where
       same : table (λ k. get_or (encode l cs).members (sum_to (encode l cs).sizes j + k) 0) (get_or (encode l cs).sizes j 0) ≡ (class_at cs j).members
       same = rw (size-encode j) (sym (table_is (λ k. get_or (encode l cs).members (sum_to (encode l cs).sizes j + k) 0) (length (class_at cs j).members) (class_at cs j).members 0 refl (λ k b. sym (member-encode j k b))))
 
-      like : constantFrom (get_or (encode l cs).flavours j 0) (get_or (encode l cs).values j 0) ≡ (class_at cs j).constant
+      like : constant_from (get_or (encode l cs).flavours j 0) (get_or (encode l cs).values j 0) ≡ (class_at cs j).constant
       like = rw (flavour-encode j, value-encode j) (constant-from (class_at cs j).constant)
 
   -- nothing is lost
   pub decode-encode : decode (encode l cs) ≡ cs
   unfolding decode encode
-  decode-encode = sym (table_is (λ j. classIn (encode l cs) j) (length cs) cs nothing refl (λ j b. sym (class-encode j)))
+  decode-encode = sym (table_is (λ j. class_in (encode l cs) j) (length cs) cs nothing refl (λ j b. sym (class-encode j)))
 
   -- few classes with few members are a group
   pub coded-encode : length cs ≤ 64 → total cs ≤ 256 → Coded (encode l cs)
@@ -176,7 +176,7 @@ module _ (l : ℕ) (cs : List Class) (h : Group) (p : h ≡ encode l cs) where
 -- the classes are as many as the struct says
 pub length-decode : (g : Group) → length (decode g) ≡ g.count
 unfolding decode
-length-decode g = length-table (λ j. classIn g j) g.count
+length-decode g = length-table (λ j. class_in g j) g.count
 
 -- what stands in the struct of a group
 module _ (g : Group) (v : Coded g) where
@@ -188,11 +188,11 @@ module _ (g : Group) (v : Coded g) where
   unfolding encode
   sizes-is = sym (ap (λ (h : Group). h.sizes) v.coded)
 
-  pub flavours-is : g.flavours ≡ padded 64 (map flavourIn (decode g))
+  pub flavours-is : g.flavours ≡ padded 64 (map flavour_in (decode g))
   unfolding encode
   flavours-is = sym (ap (λ (h : Group). h.flavours) v.coded)
 
-  pub values-is : g.values ≡ padded 64 (map valueIn (decode g))
+  pub values-is : g.values ≡ padded 64 (map value_in (decode g))
   unfolding encode
   values-is = sym (ap (λ (h : Group). h.values) v.coded)
 
@@ -204,7 +204,7 @@ module _ (g : Group) (v : Coded g) where
   pub size_is : (j : ℕ) → get_or g.sizes j 0 ≡ length (class_at (decode g) j).members
   size_is j = sym (ap (λ (h : Group). get_or h.sizes j 0) v.coded) ∙ size-encode g.limit (decode g) j
 
-  pub flavour-is : (j : ℕ) → get_or g.flavours j 0 ≡ flavourOf (class_at (decode g) j).constant
+  pub flavour-is : (j : ℕ) → get_or g.flavours j 0 ≡ flavour_of (class_at (decode g) j).constant
   flavour-is j = sym (ap (λ (h : Group). get_or h.flavours j 0) v.coded) ∙ flavour-encode g.limit (decode g) j
 
   pub value-is : (j : ℕ) → get_or g.values j 0 ≡ value_of (class_at (decode g) j).constant
@@ -221,11 +221,11 @@ module _ (g : Group) (v : Coded g) where
   class-inside j = omega (arith, class-ends j, v.small)
 
   -- the class that stands in the struct
-  pub class-is : (j : ℕ) → classIn g j ≡ class_at (decode g) j
-  class-is j = sym (ap (λ (h : Group). classIn h j) v.coded) ∙ class-encode g.limit (decode g) j
+  pub class-is : (j : ℕ) → class_in g j ≡ class_at (decode g) j
+  class-is j = sym (ap (λ (h : Group). class_in h j) v.coded) ∙ class-encode g.limit (decode g) j
 
   pub members-part : (j : ℕ) → table (λ k. get_or g.members (sum_to g.sizes j + k) 0) (get_or g.sizes j 0) ≡ (class_at (decode g) j).members
-  unfolding classIn
+  unfolding class_in
   members-part j = ap (λ (c : Class). c.members) (class-is j)
 
   pub length-members : length g.members ≡ 256

@@ -6,11 +6,11 @@ use native.Mathlib.Decide.{dec_lt}
 use native.Mathlib.Omega.{arith}
 use lib.ListN.{length, get_or, take}
 use lib.Seq.{take-length, ext_get_or}
-use Rattle.laws.proofs.Table.{length-table, getD-table}
+use Rattle.laws.proofs.Table.{length-table, get_or-table}
 use Rattle.classes.specs.Class.{Class}
 use Rattle.classes.specs.Group.{class_at, total}
 use Rattle.classes.specs.Good.{flat}
-use Rattle.classes.specs.Layout.{padded, sum_to, classIn, decode}
+use Rattle.classes.specs.Layout.{padded, sum_to, class_in, decode}
 use Rattle.classes.specs.declared.Group.{Group}
 use Rattle.classes.proofs.Places.{nothing}
 use Rattle.classes.proofs.Codec.{at-padded, length-padded, total-take, at-flat}
@@ -62,15 +62,15 @@ flat-is xs cs h k l =
 
 module _ (g : Group) where
   -- a class of a struct
-  pub class-decode : (j : ℕ) → j < g.count → class_at (decode g) j ≡ classIn g j
+  pub class-decode : (j : ℕ) → j < g.count → class_at (decode g) j ≡ class_in g j
   unfolding decode
-  class-decode j l = getD-table (λ (j : ℕ). classIn g j) g.count j nothing l
+  class-decode j l = get_or-table (λ (j : ℕ). class_in g j) g.count j nothing l
 
   -- the members of class j of a struct
-  pub length-class-in : (j : ℕ) → length (classIn g j).members ≡ get_or g.sizes j 0
-  unfolding classIn
-  length-class-in j = length-table (λ (k : ℕ). get_or g.members (sum_to g.sizes j + k) 0) (get_or g.sizes j 0)
+  pub length-class_in : (j : ℕ) → length (class_in g j).members ≡ get_or g.sizes j 0
+  unfolding class_in
+  length-class_in j = length-table (λ (k : ℕ). get_or g.members (sum_to g.sizes j + k) 0) (get_or g.sizes j 0)
 
-  pub member-class-in : (j k : ℕ) → k < get_or g.sizes j 0 → get_or (classIn g j).members k 0 ≡ get_or g.members (sum_to g.sizes j + k) 0
-  unfolding classIn
-  member-class-in j k l = getD-table (λ (k : ℕ). get_or g.members (sum_to g.sizes j + k) 0) (get_or g.sizes j 0) k 0 l
+  pub member-class_in : (j k : ℕ) → k < get_or g.sizes j 0 → get_or (class_in g j).members k 0 ≡ get_or g.members (sum_to g.sizes j + k) 0
+  unfolding class_in
+  member-class_in j k l = get_or-table (λ (k : ℕ). get_or g.members (sum_to g.sizes j + k) 0) (get_or g.sizes j 0) k 0 l

@@ -10,7 +10,7 @@ use borrow.Author.Tests.{eq-eqb, ne_eqb}
 use lib.Dec.{eqb}
 use lib.ListN.{get_or}
 use Rattle.laws.specs.Lists.{table}
-use Rattle.laws.specs.Tests.{firstFrom}
+use Rattle.laws.specs.Tests.{first_from}
 use Rattle.laws.proofs.First.{first-begins}
 use Rattle.classes.specs.Group.{among, class_at, class_of}
 use Rattle.classes.specs.Layout.{sum_to, decode}
@@ -19,9 +19,9 @@ use Rattle.classes.specs.declared.Group.{Group}
 use Rattle.classes.proofs.Places.{among-append}
 use Rattle.classes.proofs.Codec.{length-decode, members-part}
 
-or-true : (b : Bool) → (b || true) ≡ true
-or-true true = refl
-or-true false = refl
+or_true : (b : Bool) → (b || true) ≡ true
+or_true true = refl
+or_true false = refl
 
 module _ (e : ℕ) (f : ℕ → ℕ) where
   -- one member more
@@ -43,7 +43,7 @@ module _ (e : ℕ) (f : ℕ → ℕ) where
   among-hit (suc n) k l q = sym (at (ℕ_discrete k n) (λ l'. sym (among-hit n k l' q)))
     where
       at : Dec (k ≡ n) → (k < n → among e (table f n) ≡ true) → among e (table f (suc n)) ≡ true
-      at (yes s) r = turn n true (eq-eqb (f n) e (rw s at q)) ∙ or-true (among e (table f n))
+      at (yes s) r = turn n true (eq-eqb (f n) e (rw s at q)) ∙ or_true (among e (table f n))
       at (no s) r = turn n (eqb (f n) e) refl ∙ rw (r (omega arith))
 
   -- the end
@@ -56,7 +56,7 @@ Holds g e i = among e (class_at (decode g) i).members
 
 module _ (g : Group) (e : ℕ) where
   -- the search begins at the first class
-  pub class-begins : class_of (decode g) e ≡ firstFrom (Holds g e) (g.count - 0) 0
+  pub class-begins : class_of (decode g) e ≡ first_from (Holds g e) (g.count - 0) 0
   unfolding class_of
   class-begins = rw (length-decode g) (first-begins (Holds g e) g.count)
 

@@ -12,10 +12,10 @@ use lib.Dec.{eqb}
 use lib.ListN.{length, get_or, take, set, length-append, length-set, get_or-append}
 use lib.Seq.{take-length, take-suc, set_out, get_or-set_same, get_or-set_other, get_or-take, get_or-append_seam, length-take-le}
 use Rattle.laws.specs.Tests.{if◌then◌else◌}
-use Rattle.laws.proofs.Booleans.{true-not-false}
+use Rattle.laws.proofs.Booleans.{true_not_false}
 use Rattle.laws.proofs.First.{first_some, first-none, first-only, first-missing}
-use Rattle.classes.specs.Class.{Constant, noConstant, Class, merged}
-use Rattle.classes.specs.Group.{among, class_at, class_of, total, removed, length_removed, mergedAt}
+use Rattle.classes.specs.Class.{Constant, no_constant, Class, merged}
+use Rattle.classes.specs.Group.{among, class_at, class_of, total, removed, length_removed, merged_at}
 use Rattle.classes.specs.Good.{flat, Distinct}
 
 -- a sum over a list
@@ -100,7 +100,7 @@ count-other e x n = rw (ne_eqb x e n)
 -- among them: at least once
 pub among-once : (e : ℕ) (xs : List ℕ) → among e xs ≡ true → 0 < count e xs
 unfolding among count
-among-once e [] h = absurd (true-not-false h refl)
+among-once e [] h = absurd (true_not_false h refl)
 among-once e (x ∷ xs) h = go (eqb x e) h (among-once e xs)
   where
     go : (b : Bool) → (b || among e xs) ≡ true → (among e xs ≡ true → 0 < count e xs) → 0 < (if b then 1 else 0) + count e xs
@@ -114,7 +114,7 @@ among-never e [] h = refl
 among-never e (x ∷ xs) h = go (eqb x e) h (among-never e xs)
   where
     go : (b : Bool) → (b || among e xs) ≡ false → (among e xs ≡ false → count e xs ≡ 0) → (if b then 1 else 0) + count e xs ≡ 0
-    go true q r = absurd (true-not-false refl q)
+    go true q r = absurd (true_not_false refl q)
     go false q r = let s = r q in omega arith
 
 pub once-among : (e : ℕ) (xs : List ℕ) → 0 < count e xs → among e xs ≡ true
@@ -165,11 +165,11 @@ pub one-among : (e : ℕ) → among e (e ∷ []) ≡ true
 one-among e = once-among e (e ∷ []) (omega (arith, count_same e))
 
 -- an element is among them
-pub getD-among : (xs : List ℕ) (i : ℕ) → i < length xs → among (get_or xs i 0) xs ≡ true
+pub get_or-among : (xs : List ℕ) (i : ℕ) → i < length xs → among (get_or xs i 0) xs ≡ true
 unfolding among
-getD-among [] i h = absurd (omega arith)
-getD-among (x ∷ xs) zero h = rw (eq-eqb x x refl)
-getD-among (x ∷ xs) (suc i) h = go (eqb x (get_or xs i 0)) (getD-among xs i (omega arith))
+get_or-among [] i h = absurd (omega arith)
+get_or-among (x ∷ xs) zero h = rw (eq-eqb x x refl)
+get_or-among (x ∷ xs) (suc i) h = go (eqb x (get_or xs i 0)) (get_or-among xs i (omega arith))
   where
     go : (b : Bool) → among (get_or xs i 0) xs ≡ true → (b || among (get_or xs i 0) xs) ≡ true
     go true r = refl
@@ -178,7 +178,7 @@ getD-among (x ∷ xs) (suc i) h = go (eqb x (get_or xs i 0)) (getD-among xs i (o
 -- and what is among them has a place
 pub among-place : (e : ℕ) (xs : List ℕ) → among e xs ≡ true → (i : ℕ) × (i < length xs) × (get_or xs i 0 ≡ e)
 unfolding among
-among-place e [] h = absurd (true-not-false h refl)
+among-place e [] h = absurd (true_not_false h refl)
 among-place e (x ∷ xs) h = go (eqb x e) refl h (among-place e xs)
   where
     go : (b : Bool) → eqb x e ≡ b → (b || among e xs) ≡ true → (among e xs ≡ true → (i : ℕ) × (i < length xs) × (get_or xs i 0 ≡ e))
@@ -201,16 +201,16 @@ distinct-count (x ∷ xs) d e = go (eqb x e) refl (distinct-count xs (record { a
     go false q r = omega arith
 
 -- where two places have one number, it stands there twice
-count-twice : (xs : List ℕ) (i j : ℕ) → i < j → j < length xs → get_or xs i 0 ≡ get_or xs j 0 → 1 < count (get_or xs j 0) xs
+count_twice : (xs : List ℕ) (i j : ℕ) → i < j → j < length xs → get_or xs i 0 ≡ get_or xs j 0 → 1 < count (get_or xs j 0) xs
 unfolding count
-count-twice [] i j a b q = absurd (omega arith)
-count-twice (x ∷ xs) i zero a b q = absurd (omega arith)
-count-twice (x ∷ xs) zero (suc j) a b q =
-    rw (eq-eqb x (get_or xs j 0) q) (omega (arith, among-once (get_or xs j 0) xs (getD-among xs j (omega arith))))
-count-twice (x ∷ xs) (suc i) (suc j) a b q = let r = count-twice xs i j (omega arith) (omega arith) q in omega arith
+count_twice [] i j a b q = absurd (omega arith)
+count_twice (x ∷ xs) i zero a b q = absurd (omega arith)
+count_twice (x ∷ xs) zero (suc j) a b q =
+    rw (eq-eqb x (get_or xs j 0) q) (omega (arith, among-once (get_or xs j 0) xs (get_or-among xs j (omega arith))))
+count_twice (x ∷ xs) (suc i) (suc j) a b q = let r = count_twice xs i j (omega arith) (omega arith) q in omega arith
 
 pub count-distinct : (xs : List ℕ) → ((e : ℕ) → count e xs ≤ 1) → Distinct xs
-count-distinct xs h = record { apart = λ i j a b q. omega (arith, count-twice xs i j a b q, h (get_or xs j 0)) }
+count-distinct xs h = record { apart = λ i j a b q. omega (arith, count_twice xs i j a b q, h (get_or xs j 0)) }
 
 -- a sum of nothing but zeros
 sum-zero : {A : Type 0} (f : A → ℕ) (l : List A) (d : A) → ((i : ℕ) → i < length l → f (get_or l i d) ≡ 0) → sum f l ≡ 0
@@ -228,7 +228,7 @@ Once cs = (e : ℕ) → counts e cs ≤ 1
 
 -- the empty class, which stands past the end
 abbrev pub nothing : Class
-nothing = record { members = []; constant = noConstant }
+nothing = record { members = []; constant = no_constant }
 
 -- among all members, one class after the other
 pub count-flat : (e : ℕ) (cs : List Class) → count e (flat cs) ≡ counts e cs
@@ -267,8 +267,8 @@ class-once cs e i l h =
     omega arith
 
 -- a member of two classes is a member twice
-class-twice : (cs : List Class) (e i j : ℕ) → i < j → j < length cs → among e (class_at cs i).members ≡ true → among e (class_at cs j).members ≡ true → 1 < counts e cs
-class-twice cs e i j a l h g =
+class_twice : (cs : List Class) (e i j : ℕ) → i < j → j < length cs → among e (class_at cs i).members ≡ true → among e (class_at cs j).members ≡ true → 1 < counts e cs
+class_twice cs e i j a l h g =
     let b = sum-two (λ (c : Class). count e c.members) cs i j nothing a l in
     omega (arith, among-once e (class_at cs i).members h, among-once e (class_at cs j).members g)
 
@@ -278,39 +278,39 @@ one_class cs o e i j a b h g = go (ℕ_discrete j i) (dec_lt i j)
   where
     go : Dec (j ≡ i) → Dec (i < j) → j ≡ i
     go (yes q) d = q
-    go (no q) (yes l) = absurd (omega (arith, class-twice cs e i j l b h g, o e))
-    go (no q) (no l) = absurd (omega (arith, class-twice cs e j i (omega arith) a g h, o e))
+    go (no q) (yes l) = absurd (omega (arith, class_twice cs e i j l b h g, o e))
+    go (no q) (no l) = absurd (omega (arith, class_twice cs e j i (omega arith) a g h, o e))
 
 -- what the class of an expression is
-pub classOf-some : (cs : List Class) (e i : ℕ) → class_of cs e ≡ some i → (i < length cs) × (among e (class_at cs i).members ≡ true)
+pub class_of-some : (cs : List Class) (e i : ℕ) → class_of cs e ≡ some i → (i < length cs) × (among e (class_at cs i).members ≡ true)
 unfolding class_of
-classOf-some cs e i q = let f = first_some (λ (j : ℕ). among e (class_at cs j).members) (length cs) i q in (f.below, f.passes)
+class_of-some cs e i q = let f = first_some (λ (j : ℕ). among e (class_at cs j).members) (length cs) i q in (f.below, f.passes)
 
-pub classOf-none : (cs : List Class) (e : ℕ) → class_of cs e ≡ none → counts e cs ≡ 0
+pub class_of-none : (cs : List Class) (e : ℕ) → class_of cs e ≡ none → counts e cs ≡ 0
 unfolding class_of
-classOf-none cs e q =
+class_of-none cs e q =
     sum-zero (λ (c : Class). count e c.members) cs nothing
     (λ i l. among-never e (class_at cs i).members (first-none (λ (j : ℕ). among e (class_at cs j).members) (length cs) q i l))
 
-pub classOf-missing : (cs : List Class) (e : ℕ) → counts e cs ≡ 0 → class_of cs e ≡ none
+pub class_of-missing : (cs : List Class) (e : ℕ) → counts e cs ≡ 0 → class_of cs e ≡ none
 unfolding class_of
-classOf-missing cs e q =
+class_of-missing cs e q =
     first-missing (λ (j : ℕ). among e (class_at cs j).members) (length cs)
     (λ i l. never-among e (class_at cs i).members (omega (arith, sum-at (λ (c : Class). count e c.members) cs i nothing l)))
 
-pub classOf-one : (cs : List Class) → Once cs → (e i : ℕ) → i < length cs → among e (class_at cs i).members ≡ true → class_of cs e ≡ some i
+pub class_of-one : (cs : List Class) → Once cs → (e i : ℕ) → i < length cs → among e (class_at cs i).members ≡ true → class_of cs e ≡ some i
 unfolding class_of
-classOf-one cs o e i l h = first-only (λ (j : ℕ). among e (class_at cs j).members) (length cs) i l h (λ j b g. one_class cs o e i j l b h g)
+class_of-one cs o e i l h = first-only (λ (j : ℕ). among e (class_at cs j).members) (length cs) i l h (λ j b g. one_class cs o e i j l b h g)
 
 -- the same in the words of Good: the class of an expression is unique
-pub classOf-only : (cs : List Class) → Distinct (flat cs) → (e i : ℕ) → i < length cs → among e (class_at cs i).members ≡ true → class_of cs e ≡ some i
-classOf-only cs d e i l h = classOf-one cs (distinct-once cs d) e i l h
+pub class_of-only : (cs : List Class) → Distinct (flat cs) → (e i : ℕ) → i < length cs → among e (class_at cs i).members ≡ true → class_of cs e ≡ some i
+class_of-only cs d e i l h = class_of-one cs (distinct-once cs d) e i l h
 
-pub classOf-none-flat : (cs : List Class) (e : ℕ) → class_of cs e ≡ none → among e (flat cs) ≡ false
-classOf-none-flat cs e q = never-among e (flat cs) (count-flat e cs ∙ classOf-none cs e q)
+pub class_of-none-flat : (cs : List Class) (e : ℕ) → class_of cs e ≡ none → among e (flat cs) ≡ false
+class_of-none-flat cs e q = never-among e (flat cs) (count-flat e cs ∙ class_of-none cs e q)
 
-pub flat-classOf-none : (cs : List Class) (e : ℕ) → among e (flat cs) ≡ false → class_of cs e ≡ none
-flat-classOf-none cs e q = classOf-missing cs e (sym (count-flat e cs) ∙ among-never e (flat cs) q)
+pub flat-class_of-none : (cs : List Class) (e : ℕ) → among e (flat cs) ≡ false → class_of cs e ≡ none
+flat-class_of-none cs e q = class_of-missing cs e (sym (count-flat e cs) ∙ among-never e (flat cs) q)
 
 -- a class has it: it is among all members
 pub class-flat : (cs : List Class) (e i : ℕ) → i < length cs → among e (class_at cs i).members ≡ true → among e (flat cs) ≡ true
@@ -321,8 +321,8 @@ pub flat-class : (cs : List Class) (e : ℕ) → among e (flat cs) ≡ true → 
 flat-class cs e h = go (class_of cs e) refl
   where
     go : (o : Option ℕ) → class_of cs e ≡ o → (i : ℕ) × (i < length cs) × (among e (class_at cs i).members ≡ true)
-    go none q = absurd (true-not-false h (classOf-none-flat cs e q))
-    go (some i) q = let f = classOf-some cs e i q in (i, f.0, f.1)
+    go none q = absurd (true_not_false h (class_of-none-flat cs e q))
+    go (some i) q = let f = class_of-some cs e i q in (i, f.0, f.1)
 
 -- a class removed
 pub removed-gap : (cs : List Class) (i : ℕ) → i < length cs - 1 → class_at (removed cs i) i ≡ class_at cs (length cs - 1)
@@ -363,31 +363,31 @@ total-same (c ∷ cs) zero k = refl
 total-same (c ∷ cs) (suc i) k = omega (arith, total-same cs i k)
 
 -- a class merged in
-pub length-mergedAt : (cs : List Class) (i : ℕ) (d : Class) → length (mergedAt cs i d) ≡ length cs
-unfolding mergedAt
-length-mergedAt cs i d = length-set cs i (merged (class_at cs i) d)
+pub length-merged_at : (cs : List Class) (i : ℕ) (d : Class) → length (merged_at cs i d) ≡ length cs
+unfolding merged_at
+length-merged_at cs i d = length-set cs i (merged (class_at cs i) d)
 
-pub mergedAt-same : (cs : List Class) (i : ℕ) (d : Class) → i < length cs → class_at (mergedAt cs i d) i ≡ merged (class_at cs i) d
-unfolding mergedAt
-mergedAt-same cs i d l = get_or-set_same cs i (merged (class_at cs i) d) nothing l
+pub merged_at-same : (cs : List Class) (i : ℕ) (d : Class) → i < length cs → class_at (merged_at cs i d) i ≡ merged (class_at cs i) d
+unfolding merged_at
+merged_at-same cs i d l = get_or-set_same cs i (merged (class_at cs i) d) nothing l
 
-pub mergedAt-other : (cs : List Class) (i j : ℕ) (d : Class) → (j ≡ i → ⊥) → class_at (mergedAt cs i d) j ≡ class_at cs j
-unfolding mergedAt
-mergedAt-other cs i j d n = get_or-set_other cs i j (merged (class_at cs i) d) nothing n
+pub merged_at-other : (cs : List Class) (i j : ℕ) (d : Class) → (j ≡ i → ⊥) → class_at (merged_at cs i d) j ≡ class_at cs j
+unfolding merged_at
+merged_at-other cs i j d n = get_or-set_other cs i j (merged (class_at cs i) d) nothing n
 
-pub counts-mergedAt : (e : ℕ) (cs : List Class) (i : ℕ) (d : Class) → i < length cs → counts e (mergedAt cs i d) ≡ counts e cs + count e d.members
-unfolding mergedAt merged
-counts-mergedAt e cs i d l =
+pub counts-merged_at : (e : ℕ) (cs : List Class) (i : ℕ) (d : Class) → i < length cs → counts e (merged_at cs i d) ≡ counts e cs + count e d.members
+unfolding merged_at merged
+counts-merged_at e cs i d l =
     let s = counts-set e cs i (merged (class_at cs i) d) l in
     let a = count-append e (class_at cs i).members d.members in
     omega arith
 
-pub total-mergedAt : (cs : List Class) (i : ℕ) (d : Class) → i < length cs → total (mergedAt cs i d) ≡ total cs + length d.members
-unfolding mergedAt merged
-total-mergedAt cs i d l =
+pub total-merged_at : (cs : List Class) (i : ℕ) (d : Class) → i < length cs → total (merged_at cs i d) ≡ total cs + length d.members
+unfolding merged_at merged
+total-merged_at cs i d l =
     let s = sum-set (λ (c : Class). length c.members) cs i (merged (class_at cs i) d) nothing l in
     let a = length-append (class_at cs i).members d.members in
-    omega (arith, total-sum (mergedAt cs i d), total-sum cs)
+    omega (arith, total-sum (merged_at cs i d), total-sum cs)
 
 -- a class at the end
 pub counts-more : (e : ℕ) (cs : List Class) (c : Class) → counts e (cs ++ (c ∷ [])) ≡ counts e cs + count e c.members
@@ -426,9 +426,9 @@ all-removed P cs i h j l = go (ℕ_discrete j i)
         let b : j < length cs - 1 = omega (arith, length_removed cs i) in
         subst P (sym (removed-other cs i j b q)) (h j (omega arith))
 
-pub all-mergedAt : (P : Class → Type 0) (cs : List Class) (i : ℕ) (d : Class) → All P cs → (i < length cs → P (merged (class_at cs i) d)) → All P (mergedAt cs i d)
-unfolding mergedAt
-all-mergedAt P cs i d h p = all_set P cs i (merged (class_at cs i) d) h p
+pub all-merged_at : (P : Class → Type 0) (cs : List Class) (i : ℕ) (d : Class) → All P cs → (i < length cs → P (merged (class_at cs i) d)) → All P (merged_at cs i d)
+unfolding merged_at
+all-merged_at P cs i d h p = all_set P cs i (merged (class_at cs i) d) h p
 
 -- the classes with one more at the end
 pub more-old : (cs : List Class) (c : Class) (i : ℕ) → i < length cs → class_at (cs ++ (c ∷ [])) i ≡ class_at cs i

@@ -8,21 +8,21 @@ use native.Mathlib.Omega.{arith}
 use lib.ListN.{length, get_or, take, drop, set, length-append, length-set, length-map}
 use lib.Seq.{take-suc, take_all, length-take-le, map-set_same, get_or_at, set_at, paste}
 use Rattle.classes.specs.Class.{Constant, Class, taken, merged}
-use Rattle.classes.specs.Group.{class_at, total, removed, mergedAt, constantAt}
+use Rattle.classes.specs.Group.{class_at, total, removed, merged_at, constant_at}
 use Rattle.classes.specs.Good.{flat}
-use Rattle.classes.specs.Layout.{constantFrom, padded, encode, sum_to, decode}
+use Rattle.classes.specs.Layout.{constant_from, padded, encode, sum_to, decode}
 use Rattle.classes.specs.Inner.{Coded, Room, mark_of}
 use Rattle.classes.specs.declared.Group.{Group}
 use Rattle.classes.specs.declared.Mark.{Mark}
-use Rattle.classes.proofs.Codec.{size_of, flavourIn, valueIn, set-padded, snoc-padded, paste-padded, map-append, map-set, flat_append, total-take, total-front, built-count, built-used, built-limit, built-classes, built-coded, length-decode, used-is, sizes-is, flavours-is, values-is, members-is, size_is, flavour-is, value-is, class-ends, class-inside, members-cut}
+use Rattle.classes.proofs.Codec.{size_of, flavour_in, value_in, set-padded, snoc_padded, paste-padded, map-append, map-set, flat_append, total-take, total-front, built-count, built-used, built-limit, built-classes, built-coded, length-decode, used-is, sizes-is, flavours-is, values-is, members-is, size_is, flavour-is, value-is, class-ends, class-inside, members-cut}
 use Rattle.classes.proofs.Marks.{mark-constant}
-use Rattle.classes.proofs.Places.{nothing, length-flat, flat-same, total-same, total-more, total-mergedAt, removed-gap, removed-other}
+use Rattle.classes.proofs.Places.{nothing, length-flat, flat-same, total-same, total-more, total-merged_at, removed-gap, removed-other}
 
 -- a column with one number more
 column-more : (f : Class → ℕ) (cs : List Class) (c : Class) (xs : List ℕ) (n v : ℕ)
     → xs ≡ padded 64 (map f cs) → n ≡ length cs → v ≡ f c → length cs < 64 → set xs n v ≡ padded 64 (map f (cs ++ (c ∷ [])))
 column-more f cs c xs n v p q r l =
-    cc (snoc-padded 64 (map f cs) (f c) (omega (arith, length-map cs f)), length-map cs f, map-append f cs (c ∷ []))
+    cc (snoc_padded 64 (map f cs) (f c) (omega (arith, length-map cs f)), length-map cs f, map-append f cs (c ∷ []))
 
 -- a column with a number changed
 pub column-set : (f : Class → ℕ) (cs : List Class) (i : ℕ) (c : Class) (xs : List ℕ) (v : ℕ)
@@ -62,18 +62,18 @@ module _ (out src : Group) (j : ℕ) (r : Room out src j) where
   came = class_at (decode src) j
 
   came-size : get_or src.sizes j 0 ≡ length came.members
-  came-size = size_is src r.src-coded j
+  came-size = size_is src r.src_coded j
 
   -- the members with its members
   members-came : (start : ℕ) (ms : List ℕ) → start ≡ sum_to src.sizes j
       → ms ≡ paste out.members out.used (drop start src.members) (get_or src.sizes j 0) → ms ≡ padded 256 (flat (decode out) ++ came.members)
   members-came start ms p q =
       q ∙ members-more (decode out) came.members out.members (drop start src.members) out.used (get_or src.sizes j 0)
-      (members-is out r.out-coded) (sym (used-is out r.out-coded)) came-size (rw p (members-cut src r.src-coded j))
+      (members-is out r.out-coded) (sym (used-is out r.out-coded)) came-size (rw p (members-cut src r.src_coded j))
 
   -- both copies are within the tables
   pub copy-inside : (start : ℕ) → start ≡ sum_to src.sizes j → (out.used + get_or src.sizes j 0 ≤ 256) × (start + get_or src.sizes j 0 ≤ 256)
-  copy-inside start p = (r.members, omega (arith, p, class-inside src r.src-coded j))
+  copy-inside start p = (r.members, omega (arith, p, class-inside src r.src_coded j))
 
   -- no class grows past them
   pub grown-fits : (i : ℕ) → get_or out.sizes i 0 + get_or src.sizes j 0 ≤ 256
@@ -99,8 +99,8 @@ module _ (out src : Group) (j : ℕ) (r : Room out src j) where
         count = counted i;
         used = held i;
         sizes = column-more size_of cs came out.sizes out.count (get_or src.sizes j 0) (sizes-is out v) n came-size few i;
-        flavours = column-more flavourIn cs came out.flavours out.count (get_or src.flavours j 0) (flavours-is out v) n (flavour-is src r.src-coded j) few i;
-        values = column-more valueIn cs came out.values out.count (get_or src.values j 0) (values-is out v) n (value-is src r.src-coded j) few i;
+        flavours = column-more flavour_in cs came out.flavours out.count (get_or src.flavours j 0) (flavours-is out v) n (flavour-is src r.src_coded j) few i;
+        values = column-more value_in cs came out.values out.count (get_or src.values j 0) (values-is out v) n (value-is src r.src_coded j) few i;
         members = (members-came start ms p q ∙ ap (padded 256) (sym (flat-more cs came))) i;
       }
     where
@@ -123,10 +123,10 @@ module _ (out src : Group) (j : ℕ) (r : Room out src j) where
       held = omega (arith, total-more (decode out) came, came-size, used-is out v)
 
   -- a group with a class merged into its last
-  pub merge-made : (start : ℕ) (ms : List ℕ) (m a b : Mark) → 0 < out.count → start ≡ sum_to src.sizes j
+  pub merge_made : (start : ℕ) (ms : List ℕ) (m a b : Mark) → 0 < out.count → start ≡ sum_to src.sizes j
       → ms ≡ paste out.members out.used (drop start src.members) (get_or src.sizes j 0)
       → a ≡ mark_of (class_at (decode out) (out.count - 1)).constant → b ≡ mark_of came.constant
-      → m ≡ mark_of (taken (constantFrom a.flavour a.value) (constantFrom b.flavour b.value))
+      → m ≡ mark_of (taken (constant_from a.flavour a.value) (constant_from b.flavour b.value))
       → ◌≡◌ {A = Group}
       (record {
         limit = out.limit;
@@ -137,16 +137,16 @@ module _ (out src : Group) (j : ℕ) (r : Room out src j) where
         values = set out.values (out.count - 1) m.value;
         members = ms;
       })
-      (encode out.limit (mergedAt (decode out) (out.count - 1) came))
-  unfolding encode mergedAt merged
-  merge-made start ms m a b l p q s t w = λ i.
+      (encode out.limit (merged_at (decode out) (out.count - 1) came))
+  unfolding encode merged_at merged
+  merge_made start ms m a b l p q s t w = λ i.
       record {
         limit = out.limit;
         count = counted i;
         used = held i;
         sizes = column-set size_of cs at c out.sizes (get_or out.sizes at 0 + get_or src.sizes j 0) (sizes-is out v) grown inside i;
-        flavours = column-set flavourIn cs at c out.flavours m.flavour (flavours-is out v) (ap (λ (x : Mark). x.flavour) over) inside i;
-        values = column-set valueIn cs at c out.values m.value (values-is out v) (ap (λ (x : Mark). x.value) over) inside i;
+        flavours = column-set flavour_in cs at c out.flavours m.flavour (flavours-is out v) (ap (λ (x : Mark). x.flavour) over) inside i;
+        values = column-set value_in cs at c out.values m.value (values-is out v) (ap (λ (x : Mark). x.value) over) inside i;
         members = (members-came start ms p q ∙ ap (padded 256) (sym (flat-last cs at came last))) i;
       }
     where
@@ -172,7 +172,7 @@ module _ (out src : Group) (j : ℕ) (r : Room out src j) where
       counted = omega (arith, length-decode out, length-set (decode out) (out.count - 1) (merged (class_at (decode out) (out.count - 1)) came))
 
       held : out.used + get_or src.sizes j 0 ≡ total (set (decode out) (out.count - 1) (merged (class_at (decode out) (out.count - 1)) came))
-      held = omega (arith, total-mergedAt (decode out) (out.count - 1) came inside, came-size, used-is out v)
+      held = omega (arith, total-merged_at (decode out) (out.count - 1) came inside, came-size, used-is out v)
 
       grown : get_or out.sizes (out.count - 1) 0 + get_or src.sizes j 0 ≡ length ((class_at (decode out) (out.count - 1)).members ++ came.members)
       grown = omega (arith, size_is out v (out.count - 1), came-size, length-append (class_at (decode out) (out.count - 1)).members came.members)
@@ -191,7 +191,7 @@ module _ (g : Group) (v : Coded g) (i : ℕ) (k : Constant) where
   pub used-put : g.used ≡ total (set (decode g) i (record { members = (class_at (decode g) i).members; constant = k }))
   used-put = sym (used-is g v) ∙ sym (total-same (decode g) i k)
 
-  pub constant-put : (fs vs : List ℕ) → fs ≡ padded 64 (map flavourIn put) → vs ≡ padded 64 (map valueIn put)
+  pub constant-put : (fs vs : List ℕ) → fs ≡ padded 64 (map flavour_in put) → vs ≡ padded 64 (map value_in put)
       → ◌≡◌ {A = Group}
       (record { limit = g.limit; count = g.count; used = g.used; sizes = g.sizes; flavours = fs; values = vs; members = g.members })
       (encode g.limit (set (decode g) i (record { members = (class_at (decode g) i).members; constant = k })))
@@ -209,7 +209,7 @@ module _ (g : Group) (v : Coded g) (i : ℕ) (k : Constant) where
 
 -- a group with a constant over that of a class
 pub constant-made : (g : Group) (i : ℕ) (d : Constant) (m a : Mark) → Coded g → i < g.count
-    → a ≡ mark_of (class_at (decode g) i).constant → m ≡ mark_of (taken (constantFrom a.flavour a.value) d)
+    → a ≡ mark_of (class_at (decode g) i).constant → m ≡ mark_of (taken (constant_from a.flavour a.value) d)
     → ◌≡◌ {A = Group}
     (record {
       limit = g.limit;
@@ -220,12 +220,12 @@ pub constant-made : (g : Group) (i : ℕ) (d : Constant) (m a : Mark) → Coded 
       values = set g.values i m.value;
       members = g.members;
     })
-    (encode g.limit (constantAt (decode g) i d))
-unfolding constantAt
+    (encode g.limit (constant_at (decode g) i d))
+unfolding constant_at
 constant-made g i d m a v l s w =
     constant-put g v i k (set g.flavours i m.flavour) (set g.values i m.value)
-    (column-set flavourIn (decode g) i c g.flavours m.flavour (flavours-is g v) (ap (λ (x : Mark). x.flavour) over) inside)
-    (column-set valueIn (decode g) i c g.values m.value (values-is g v) (ap (λ (x : Mark). x.value) over) inside)
+    (column-set flavour_in (decode g) i c g.flavours m.flavour (flavours-is g v) (ap (λ (x : Mark). x.flavour) over) inside)
+    (column-set value_in (decode g) i c g.values m.value (values-is g v) (ap (λ (x : Mark). x.value) over) inside)
   where
     k : Constant
     k = taken (class_at (decode g) i).constant d
@@ -243,30 +243,30 @@ constant-made g i d m a v l s w =
 module _ (l : ℕ) (rs : List Class) (few : length rs ≤ 64) (small : total rs ≤ 256) where
   module _ (k : ℕ) (inside : k < length rs) (out : Group) (is : out ≡ encode l (take k rs)) where
     -- a group with the first k classes
-    rebuilt-count : out.count ≡ k
-    rebuilt-count = built-count l (take k rs) out is ∙ length-take-le k rs (omega arith)
+    rebuilt_count : out.count ≡ k
+    rebuilt_count = built-count l (take k rs) out is ∙ length-take-le k rs (omega arith)
 
-    rebuilt-used : out.used ≡ total (take k rs)
-    rebuilt-used = built-used l (take k rs) out is
+    rebuilt_used : out.used ≡ total (take k rs)
+    rebuilt_used = built-used l (take k rs) out is
 
-    pub rebuilt-coded : Coded out
-    rebuilt-coded = built-coded l (take k rs) out is (omega (arith, length-take-le k rs (omega arith))) (omega (arith, total-front rs k))
+    pub rebuilt_coded : Coded out
+    rebuilt_coded = built-coded l (take k rs) out is (omega (arith, length-take-le k rs (omega arith))) (omega (arith, total-front rs k))
 
-    pub rebuilt-few : out.count < 64
-    rebuilt-few = omega (arith, rebuilt-count)
+    pub rebuilt_few : out.count < 64
+    rebuilt_few = omega (arith, rebuilt_count)
 
     -- the next class has room
-    pub rebuilt-room : out.used + length (class_at rs k).members ≤ 256
-    rebuilt-room = omega (arith, rebuilt-used, total-take rs k, total-front rs (suc k))
+    pub rebuilt_room : out.used + length (class_at rs k).members ≤ 256
+    rebuilt_room = omega (arith, rebuilt_used, total-take rs k, total-front rs (suc k))
 
     -- and with it the group has the first k + 1
-    pub rebuilt-next : (next : Group) (c : Class) → c ≡ class_at rs k → next ≡ encode out.limit (decode out ++ (c ∷ [])) → next ≡ encode l (take (k + 1) rs)
-    rebuilt-next next c e f =
+    pub rebuilt_next : (next : Group) (c : Class) → c ≡ class_at rs k → next ≡ encode out.limit (decode out ++ (c ∷ [])) → next ≡ encode l (take (k + 1) rs)
+    rebuilt_next next c e f =
         f ∙ rw (built-classes l (take k rs) out is, built-limit l (take k rs) out is, e, add-one, take-suc rs k nothing inside)
 
   -- after the last
-  pub rebuilt-all : (n k : ℕ) (out : Group) → n ≡ length rs → k ≤ n → n ≤ k → out ≡ encode l (take k rs) → out ≡ encode l rs
-  rebuilt-all n k out e a b is = is ∙ ap (encode l) (take_all k rs (omega arith))
+  pub rebuilt_all : (n k : ℕ) (out : Group) → n ≡ length rs → k ≤ n → n ≤ k → out ≡ encode l (take k rs) → out ≡ encode l rs
+  rebuilt_all n k out e a b is = is ∙ ap (encode l) (take_all k rs (omega arith))
 
 -- a group without a class: the class at k, by the place that it comes from
 pub class-removed : (cs : List Class) (i k m : ℕ) → k < length cs - 1 → (k ≡ i → m ≡ length cs - 1) → ((k ≡ i → ⊥) → m ≡ k) → class_at cs m ≡ class_at (removed cs i) k
@@ -277,7 +277,7 @@ class-removed cs i k m b p q = at (ℕ_discrete k i)
     at (no e) = rw (q e) (sym (removed-other cs i k b e))
 
 -- a class merged into the last
-pub merged-last : (cs : List Class) (c d : Class) (n : ℕ) → n ≡ length cs → mergedAt (cs ++ (c ∷ [])) n d ≡ cs ++ (merged c d ∷ [])
-unfolding mergedAt
+pub merged-last : (cs : List Class) (c d : Class) (n : ℕ) → n ≡ length cs → merged_at (cs ++ (c ∷ [])) n d ≡ cs ++ (merged c d ∷ [])
+unfolding merged_at
 merged-last cs c d n e =
     rw (get_or_at cs c [] nothing n (sym e)) (set_at cs c [] (merged c d) n (sym e))

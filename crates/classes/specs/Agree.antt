@@ -2,14 +2,14 @@
 use Rattle.std.specs.Prelude.{ℕ, ◌<◌, true, ◌≡◌, length}
 use mathlib.Core.List.{List}
 use Rattle.arena.specs.Node.{Node}
-use Rattle.arena.specs.Expression.{expressionAt}
+use Rattle.arena.specs.Expression.{expression_at}
 use Rattle.arena.specs.Value.{Meaning, Row, value}
 use Rattle.classes.specs.Class.{Class}
 use Rattle.classes.specs.Group.{among, class_at}
 
 -- two expressions of an arena have one value on a row
 abbrev pub Same : {A : Type 0} → List Node → Meaning A → Row A → ℕ → ℕ → Type 0
-Same ns m row a b = value (expressionAt ns a) m row ≡ value (expressionAt ns b) m row
+Same ns m row a b = value (expression_at ns a) m row ≡ value (expression_at ns b) m row
 
 -- the members of each class have one value on the row
 abbrev pub MembersAgree : {A : Type 0} → List Node → List Class → Meaning A → Row A → Type 0

@@ -23,7 +23,7 @@ place_of none = Nowhere
 -- class j can be put at the end of a group
 pub record Room (out src : Group) (j : ℕ) : Type 0 where
   pub out-coded : Coded out
-  pub src-coded : Coded src
+  pub src_coded : Coded src
   pub there : j < src.count
   pub members : out.used + get_or src.sizes j 0 ≤ 256
 

@@ -3,8 +3,8 @@
 ghost use Rattle.std.specs.Prelude.{◌≡◌, [], ◌∷◌, ◌++◌, ◌≤◌, ◌<◌, ◌+◌, ◌-◌, length, get_or, set, drop};
 ghost use Rattle.std.proofs.Math.Seq.{paste};
 ghost use Rattle.classes.specs.Class.{taken, merged};
-ghost use Rattle.classes.specs.Group.{class_at, mergedAt, removed, constantAt};
-ghost use Rattle.classes.specs.Layout.{encode, decode, sum_to, constantFrom};
+ghost use Rattle.classes.specs.Group.{class_at, merged_at, removed, constant_at};
+ghost use Rattle.classes.specs.Layout.{encode, decode, sum_to, constant_from};
 ghost use Rattle.classes.specs.Inner.{Coded, Room, mark_of};
 
 use crate::{Group, Mark};
@@ -54,7 +54,7 @@ fn copy_members(to: [u32; 256], at: usize, from: [u32; 256], start: usize, n: us
 
 // The constant that a class has once another is merged in: the other's over none or a heterogeneous one.
 pub fn taken_over(old: Mark, new: Mark) -> Mark
-    ensures { result ≡ mark_of (taken (constantFrom old.flavour old.value) (constantFrom new.flavour new.value)) }
+    ensures { result ≡ mark_of (taken (constant_from old.flavour old.value) (constant_from new.flavour new.value)) }
 {
     let had = mark_from(old);
     let given = mark_from(new);
@@ -69,7 +69,7 @@ pub fn taken_over(old: Mark, new: Mark) -> Mark
 
 // The constant that a flavour and a value say: a value stands only where one is known, and any other flavour is none.
 pub fn mark_from(m: Mark) -> Mark
-    ensures { result ≡ mark_of (constantFrom m.flavour m.value) }
+    ensures { result ≡ mark_of (constant_from m.flavour m.value) }
 {
     if m.flavour == 3 {
         return m;
@@ -131,7 +131,7 @@ pub fn add_class(out: Group, src: Group, j: usize) -> Group
 // A group with class j of another merged into its last class.
 pub fn merge_last(out: Group, src: Group, j: usize) -> Group
     requires { Room out src j × (0 < out.count) }
-    ensures { result ≡ encode out.limit (mergedAt (decode out) (out.count - 1) (class_at (decode src) j)) }
+    ensures { result ≡ encode out.limit (merged_at (decode out) (out.count - 1) (class_at (decode src) j)) }
 {
     let size = src.sizes[j];
     let sizes = src.sizes;
@@ -155,7 +155,7 @@ pub fn merge_last(out: Group, src: Group, j: usize) -> Group
 // A group with a constant over that of class i.
 pub fn set_constant(g: Group, i: usize, new: Mark) -> Group
     requires { Coded g × (i < g.count) }
-    ensures { result ≡ encode g.limit (constantAt (decode g) i (constantFrom new.flavour new.value)) }
+    ensures { result ≡ encode g.limit (constant_at (decode g) i (constant_from new.flavour new.value)) }
 {
     let mark = taken_over(mark_of(g, i), new);
     let mut next = g;
@@ -192,8 +192,8 @@ fn moved_place(k: usize, i: usize, last: usize) -> usize
 
 // The next class of a group in which class j of another is merged into class i.
 fn add_merged(out: Group, g: Group, k: usize, i: usize, src: Group, j: usize) -> Group
-    requires { ((Coded out × (out.count < 64)) × (Coded g × (k < g.count))) × ((Coded src × (j < src.count)) × (out.used + length (class_at (mergedAt (decode g) i (class_at (decode src) j)) k).members ≤ 256)) }
-    ensures { result ≡ encode out.limit (decode out ++ (class_at (mergedAt (decode g) i (class_at (decode src) j)) k ∷ [])) }
+    requires { ((Coded out × (out.count < 64)) × (Coded g × (k < g.count))) × ((Coded src × (j < src.count)) × (out.used + length (class_at (merged_at (decode g) i (class_at (decode src) j)) k).members ≤ 256)) }
+    ensures { result ≡ encode out.limit (decode out ++ (class_at (merged_at (decode g) i (class_at (decode src) j)) k ∷ [])) }
 {
     let next = add_class(out, g, k);
     if k == i {
@@ -206,7 +206,7 @@ fn add_merged(out: Group, g: Group, k: usize, i: usize, src: Group, j: usize) ->
 // A group with class j of another merged into its class i.
 pub fn merge_class_at_idx(g: Group, i: usize, src: Group, j: usize) -> Group
     requires { (Coded g × (i < g.count)) × ((Coded src × (j < src.count)) × (g.used + get_or src.sizes j 0 ≤ 256)) }
-    ensures { result ≡ encode g.limit (mergedAt (decode g) i (class_at (decode src) j)) }
+    ensures { result ≡ encode g.limit (merged_at (decode g) i (class_at (decode src) j)) }
 {
     let mut out = empty(g.limit);
     let mut k = 0;

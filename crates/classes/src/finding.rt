@@ -1,7 +1,7 @@
 // The class of an expression.
 ghost use Rattle.std.specs.Prelude.{◌≡◌, ◌≤◌, ◌<◌, ◌+◌, get_or};
 ghost use Rattle.laws.specs.Lists.{table};
-ghost use Rattle.classes.specs.Group.{class_of, among as isAmong};
+ghost use Rattle.classes.specs.Group.{class_of, among as is_among};
 ghost use Rattle.classes.specs.Layout.{decode};
 ghost use Rattle.classes.specs.Inner.{Coded, place_of};
 
@@ -29,7 +29,7 @@ pub fn find_class(g: Group, e: u32) -> Place
 // An expression is among n members from a place on.
 fn among(members: &[u32; 256], start: usize, n: usize, e: u32) -> bool
     requires { start + n ≤ 256 }
-    ensures { result ≡ isAmong e (table (λ k. get_or members.now (start + k) 0) n) }
+    ensures { result ≡ is_among e (table (λ k. get_or members.now (start + k) 0) n) }
 {
     let mut k = 0;
     while k < n {

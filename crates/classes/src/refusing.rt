@@ -1,6 +1,6 @@
 // What a refusal hands back.
 ghost use Rattle.std.specs.Prelude.{false, ◌≡◌};
-ghost use Rattle.classes.specs.Calls.{noGroup};
+ghost use Rattle.classes.specs.Calls.{no_group};
 
 use crate::building::empty;
 use crate::{Changed, Group};
@@ -18,7 +18,7 @@ pub fn refusal(number: u32, group: Group) -> Changed
 
 // No group, beside a refusal of a call that makes one.
 pub fn no_group(number: u32) -> Changed
-    ensures { result ≡ noGroup number }
+    ensures { result ≡ no_group number }
 {
     refusal(number, empty(0))
 }

@@ -1,10 +1,10 @@
 // An expression as a group of one class, on an arena that is checked already.
 ghost use Rattle.std.specs.Prelude.{[], ◌∷◌, ◌≡◌};
-ghost use Rattle.arena.specs.Node.{nodeAt};
+ghost use Rattle.arena.specs.Node.{node_at};
 ghost use Rattle.arena.specs.Layout.{decode as nodes};
 ghost use Rattle.arena.specs.Inner.{Known};
 ghost use Rattle.classes.specs.Class.{carried, single};
-ghost use Rattle.classes.specs.Layout.{encode, constantFrom};
+ghost use Rattle.classes.specs.Layout.{encode, constant_from};
 ghost use Rattle.classes.specs.Inner.{mark_of};
 
 use crate::building::{empty, mark_from};
@@ -16,7 +16,7 @@ use arena::reading::read_in;
 // The constant that an expression carries: a literal its own value.
 pub fn carried_mark(cells: &[u32; 11265], e: u32) -> Mark
     requires { Known cells.now e }
-    ensures { result ≡ mark_of (carried (nodeAt (nodes cells.now) e)) }
+    ensures { result ≡ mark_of (carried (node_at (nodes cells.now) e)) }
 {
     match read_in(cells, wide(e)) {
         Read::Literal(v) => Mark {
@@ -40,7 +40,7 @@ pub fn carried_mark(cells: &[u32; 11265], e: u32) -> Mark
 
 // A group of one class of one member, with a constant.
 pub fn one_class(e: u32, mark: Mark) -> Group
-    ensures { result ≡ encode 256 (record { members = e ∷ []; constant = constantFrom mark.flavour mark.value } ∷ []) }
+    ensures { result ≡ encode 256 (record { members = e ∷ []; constant = constant_from mark.flavour mark.value } ∷ []) }
 {
     let said = mark_from(mark);
     let mut g = empty(256);

@@ -10,37 +10,37 @@ use lib.ListN.{length}
 use Rattle.laws.proofs.Booleans.{and_left, and_right}
 use Rattle.arena.specs.Node.{Node}
 use Rattle.classes.specs.Class.{Class, Constant}
-use Rattle.classes.specs.Group.{equalCondition, withConstant}
+use Rattle.classes.specs.Group.{equal_condition, with_constant}
 use Rattle.classes.specs.Steps.{refused, judged}
-use Rattle.classes.specs.Layout.{constantFrom, knownFlavour}
-use Rattle.classes.specs.Calls.{onGroup}
+use Rattle.classes.specs.Layout.{constant_from, known_flavour}
+use Rattle.classes.specs.Calls.{on_group}
 use Rattle.classes.specs.declared.Group.{Group}
-use Rattle.classes.proofs.Judging.{handedBack}
-use Rattle.conditions.specs.Steps.{addEqual, addConstant}
-use Rattle.conditions.specs.Calls.{sayable, onConstant}
+use Rattle.classes.proofs.Judging.{handed_back}
+use Rattle.conditions.specs.Steps.{add_equal, add_constant}
+use Rattle.conditions.specs.Calls.{sayable, on_constant}
 
 -- an equal condition, by its tests
 module _ (limit : ℕ) (ns : List Node) (cs : List Class) (a b : ℕ) where
-  pub add_left : length ns ≤ a → addEqual limit ns a b cs ≡ refused 1 cs
-  unfolding addEqual
+  pub add_left : length ns ≤ a → add_equal limit ns a b cs ≡ refused 1 cs
+  unfolding add_equal
   add_left l = rw (le-ltb _ _ l)
 
-  pub add_right : length ns ≤ b → addEqual limit ns a b cs ≡ refused 1 cs
-  unfolding addEqual
+  pub add_right : length ns ≤ b → add_equal limit ns a b cs ≡ refused 1 cs
+  unfolding add_equal
   add_right l = rw (le-ltb _ _ l, and-false)
 
-  pub add-both : a < length ns → b < length ns → addEqual limit ns a b cs ≡ judged limit cs (equalCondition ns cs a b)
-  unfolding addEqual
+  pub add-both : a < length ns → b < length ns → add_equal limit ns a b cs ≡ judged limit cs (equal_condition ns cs a b)
+  unfolding add_equal
   add-both l m = rw (lt-ltb _ _ l, lt-ltb _ _ m)
 
 -- a constant, by its test
 module _ (limit : ℕ) (ns : List Node) (cs : List Class) (e : ℕ) (said : Constant) where
-  pub say-unknown : length ns ≤ e → addConstant true limit ns e said cs ≡ refused 1 cs
-  unfolding addConstant
+  pub say-unknown : length ns ≤ e → add_constant true limit ns e said cs ≡ refused 1 cs
+  unfolding add_constant
   say-unknown l = rw (le-ltb _ _ l)
 
-  pub say-known : e < length ns → addConstant true limit ns e said cs ≡ judged limit cs (false, withConstant true ns cs e said)
-  unfolding addConstant
+  pub say-known : e < length ns → add_constant true limit ns e said cs ≡ judged limit cs (false, with_constant true ns cs e said)
+  unfolding add_constant
   say-known l = rw (lt-ltb _ _ l)
 
 -- a flavour that can be said is small
@@ -49,8 +49,8 @@ unfolding sayable
 said-small flavour value s = leb-true flavour 2 (and_left (leb flavour 2) (eqb flavour 2 || eqb value 0) s)
 
 -- a constant that can be said is one of the flavours of a group
-pub said-flavour : (flavour value : ℕ) → sayable flavour value ≡ true → knownFlavour (flavour + 1) value ≡ true
-unfolding sayable knownFlavour
+pub said-flavour : (flavour value : ℕ) → sayable flavour value ≡ true → known_flavour (flavour + 1) value ≡ true
+unfolding sayable known_flavour
 said-flavour flavour value s = go (eqb flavour 2) refl
   where
     small : flavour ≤ 2
@@ -67,10 +67,10 @@ said-flavour flavour value s = go (eqb flavour 2) refl
 
 -- a call with a constant, by whether it can be said
 module _ (cells : List ℕ) (g : Group) (e flavour value : ℕ) where
-  pub constant-said : sayable flavour value ≡ true → onConstant e flavour value cells g ≡ onGroup (λ ns cs. addConstant true g.limit ns e (constantFrom (flavour + 1) value) cs) cells g
-  unfolding onConstant
+  pub constant-said : sayable flavour value ≡ true → on_constant e flavour value cells g ≡ on_group (λ ns cs. add_constant true g.limit ns e (constant_from (flavour + 1) value) cs) cells g
+  unfolding on_constant
   constant-said s = rw s
 
-  pub constant-unsaid : sayable flavour value ≡ false → onConstant e flavour value cells g ≡ handedBack 12 g
-  unfolding onConstant
-  constant-unsaid s = rw s
+  pub constant_unsaid : sayable flavour value ≡ false → on_constant e flavour value cells g ≡ handed_back 12 g
+  unfolding on_constant
+  constant_unsaid s = rw s

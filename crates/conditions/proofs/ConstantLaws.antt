@@ -8,14 +8,14 @@ use native.Mathlib.Omega.{arith}
 use borrow.Author.Tests.{eq-eqb, ne_eqb, le-leb, lt-leb}
 use lib.Dec.{eqb, leb}
 use lib.ListN.{length, set, length-set}
-use Rattle.laws.specs.Tests.{firstFrom}
-use Rattle.laws.proofs.Booleans.{and_both, and-fails-left, and-fails-right}
+use Rattle.laws.specs.Tests.{first_from}
+use Rattle.laws.proofs.Booleans.{and_both, and_fails_left, and_fails_right}
 use Rattle.laws.proofs.First.{first-begins, first_some}
-use Rattle.arena.specs.Node.{Node, nodeAt}
-use Rattle.classes.specs.Class.{Constant, noConstant, heterogeneous, unknown, known, Class, isUniform, taken, carried, sameConstant}
-use Rattle.classes.specs.Group.{class_at, class_of, total, mergedAt, given, constantAt, classLike, constantFor, constantIn, withConstant}
+use Rattle.arena.specs.Node.{Node, node_at}
+use Rattle.classes.specs.Class.{Constant, no_constant, heterogeneous, unknown, known, Class, is_uniform, taken, carried, same_constant}
+use Rattle.classes.specs.Group.{class_at, class_of, total, merged_at, given, constant_at, class_like, constant_for, constant_in, with_constant}
 use Rattle.classes.specs.Steps.{fits, judged}
-use Rattle.classes.specs.Layout.{flavourOf, value_of, constantFrom, knownFlavour, encode, decode}
+use Rattle.classes.specs.Layout.{flavour_of, value_of, constant_from, known_flavour, encode, decode}
 use Rattle.classes.specs.Calls.{changed}
 use Rattle.classes.specs.Inner.{Coded, place_of, mark_of}
 use Rattle.classes.specs.declared.Group.{Group}
@@ -23,77 +23,77 @@ use Rattle.classes.specs.declared.Mark.{Mark}
 use Rattle.classes.specs.declared.Changed.{Changed}
 use Rattle.classes.specs.declared.Place.TheVariants.{At, Nowhere}
 use Rattle.classes.proofs.Marks.{mark-constant, flavour-known, flavour-back, value-back, uniform-high, uniform-low}
-use Rattle.classes.proofs.Places.{total-same, length-mergedAt, total-mergedAt, length_more, total-more}
+use Rattle.classes.proofs.Places.{total-same, length-merged_at, total-merged_at, length_more, total-more}
 use Rattle.classes.proofs.Codec.{length-decode, used-is}
 use Rattle.classes.proofs.ClassPlaces as places
 use Rattle.classes.proofs.OneClass.{alone}
 use Rattle.classes.proofs.Judging as judging
 
 -- a mark that is a constant's is a known one
-pub mark-known : (m : Mark) (c : Constant) → m ≡ mark_of c → knownFlavour m.flavour m.value ≡ true
-mark-known m c p = subst (λ (n : Mark). knownFlavour n.flavour n.value ≡ true) (sym p) (flavour-known c)
+pub mark-known : (m : Mark) (c : Constant) → m ≡ mark_of c → known_flavour m.flavour m.value ≡ true
+mark-known m c p = subst (λ (n : Mark). known_flavour n.flavour n.value ≡ true) (sym p) (flavour-known c)
 
 -- two constants are equal where their flavours and their values are
-same-constants : (c d : Constant) → sameConstant true c d ≡ (eqb (flavourOf c) (flavourOf d) && eqb (value_of c) (value_of d))
-unfolding sameConstant flavourOf value_of
-same-constants noConstant noConstant = refl
-same-constants noConstant heterogeneous = refl
-same-constants noConstant unknown = refl
-same-constants noConstant (known w) = refl
-same-constants heterogeneous noConstant = refl
+same-constants : (c d : Constant) → same_constant true c d ≡ (eqb (flavour_of c) (flavour_of d) && eqb (value_of c) (value_of d))
+unfolding same_constant flavour_of value_of
+same-constants no_constant no_constant = refl
+same-constants no_constant heterogeneous = refl
+same-constants no_constant unknown = refl
+same-constants no_constant (known w) = refl
+same-constants heterogeneous no_constant = refl
 same-constants heterogeneous heterogeneous = refl
 same-constants heterogeneous unknown = refl
 same-constants heterogeneous (known w) = refl
-same-constants unknown noConstant = refl
+same-constants unknown no_constant = refl
 same-constants unknown heterogeneous = refl
 same-constants unknown unknown = refl
 same-constants unknown (known w) = refl
-same-constants (known v) noConstant = refl
+same-constants (known v) no_constant = refl
 same-constants (known v) heterogeneous = refl
 same-constants (known v) unknown = refl
 same-constants (known v) (known w) = refl
 
-module _ (f v g w : ℕ) (k : knownFlavour f v ≡ true) (l : knownFlavour g w ≡ true) where
-  same-marks : sameConstant true (constantFrom f v) (constantFrom g w) ≡ (eqb f g && eqb v w)
-  same-marks =
-      same-constants (constantFrom f v) (constantFrom g w)
+module _ (f v g w : ℕ) (k : known_flavour f v ≡ true) (l : known_flavour g w ≡ true) where
+  same_marks : same_constant true (constant_from f v) (constant_from g w) ≡ (eqb f g && eqb v w)
+  same_marks =
+      same-constants (constant_from f v) (constant_from g w)
       ∙ cc (flavour-back f v k, value-back f v k, flavour-back g w l, value-back g w l)
 
-  pub marks-differ : (f ≡ g → ⊥) → false ≡ sameConstant true (constantFrom f v) (constantFrom g w)
-  marks-differ n = sym (same-marks ∙ and-fails-left (eqb f g) (eqb v w) (ne_eqb f g n))
+  pub marks_differ : (f ≡ g → ⊥) → false ≡ same_constant true (constant_from f v) (constant_from g w)
+  marks_differ n = sym (same_marks ∙ and_fails_left (eqb f g) (eqb v w) (ne_eqb f g n))
 
-  pub marks-meet : f ≡ g → eqb v w ≡ sameConstant true (constantFrom f v) (constantFrom g w)
-  marks-meet e = sym (same-marks ∙ ap (λ (b : Bool). b && eqb v w) (eq-eqb f g e))
+  pub marks_meet : f ≡ g → eqb v w ≡ same_constant true (constant_from f v) (constant_from g w)
+  marks_meet e = sym (same_marks ∙ ap (λ (b : Bool). b && eqb v w) (eq-eqb f g e))
 
 -- class i has an equal constant
 abbrev pub Like : Group → Constant → ℕ → Bool
-Like g c i = sameConstant true (class_at (decode g) i).constant c
+Like g c i = same_constant true (class_at (decode g) i).constant c
 
-module _ (g : Group) (m : Mark) (k : knownFlavour m.flavour m.value ≡ true) where
+module _ (g : Group) (m : Mark) (k : known_flavour m.flavour m.value ≡ true) where
   abbrev said : Constant
-  said = constantFrom m.flavour m.value
+  said = constant_from m.flavour m.value
 
   -- none is looked for where it is not uniform
-  pub like-none : m.flavour < 2 → classLike true (decode g) (constantFrom m.flavour m.value) ≡ none
-  unfolding classLike
+  pub like-none : m.flavour < 2 → class_like true (decode g) (constant_from m.flavour m.value) ≡ none
+  unfolding class_like
   like-none l = rw (uniform-low said (omega (arith, flavour-back m.flavour m.value k)))
 
   -- else the search begins at the first class
-  pub like-begins : 2 ≤ m.flavour → classLike true (decode g) (constantFrom m.flavour m.value) ≡ firstFrom (Like g (constantFrom m.flavour m.value)) (g.count - 0) 0
-  unfolding classLike
+  pub like-begins : 2 ≤ m.flavour → class_like true (decode g) (constant_from m.flavour m.value) ≡ first_from (Like g (constant_from m.flavour m.value)) (g.count - 0) 0
+  unfolding class_like
   like-begins l =
       rw (uniform-high said (omega (arith, flavour-back m.flavour m.value k)), length-decode g) (first-begins (Like g said) g.count)
 
 -- the code's test of class i
-pub like-test : (m : Mark) (c d : Constant) (b : Bool) → m ≡ mark_of d → b ≡ sameConstant true (constantFrom m.flavour m.value) c → sameConstant true d c ≡ b
-like-test m c d b p q = sym (q ∙ ap (λ (x : Constant). sameConstant true x c) (mark-constant m d p))
+pub like-test : (m : Mark) (c d : Constant) (b : Bool) → m ≡ mark_of d → b ≡ same_constant true (constant_from m.flavour m.value) c → same_constant true d c ≡ b
+like-test m c d b p q = sym (q ∙ ap (λ (x : Constant). same_constant true x c) (mark-constant m d p))
 
 -- the class that was found is one
-pub like-below : (g : Group) (c : Constant) (i : ℕ) → classLike true (decode g) c ≡ some i → i < g.count
-unfolding classLike
-like-below g c i e = at (isUniform c) refl
+pub like-below : (g : Group) (c : Constant) (i : ℕ) → class_like true (decode g) c ≡ some i → i < g.count
+unfolding class_like
+like-below g c i e = at (is_uniform c) refl
   where
-    at : (b : Bool) → isUniform c ≡ b → i < g.count
+    at : (b : Bool) → is_uniform c ≡ b → i < g.count
     at true q = omega (arith, (first_some (Like g c) (length (decode g)) i (rw q at e)).below, length-decode g)
     at false q = absurd (let r = rw q at e in let z : ◌≡◌ {A = ℕ} 0 1 = cc in omega arith)
 
@@ -108,11 +108,11 @@ place-nowhere o e = places.place-nowhere o (sym e)
 module _ (limit : ℕ) (cs : List Class) where
   pub fits-full : limit < total cs → fits limit cs ≡ false
   unfolding fits
-  fits-full l = and-fails-left (leb (total cs) limit) (leb (length cs) 64) (lt-leb (total cs) limit l)
+  fits-full l = and_fails_left (leb (total cs) limit) (leb (length cs) 64) (lt-leb (total cs) limit l)
 
   pub fits-many : 64 < length cs → fits limit cs ≡ false
   unfolding fits
-  fits-many l = and-fails-right (leb (total cs) limit) (leb (length cs) 64) (lt-leb (length cs) 64 l)
+  fits-many l = and_fails_right (leb (total cs) limit) (leb (length cs) 64) (lt-leb (length cs) 64 l)
 
   pub fits_both : total cs ≤ limit → length cs ≤ 64 → fits limit cs ≡ true
   unfolding fits
@@ -124,7 +124,7 @@ module _ (g : Group) (v : Coded g) where
   pub refusal_is : (r : Changed) (b : Bool) (cs : List Class) → (r.number ≡ 4) × ((r.answer ≡ false) × (r.group ≡ g)) → fits g.limit cs ≡ false
       → r ≡ changed g.limit (judged g.limit (decode g) (b, cs))
   unfolding judged
-  refusal_is r b cs p f = rw f (judging.refusal_is r 4 g p ∙ sym (judging.handed-back g 4 v))
+  refusal_is r b cs p f = rw f (judging.refusal_is r 4 g p ∙ sym (judging.handed_back_lem g 4 v))
 
   -- where it fits
   pub accepted-is : (b : Bool) (cs : List Class) (h : Group) → fits g.limit cs ≡ true → h ≡ encode g.limit cs
@@ -134,16 +134,16 @@ module _ (g : Group) (v : Coded g) where
 
 -- an expression is pushed to class i
 module _ (g : Group) (v : Coded g) (i : ℕ) (l : i < g.count) (e : ℕ) (c : Constant) where
-  pushed : total (mergedAt (decode g) i (alone e c)) ≡ g.used + 1
-  pushed = omega (arith, total-mergedAt (decode g) i (alone e c) (omega (arith, length-decode g)), used-is g v)
+  pushed : total (merged_at (decode g) i (alone e c)) ≡ g.used + 1
+  pushed = omega (arith, total-merged_at (decode g) i (alone e c) (omega (arith, length-decode g)), used-is g v)
 
-  pub push-full : g.limit ≤ g.used → fits g.limit (mergedAt (decode g) i (alone e c)) ≡ false
-  push-full h = fits-full g.limit (mergedAt (decode g) i (alone e c)) (omega (arith, pushed))
+  pub push-full : g.limit ≤ g.used → fits g.limit (merged_at (decode g) i (alone e c)) ≡ false
+  push-full h = fits-full g.limit (merged_at (decode g) i (alone e c)) (omega (arith, pushed))
 
-  pub push-room : g.used < g.limit → fits g.limit (mergedAt (decode g) i (alone e c)) ≡ true
+  pub push-room : g.used < g.limit → fits g.limit (merged_at (decode g) i (alone e c)) ≡ true
   push-room h =
-      fits_both g.limit (mergedAt (decode g) i (alone e c)) (omega (arith, pushed))
-      (omega (arith, length-mergedAt (decode g) i (alone e c), length-decode g, v.few))
+      fits_both g.limit (merged_at (decode g) i (alone e c)) (omega (arith, pushed))
+      (omega (arith, length-merged_at (decode g) i (alone e c), length-decode g, v.few))
 
 -- a new class at the end
 module _ (g : Group) (v : Coded g) (c : Class) where
@@ -174,8 +174,8 @@ module _ (g : Group) (v : Coded g) (e : ℕ) (c : Constant) where
   open-room a b = more_room g v (alone e c) a (omega arith)
 
 -- a constant over that of class i changes no number
-pub constant-fits : (g : Group) (v : Coded g) (i : ℕ) (c : Constant) → i < g.count → g.used ≤ g.limit → fits g.limit (constantAt (decode g) i c) ≡ true
-unfolding constantAt
+pub constant-fits : (g : Group) (v : Coded g) (i : ℕ) (c : Constant) → i < g.count → g.used ≤ g.limit → fits g.limit (constant_at (decode g) i c) ≡ true
+unfolding constant_at
 constant-fits g v i c l b =
     let d : Class = record { members = (class_at (decode g) i).members; constant = taken (class_at (decode g) i).constant c } in
     fits_both g.limit (set (decode g) i d)
@@ -183,27 +183,27 @@ constant-fits g v i c l b =
     (omega (arith, length-set (decode g) i d, length-decode g, v.few))
 
 -- the constant that a call gives, as a mark
-pub given-mark : (ns : List Node) (e : ℕ) (c : Constant) (m t : Mark) → m ≡ mark_of (carried (nodeAt ns e)) → t ≡ mark_of (taken (constantFrom m.flavour m.value) c)
-    → constantFrom t.flavour t.value ≡ given ns e c
+pub given-mark : (ns : List Node) (e : ℕ) (c : Constant) (m t : Mark) → m ≡ mark_of (carried (node_at ns e)) → t ≡ mark_of (taken (constant_from m.flavour m.value) c)
+    → constant_from t.flavour t.value ≡ given ns e c
 unfolding given
 given-mark ns e c m t p q =
-    mark-constant t (taken (constantFrom m.flavour m.value) c) q ∙ ap (λ (x : Constant). taken x c) (mark-constant m (carried (nodeAt ns e)) p)
+    mark-constant t (taken (constant_from m.flavour m.value) c) q ∙ ap (λ (x : Constant). taken x c) (mark-constant m (carried (node_at ns e)) p)
 
 -- a call with a constant, by the class that was found
 module _ (cs : List Class) (e : ℕ) (c : Constant) where
-  pub for_some : (i : ℕ) (o : Option ℕ) → o ≡ some i → constantFor cs e c o ≡ mergedAt cs i (alone e noConstant)
-  unfolding constantFor
+  pub for_some : (i : ℕ) (o : Option ℕ) → o ≡ some i → constant_for cs e c o ≡ merged_at cs i (alone e no_constant)
+  unfolding constant_for
   for_some i o p = rw p
 
-  pub for-none : (o : Option ℕ) → o ≡ none → constantFor cs e c o ≡ cs ++ (alone e c ∷ [])
-  unfolding constantFor
-  for-none o p = rw p
+  pub for_none : (o : Option ℕ) → o ≡ none → constant_for cs e c o ≡ cs ++ (alone e c ∷ [])
+  unfolding constant_for
+  for_none o p = rw p
 
   module _ (ns : List Node) (s : Constant) (q : c ≡ given ns e s) where
-    pub with-some : (i : ℕ) → class_of cs e ≡ some i → withConstant true ns cs e s ≡ constantAt cs i c
-    unfolding withConstant constantIn
+    pub with-some : (i : ℕ) → class_of cs e ≡ some i → with_constant true ns cs e s ≡ constant_at cs i c
+    unfolding with_constant constant_in
     with-some i p = rw (p, q)
 
-    pub with_none : class_of cs e ≡ none → withConstant true ns cs e s ≡ constantFor cs e c (classLike true cs c)
-    unfolding withConstant constantIn
+    pub with_none : class_of cs e ≡ none → with_constant true ns cs e s ≡ constant_for cs e c (class_like true cs c)
+    unfolding with_constant constant_in
     with_none p = rw (p, q)

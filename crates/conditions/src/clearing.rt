@@ -1,6 +1,6 @@
 // Dropping the constants that may differ from partition to partition, on a group that is checked already.
 ghost use Rattle.std.specs.Prelude.{◌≡◌, ◌≤◌, ◌<◌, ◌+◌, ◌-◌};
-ghost use Rattle.classes.specs.Group.{clearRest};
+ghost use Rattle.classes.specs.Group.{clear_rest};
 ghost use Rattle.classes.specs.Layout.{decode};
 ghost use Rattle.classes.specs.Calls.{changed};
 ghost use Rattle.classes.specs.Inner.{Coded};
@@ -21,7 +21,7 @@ pub struct Clearing {
 // loses its constant; any other is passed.
 fn clear_step(g: Group, i: usize, changed: bool) -> Clearing
     requires { Coded g × (i < g.count) }
-    ensures { ((Coded result.group × (result.group.limit ≡ g.limit)) × ((result.next ≤ result.group.count) × (result.group.count - result.next < g.count - i))) × (clearRest i changed (decode g) ≡ clearRest result.next result.changed (decode result.group)) }
+    ensures { ((Coded result.group × (result.group.limit ≡ g.limit)) × ((result.next ≤ result.group.count) × (result.group.count - result.next < g.count - i))) × (clear_rest i changed (decode g) ≡ clear_rest result.next result.changed (decode result.group)) }
 {
     if g.flavours[i] != 1 {
         return Clearing {

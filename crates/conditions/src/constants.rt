@@ -2,10 +2,10 @@
 ghost use Rattle.std.specs.Prelude.{true, false, [], ◌∷◌, ◌++◌, ◌≡◌, ◌≤◌, ◌<◌};
 ghost use Rattle.arena.specs.Layout.{decode as nodes};
 ghost use Rattle.arena.specs.Inner.{Known};
-ghost use Rattle.classes.specs.Class.{noConstant, sameConstant};
-ghost use Rattle.classes.specs.Group.{classLike, constantFor, mergedAt, withConstant};
+ghost use Rattle.classes.specs.Class.{no_constant, same_constant};
+ghost use Rattle.classes.specs.Group.{class_like, constant_for, merged_at, with_constant};
 ghost use Rattle.classes.specs.Steps.{judged};
-ghost use Rattle.classes.specs.Layout.{decode, constantFrom, knownFlavour};
+ghost use Rattle.classes.specs.Layout.{decode, constant_from, known_flavour};
 ghost use Rattle.classes.specs.Calls.{changed};
 ghost use Rattle.classes.specs.Inner.{Coded, Held, place_of};
 ghost use Rattle.conditions.specs.Calls.{sayable};
@@ -31,8 +31,8 @@ pub fn can_say(flavour: u32, value: u32) -> bool
 
 // Two constants are the same; two unknown ones count as equal.
 fn same_mark(a: Mark, b: Mark) -> bool
-    requires { (knownFlavour a.flavour a.value ≡ true) × (knownFlavour b.flavour b.value ≡ true) }
-    ensures { result ≡ sameConstant true (constantFrom a.flavour a.value) (constantFrom b.flavour b.value) }
+    requires { (known_flavour a.flavour a.value ≡ true) × (known_flavour b.flavour b.value ≡ true) }
+    ensures { result ≡ same_constant true (constant_from a.flavour a.value) (constant_from b.flavour b.value) }
 {
     if a.flavour != b.flavour {
         return false;
@@ -42,8 +42,8 @@ fn same_mark(a: Mark, b: Mark) -> bool
 
 // The first class with an equal constant, for a uniform one.
 fn find_like(g: Group, mark: Mark) -> Place
-    requires { Coded g × (knownFlavour mark.flavour mark.value ≡ true) }
-    ensures { result ≡ place_of (classLike true (decode g) (constantFrom mark.flavour mark.value)) }
+    requires { Coded g × (known_flavour mark.flavour mark.value ≡ true) }
+    ensures { result ≡ place_of (class_like true (decode g) (constant_from mark.flavour mark.value)) }
 {
     if mark.flavour < 2 {
         return Place::Nowhere;
@@ -61,7 +61,7 @@ fn find_like(g: Group, mark: Mark) -> Place
 // A nonmember goes to class i. Refusal: 4.
 fn push_constant(g: Group, i: usize, e: u32) -> Changed
     requires { (Coded g × (i < g.count)) × (g.limit ≤ 256) }
-    ensures { result ≡ changed g.limit (judged g.limit (decode g) (false, mergedAt (decode g) i (record { members = e ∷ []; constant = noConstant }))) }
+    ensures { result ≡ changed g.limit (judged g.limit (decode g) (false, merged_at (decode g) i (record { members = e ∷ []; constant = no_constant }))) }
 {
     if g.limit <= g.used {
         return refusal(4, g);
@@ -83,7 +83,7 @@ fn push_constant(g: Group, i: usize, e: u32) -> Changed
 // A nonmember makes a new class with its constant. Refusal: 4.
 fn open_constant(g: Group, e: u32, mark: Mark) -> Changed
     requires { Coded g × (g.limit ≤ 256) }
-    ensures { result ≡ changed g.limit (judged g.limit (decode g) (false, decode g ++ (record { members = e ∷ []; constant = constantFrom mark.flavour mark.value } ∷ []))) }
+    ensures { result ≡ changed g.limit (judged g.limit (decode g) (false, decode g ++ (record { members = e ∷ []; constant = constant_from mark.flavour mark.value } ∷ []))) }
 {
     if 64 <= g.count {
         return refusal(4, g);
@@ -101,8 +101,8 @@ fn open_constant(g: Group, e: u32, mark: Mark) -> Changed
 
 // The constant of an expression that no class holds. Refusal: 4.
 fn constant_for(g: Group, e: u32, mark: Mark) -> Changed
-    requires { (Coded g × (g.limit ≤ 256)) × (knownFlavour mark.flavour mark.value ≡ true) }
-    ensures { result ≡ changed g.limit (judged g.limit (decode g) (false, constantFor (decode g) e (constantFrom mark.flavour mark.value) (classLike true (decode g) (constantFrom mark.flavour mark.value)))) }
+    requires { (Coded g × (g.limit ≤ 256)) × (known_flavour mark.flavour mark.value ≡ true) }
+    ensures { result ≡ changed g.limit (judged g.limit (decode g) (false, constant_for (decode g) e (constant_from mark.flavour mark.value) (class_like true (decode g) (constant_from mark.flavour mark.value)))) }
 {
     match find_like(g, mark) {
         Place::At(i) => push_constant(g, i, e),
@@ -112,8 +112,8 @@ fn constant_for(g: Group, e: u32, mark: Mark) -> Changed
 
 // The constant of an expression: what is said, or a literal's own value. Refusal: 4.
 pub fn add_constant_in(cells: &[u32; 11265], g: Group, e: u32, said: Mark) -> Changed
-    requires { (Held (nodes cells.now) g × Known cells.now e) × (knownFlavour said.flavour said.value ≡ true) }
-    ensures { result ≡ changed g.limit (judged g.limit (decode g) (false, withConstant true (nodes cells.now) (decode g) e (constantFrom said.flavour said.value))) }
+    requires { (Held (nodes cells.now) g × Known cells.now e) × (known_flavour said.flavour said.value ≡ true) }
+    ensures { result ≡ changed g.limit (judged g.limit (decode g) (false, with_constant true (nodes cells.now) (decode g) e (constant_from said.flavour said.value))) }
 {
     let mark = taken_over(carried_mark(cells, e), said);
     match find_class(g, e) {

@@ -3,7 +3,7 @@ ghost use Rattle.std.specs.Prelude.{true, false, [], ◌∷◌, ◌++◌, ◌≡
 ghost use Rattle.arena.specs.Layout.{decode as nodes};
 ghost use Rattle.arena.specs.Inner.{Known};
 ghost use Rattle.classes.specs.Class.{single};
-ghost use Rattle.classes.specs.Group.{class_of, mergedAt, joined, pair, equalCondition};
+ghost use Rattle.classes.specs.Group.{class_of, merged_at, joined, pair, equal_condition};
 ghost use Rattle.laws.specs.Tests.{if◌then◌else◌};
 ghost use Rattle.classes.specs.Steps.{judged};
 ghost use Rattle.classes.specs.Layout.{encode, decode};
@@ -19,7 +19,7 @@ use classes::{Changed, Group, Place};
 // An expression that no class holds is pushed to class i. Refusal: 4.
 fn push(cells: &[u32; 11265], g: Group, i: usize, e: u32) -> Changed
     requires { (Held (nodes cells.now) g × (i < g.count)) × Known cells.now e }
-    ensures { result ≡ changed g.limit (judged g.limit (decode g) (false, mergedAt (decode g) i (single (nodes cells.now) e))) }
+    ensures { result ≡ changed g.limit (judged g.limit (decode g) (false, merged_at (decode g) i (single (nodes cells.now) e))) }
 {
     if g.limit <= g.used {
         return refusal(4, g);
@@ -90,7 +90,7 @@ fn open_class(cells: &[u32; 11265], g: Group, a: u32, b: u32) -> Changed
 // The equal condition, by the classes of its two sides. Refusal: 4.
 fn equate(cells: &[u32; 11265], g: Group, a: u32, b: u32, left: Place, right: Place) -> Changed
     requires { (Held (nodes cells.now) g × (Known cells.now a × Known cells.now b)) × ((left ≡ place_of (class_of (decode g) a)) × (right ≡ place_of (class_of (decode g) b))) }
-    ensures { result ≡ changed g.limit (judged g.limit (decode g) (equalCondition (nodes cells.now) (decode g) a b)) }
+    ensures { result ≡ changed g.limit (judged g.limit (decode g) (equal_condition (nodes cells.now) (decode g) a b)) }
 {
     match left {
         Place::At(i) => match right {
@@ -114,7 +114,7 @@ fn equate(cells: &[u32; 11265], g: Group, a: u32, b: u32, left: Place, right: Pl
 // The equal condition of two expressions. Refusal: 4.
 pub fn equal_condition_in(cells: &[u32; 11265], g: Group, a: u32, b: u32) -> Changed
     requires { Held (nodes cells.now) g × (Known cells.now a × Known cells.now b) }
-    ensures { result ≡ changed g.limit (judged g.limit (decode g) (equalCondition (nodes cells.now) (decode g) a b)) }
+    ensures { result ≡ changed g.limit (judged g.limit (decode g) (equal_condition (nodes cells.now) (decode g) a b)) }
 {
     let left = find_class(g, a);
     let right = find_class(g, b);

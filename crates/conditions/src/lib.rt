@@ -9,9 +9,9 @@ pub mod constants;
 pub mod equating;
 
 ghost use Rattle.std.specs.Prelude.{◌≡◌};
-ghost use Rattle.classes.specs.Calls.{onGroup};
-ghost use Rattle.conditions.specs.Steps.{addEqual, clear};
-ghost use Rattle.conditions.specs.Calls.{onConstant};
+ghost use Rattle.classes.specs.Calls.{on_group};
+ghost use Rattle.conditions.specs.Steps.{add_equal, clear};
+ghost use Rattle.conditions.specs.Calls.{on_constant};
 
 use arena::cells::{node_count, wide};
 use classes::refusing::refusal;
@@ -23,7 +23,7 @@ use group_checks::checking::check_group;
 
 // Two expressions are equal. The answer says whether a new class was made. Refusals: 12, 11, 1, 4.
 pub fn add_equal_conditions(cells: &[u32; 11265], group: Group, left: u32, right: u32) -> Changed
-    ensures { result ≡ onGroup (λ ns cs. addEqual group.limit ns left right cs) cells.now group }
+    ensures { result ≡ on_group (λ ns cs. add_equal group.limit ns left right cs) cells.now group }
 {
     let number = check_group(cells, group);
     if number != 0 {
@@ -48,7 +48,7 @@ pub fn add_constant(
     flavour: u32,
     value: u32,
 ) -> Changed
-    ensures { result ≡ onConstant expr flavour value cells.now group }
+    ensures { result ≡ on_constant expr flavour value cells.now group }
 {
     if !can_say(flavour, value) {
         return refusal(12, group);
@@ -71,7 +71,7 @@ pub fn add_constant(
 // Drops the constants that may differ from partition to partition. The answer says whether anything changed.
 // Refusals: 12, 11, 1.
 pub fn clear_per_partition_constants(cells: &[u32; 11265], group: Group) -> Changed
-    ensures { result ≡ onGroup (λ ns cs. clear cs) cells.now group }
+    ensures { result ≡ on_group (λ ns cs. clear cs) cells.now group }
 {
     let number = check_group(cells, group);
     if number != 0 {

@@ -9,13 +9,13 @@ use native.Mathlib.Omega.{arith}
 use borrow.Author.Tests.{eqb-true, eq-eqb, ltb-true}
 use lib.Dec.{eqb, ltb}
 use lib.ListN.{length}
-use Rattle.laws.specs.Tests.{if◌then◌else◌, first, firstFrom}
+use Rattle.laws.specs.Tests.{if◌then◌else◌, first, first_from}
 use Rattle.laws.proofs.Booleans.{and_left, and_right}
 use Rattle.arena.specs.Node.{Node}
 use Rattle.classes.specs.Class.{Constant, Class}
-use Rattle.classes.specs.Group.{class_of, equalCondition, withConstant, sameClass}
+use Rattle.classes.specs.Group.{class_of, equal_condition, with_constant, same_class}
 use Rattle.classes.specs.Steps.{Outcome, refused, fits, judged}
-use Rattle.conditions.specs.Steps.{addEqual, addConstant}
+use Rattle.conditions.specs.Steps.{add_equal, add_constant}
 use Rattle.demands.proofs.Step.{With}
 
 -- two expressions have one place
@@ -25,9 +25,9 @@ pub record OnePlace (cs : List Class) (x y : ℕ) : Type 0 where
   pub right : class_of cs y ≡ some place
 
 -- in one class is to have one place, and the other way round
-pub same_place : (cs : List Class) (x y : ℕ) → sameClass cs x y ≡ true → OnePlace cs x y
-unfolding sameClass
-same_place cs x y h = go (class_of cs x) (class_of cs y) refl refl
+pub same_place_lem : (cs : List Class) (x y : ℕ) → same_class cs x y ≡ true → OnePlace cs x y
+unfolding same_class
+same_place_lem cs x y h = go (class_of cs x) (class_of cs y) refl refl
   where
     go : (o p : Option ℕ) → class_of cs x ≡ o → class_of cs y ≡ p → OnePlace cs x y
     go none none e f = absurd (let z : ◌≡◌ {A = ℕ} 0 1 = cc (rw (e, f) at h) in omega arith)
@@ -35,44 +35,44 @@ same_place cs x y h = go (class_of cs x) (class_of cs y) refl refl
     go (some i) none e f = absurd (let z : ◌≡◌ {A = ℕ} 0 1 = cc (rw (e, f) at h) in omega arith)
     go (some i) (some j) e f = let q : i ≡ j = eqb-true i j (rw (e, f) at h) in record { place = i; left = e; right = rw q f }
 
-pub place_same : (cs : List Class) (x y : ℕ) → OnePlace cs x y → sameClass cs x y ≡ true
-unfolding sameClass
+pub place_same : (cs : List Class) (x y : ℕ) → OnePlace cs x y → same_class cs x y ≡ true
+unfolding same_class
 place_same cs x y p = rw (p.left, p.right) (eq-eqb p.place p.place refl)
 
-pub same-sym : (cs : List Class) (x y : ℕ) → sameClass cs x y ≡ true → sameClass cs y x ≡ true
-same-sym cs x y h = let p = same_place cs x y h in place_same cs y x (record { place = p.place; left = p.right; right = p.left })
+pub same_sym : (cs : List Class) (x y : ℕ) → same_class cs x y ≡ true → same_class cs y x ≡ true
+same_sym cs x y h = let p = same_place_lem cs x y h in place_same cs y x (record { place = p.place; left = p.right; right = p.left })
 
-pub same-trans : (cs : List Class) (x y z : ℕ) → sameClass cs x y ≡ true → sameClass cs y z ≡ true → sameClass cs x z ≡ true
-same-trans cs x y z h k =
-    let p = same_place cs x y h in
-    let q = same_place cs y z k in
+pub same_trans : (cs : List Class) (x y z : ℕ) → same_class cs x y ≡ true → same_class cs y z ≡ true → same_class cs x z ≡ true
+same_trans cs x y z h k =
+    let p = same_place_lem cs x y h in
+    let q = same_place_lem cs y z k in
     let e : p.place ≡ q.place = cc in
     place_same cs x z (record { place = p.place; left = p.left; right = cc })
 
 -- no class holds anything
-pub same_none : (x y : ℕ) → sameClass [] x y ≡ false
-unfolding sameClass class_of first firstFrom
+pub same_none : (x y : ℕ) → same_class [] x y ≡ false
+unfolding same_class class_of first first_from
 same_none x y = refl
 
 -- the same expression or one of its class: an equivalence
-pub with-sym : (cs : List Class) (x y : ℕ) → With cs x y → With cs y x
-with-sym cs x y (inl e) = inl (sym e)
-with-sym cs x y (inr h) = inr (same-sym cs x y h)
+pub with_sym : (cs : List Class) (x y : ℕ) → With cs x y → With cs y x
+with_sym cs x y (inl e) = inl (sym e)
+with_sym cs x y (inr h) = inr (same_sym cs x y h)
 
-pub with-trans : (cs : List Class) (x y z : ℕ) → With cs x y → With cs y z → With cs x z
-with-trans cs x y z (inl e) w = rw e w
-with-trans cs x y z (inr h) (inl f) = inr (rw f at h)
-with-trans cs x y z (inr h) (inr k) = inr (same-trans cs x y z h k)
+pub with_trans : (cs : List Class) (x y z : ℕ) → With cs x y → With cs y z → With cs x z
+with_trans cs x y z (inl e) w = rw e w
+with_trans cs x y z (inr h) (inl f) = inr (rw f at h)
+with_trans cs x y z (inr h) (inr k) = inr (same_trans cs x y z h k)
 
 -- what an equal condition comes to: the classes of the step and the number 0, or the old classes and another number
-pub addEqual-cases : (limit : ℕ) (ns : List Node) (a b : ℕ) (cs : List Class)
-    → (((addEqual limit ns a b cs).number ≡ 0) × ((addEqual limit ns a b cs).classes ≡ (equalCondition ns cs a b).1))
-    ⊎ ((eqb (addEqual limit ns a b cs).number 0 ≡ false) × ((addEqual limit ns a b cs).classes ≡ cs))
-unfolding addEqual judged refused
-addEqual-cases limit ns a b cs = go (ltb a (length ns) && ltb b (length ns)) (fits limit (equalCondition ns cs a b).1)
+pub add_equal_cases : (limit : ℕ) (ns : List Node) (a b : ℕ) (cs : List Class)
+    → (((add_equal limit ns a b cs).number ≡ 0) × ((add_equal limit ns a b cs).classes ≡ (equal_condition ns cs a b).1))
+    ⊎ ((eqb (add_equal limit ns a b cs).number 0 ≡ false) × ((add_equal limit ns a b cs).classes ≡ cs))
+unfolding add_equal judged refused
+add_equal_cases limit ns a b cs = go (ltb a (length ns) && ltb b (length ns)) (fits limit (equal_condition ns cs a b).1)
   where
     e : Bool × List Class
-    e = equalCondition ns cs a b
+    e = equal_condition ns cs a b
 
     out : Bool → Bool → Outcome
     out p q = if p then (if q then record { number = 0; answer = e.0; classes = e.1 } else refused 4 cs) else refused 1 cs
@@ -92,24 +92,24 @@ module _ (P : List Class → Type 0) (limit : ℕ) (cs : List Class) (old : P cs
       go true q = new q
       go false q = old
 
-  pub addEqual-holds : (ns : List Node) (a b : ℕ)
-      → (a < length ns → b < length ns → fits limit (equalCondition ns cs a b).1 ≡ true → P (equalCondition ns cs a b).1) → P (addEqual limit ns a b cs).classes
-  unfolding addEqual refused
-  addEqual-holds ns a b new = go (ltb a (length ns) && ltb b (length ns)) refl
+  pub add_equal-holds : (ns : List Node) (a b : ℕ)
+      → (a < length ns → b < length ns → fits limit (equal_condition ns cs a b).1 ≡ true → P (equal_condition ns cs a b).1) → P (add_equal limit ns a b cs).classes
+  unfolding add_equal refused
+  add_equal-holds ns a b new = go (ltb a (length ns) && ltb b (length ns)) refl
     where
-      go : (t : Bool) → (ltb a (length ns) && ltb b (length ns)) ≡ t → P (if t then judged limit cs (equalCondition ns cs a b) else refused 1 cs).classes
+      go : (t : Bool) → (ltb a (length ns) && ltb b (length ns)) ≡ t → P (if t then judged limit cs (equal_condition ns cs a b) else refused 1 cs).classes
       go true q =
-          judged-holds (equalCondition ns cs a b)
+          judged-holds (equal_condition ns cs a b)
           (new (ltb-true a (length ns) (and_left (ltb a (length ns)) (ltb b (length ns)) q)) (ltb-true b (length ns) (and_right (ltb a (length ns)) (ltb b (length ns)) q)))
       go false q = old
 
-  pub addConstant-holds : (two : Bool) (ns : List Node) (e : ℕ) (said : Constant)
-      → (e < length ns → fits limit (withConstant two ns cs e said) ≡ true → P (withConstant two ns cs e said)) → P (addConstant two limit ns e said cs).classes
-  unfolding addConstant refused
-  addConstant-holds two ns e said new = go (ltb e (length ns)) refl
+  pub add_constant-holds : (two : Bool) (ns : List Node) (e : ℕ) (said : Constant)
+      → (e < length ns → fits limit (with_constant two ns cs e said) ≡ true → P (with_constant two ns cs e said)) → P (add_constant two limit ns e said cs).classes
+  unfolding add_constant refused
+  add_constant-holds two ns e said new = go (ltb e (length ns)) refl
     where
-      go : (t : Bool) → ltb e (length ns) ≡ t → P (if t then judged limit cs (false, withConstant two ns cs e said) else refused 1 cs).classes
-      go true q = judged-holds (false, withConstant two ns cs e said) (new (ltb-true e (length ns) q))
+      go : (t : Bool) → ltb e (length ns) ≡ t → P (if t then judged limit cs (false, with_constant two ns cs e said) else refused 1 cs).classes
+      go true q = judged-holds (false, with_constant two ns cs e said) (new (ltb-true e (length ns) q))
       go false q = old
 
 -- a step that is refused keeps the classes
@@ -122,19 +122,19 @@ judged-keeps l cs o = go (fits l o.1)
     go false z = refl
 
 -- an equal condition that is refused does too
-pub addEqual-keeps : (l : ℕ) (ns : List Node) (a b : ℕ) (cs : List Class) → ((addEqual l ns a b cs).number ≡ 0 → ⊥) → (addEqual l ns a b cs).classes ≡ cs
-unfolding addEqual refused
-addEqual-keeps l ns a b cs = go (ltb a (length ns) && ltb b (length ns))
+pub add_equal-keeps : (l : ℕ) (ns : List Node) (a b : ℕ) (cs : List Class) → ((add_equal l ns a b cs).number ≡ 0 → ⊥) → (add_equal l ns a b cs).classes ≡ cs
+unfolding add_equal refused
+add_equal-keeps l ns a b cs = go (ltb a (length ns) && ltb b (length ns))
   where
-    go : (t : Bool) → let r : Outcome = (if t then judged l cs (equalCondition ns cs a b) else refused 1 cs) in (r.number ≡ 0 → ⊥) → r.classes ≡ cs
-    go true z = judged-keeps l cs (equalCondition ns cs a b) z
+    go : (t : Bool) → let r : Outcome = (if t then judged l cs (equal_condition ns cs a b) else refused 1 cs) in (r.number ≡ 0 → ⊥) → r.classes ≡ cs
+    go true z = judged-keeps l cs (equal_condition ns cs a b) z
     go false z = refl
 
 -- and a constant that is
-pub addConstant-keeps : (two : Bool) (l : ℕ) (ns : List Node) (e : ℕ) (said : Constant) (cs : List Class) → ((addConstant two l ns e said cs).number ≡ 0 → ⊥) → (addConstant two l ns e said cs).classes ≡ cs
-unfolding addConstant refused
-addConstant-keeps two l ns e said cs = go (ltb e (length ns))
+pub add_constant-keeps : (two : Bool) (l : ℕ) (ns : List Node) (e : ℕ) (said : Constant) (cs : List Class) → ((add_constant two l ns e said cs).number ≡ 0 → ⊥) → (add_constant two l ns e said cs).classes ≡ cs
+unfolding add_constant refused
+add_constant-keeps two l ns e said cs = go (ltb e (length ns))
   where
-    go : (t : Bool) → let r : Outcome = (if t then judged l cs (false, withConstant two ns cs e said) else refused 1 cs) in (r.number ≡ 0 → ⊥) → r.classes ≡ cs
-    go true z = judged-keeps l cs (false, withConstant two ns cs e said) z
+    go : (t : Bool) → let r : Outcome = (if t then judged l cs (false, with_constant two ns cs e said) else refused 1 cs) in (r.number ≡ 0 → ⊥) → r.classes ≡ cs
+    go true z = judged-keeps l cs (false, with_constant two ns cs e said) z
     go false z = refl

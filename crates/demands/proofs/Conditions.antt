@@ -11,55 +11,55 @@ use borrow.Author.Tests.{eqb-true, eqb-false, eq-eqb}
 use lib.Dec.{eqb}
 use lib.ListN.{length}
 use Rattle.laws.specs.Tests.{if◌then◌else◌}
-use Rattle.laws.proofs.Booleans.{true-not-false}
+use Rattle.laws.proofs.Booleans.{true_not_false}
 use Rattle.arena.specs.Node.{Node}
 use Rattle.classes.specs.Class.{Class, single, merged}
-use Rattle.classes.specs.Group.{among, class_at, class_of, removed, length_removed, mergedAt, pair, joined, equated, equalCondition, sameClass, Together}
+use Rattle.classes.specs.Group.{among, class_at, class_of, removed, length_removed, merged_at, pair, joined, equated, equal_condition, same_class, Together}
 use Rattle.classes.specs.Good.{flat, Distinct}
-use Rattle.classes.proofs.Places.{count, count-append, count_same, count-other, among-left, among-right, among-either, among-never, among_one, one-among, counts, Once, distinct-once, once-distinct, one_class, classOf-some, classOf-none, classOf-one, removed-gap, removed-other, counts-removed, length-mergedAt, mergedAt-same, mergedAt-other, counts-mergedAt, counts-more, more-old, more-new, length_more}
+use Rattle.classes.proofs.Places.{count, count-append, count_same, count-other, among-left, among-right, among-either, among-never, among_one, one-among, counts, Once, distinct-once, once-distinct, one_class, class_of-some, class_of-none, class_of-one, removed-gap, removed-other, counts-removed, length-merged_at, merged_at-same, merged_at-other, counts-merged_at, counts-more, more-old, more-new, length_more}
 use Rattle.demands.proofs.Step.{With, Step}
 
 -- two expressions of one class are together
-pub same-together : (cs : List Class) (x y : ℕ) → sameClass cs x y ≡ true → Together cs x y
-unfolding sameClass
-same-together cs x y h = go (class_of cs x) (class_of cs y) refl refl
+pub same_together : (cs : List Class) (x y : ℕ) → same_class cs x y ≡ true → Together cs x y
+unfolding same_class
+same_together cs x y h = go (class_of cs x) (class_of cs y) refl refl
   where
     go : (o p : Option ℕ) → class_of cs x ≡ o → class_of cs y ≡ p → Together cs x y
-    go none none q r = absurd (true-not-false (rw (q, r) at h) refl)
-    go none (some j) q r = absurd (true-not-false (rw (q, r) at h) refl)
-    go (some i) none q r = absurd (true-not-false (rw (q, r) at h) refl)
+    go none none q r = absurd (true_not_false (rw (q, r) at h) refl)
+    go none (some j) q r = absurd (true_not_false (rw (q, r) at h) refl)
+    go (some i) none q r = absurd (true_not_false (rw (q, r) at h) refl)
     go (some i) (some j) q r =
         let e : i ≡ j = eqb-true i j (rw (q, r) at h) in
-        let a = classOf-some cs x i q in
-        let b = classOf-some cs y j r in
+        let a = class_of-some cs x i q in
+        let b = class_of-some cs y j r in
         record { place = i; below = a.0; left = a.1; right = subst (λ (k : ℕ). among y (class_at cs k).members ≡ true) (sym e) b.1 }
 
 -- and the other way round, where no number is a member twice
-pub together-same : (cs : List Class) → Once cs → (x y : ℕ) → Together cs x y → sameClass cs x y ≡ true
-unfolding sameClass
-together-same cs o x y t =
-    rw (classOf-one cs o x t.place t.below t.left, classOf-one cs o y t.place t.below t.right) (eq-eqb t.place t.place refl)
+pub together_same : (cs : List Class) → Once cs → (x y : ℕ) → Together cs x y → same_class cs x y ≡ true
+unfolding same_class
+together_same cs o x y t =
+    rw (class_of-one cs o x t.place t.below t.left, class_of-one cs o y t.place t.below t.right) (eq-eqb t.place t.place refl)
 
-pub together-back : {cs : List Class} {x y : ℕ} → Together cs x y → Together cs y x
-together-back t = record { place = t.place; below = t.below; left = t.right; right = t.left }
+pub together_back : {cs : List Class} {x y : ℕ} → Together cs x y → Together cs y x
+together_back t = record { place = t.place; below = t.below; left = t.right; right = t.left }
 
 module _ (cs : List Class) (o : Once cs) where
-  pub together-on : (x y z : ℕ) → Together cs x y → Together cs y z → Together cs x z
-  together-on x y z s t =
+  pub together_on : (x y z : ℕ) → Together cs x y → Together cs y z → Together cs x z
+  together_on x y z s t =
       let e = one_class cs o y t.place s.place t.below s.below t.left s.right in
       record { place = s.place; below = s.below; left = s.left; right = subst (λ (k : ℕ). among z (class_at cs k).members ≡ true) (sym e) t.right }
 
   pub with_at : (x y i : ℕ) → i < length cs → among x (class_at cs i).members ≡ true → among y (class_at cs i).members ≡ true → With cs x y
-  with_at x y i l p q = inr (together-same cs o x y (record { place = i; below = l; left = p; right = q }))
+  with_at x y i l p q = inr (together_same cs o x y (record { place = i; below = l; left = p; right = q }))
 
   pub with-back : (x y : ℕ) → With cs x y → With cs y x
   with-back x y (inl e) = inl (sym e)
-  with-back x y (inr s) = inr (together-same cs o y x (together-back (same-together cs x y s)))
+  with-back x y (inr s) = inr (together_same cs o y x (together_back (same_together cs x y s)))
 
   pub with-on : (x y z : ℕ) → With cs x y → With cs y z → With cs x z
   with-on x y z (inl e) w = subst (λ (k : ℕ). With cs k z) (sym e) w
-  with-on x y z (inr s) (inl e) = inr (subst (λ (k : ℕ). sameClass cs x k ≡ true) e s)
-  with-on x y z (inr s) (inr t) = inr (together-same cs o x z (together-on x y z (same-together cs x y s) (same-together cs y z t)))
+  with-on x y z (inr s) (inl e) = inr (subst (λ (k : ℕ). same_class cs x k ≡ true) e s)
+  with-on x y z (inr s) (inr t) = inr (together_same cs o x z (together_on x y z (same_together cs x y s) (same_together cs y z t)))
 
 -- from cs to ds, a and b were put together
 pub record Joins (cs : List Class) (a b : ℕ) (ds : List Class) : Type 0 where
@@ -69,7 +69,7 @@ pub record Joins (cs : List Class) (a b : ℕ) (ds : List Class) : Type 0 where
   pub only : (x y : ℕ) → Together ds x y → Together cs x y ⊎ ((With cs a x ⊎ With cs b x) × (With cs a y ⊎ With cs b y))
 
 joins-back : (cs : List Class) (a b : ℕ) (ds : List Class) → Joins cs b a ds → Joins cs a b ds
-joins-back cs a b ds j = record { once = j.once; stays = j.stays; joins = together-back j.joins; only = λ x y t. go x y (j.only x y t) }
+joins-back cs a b ds j = record { once = j.once; stays = j.stays; joins = together_back j.joins; only = λ x y t. go x y (j.only x y t) }
   where
     turn : (x : ℕ) → With cs b x ⊎ With cs a x → With cs a x ⊎ With cs b x
     turn x (inl w) = inr w
@@ -81,9 +81,9 @@ joins-back cs a b ds j = record { once = j.once; stays = j.stays; joins = togeth
 
 joins-step : (cs : List Class) → Once cs → (a b : ℕ) (ds : List Class) → Joins cs a b ds → Step cs a b ds
 joins-step cs o a b ds j = record {
-  stays = λ x y s. together-same ds j.once x y (j.stays x y (same-together cs x y s));
-  joins = λ n. together-same ds j.once a b j.joins;
-  only = λ x y s. go x y (j.only x y (same-together ds x y s));
+  stays = λ x y s. together_same ds j.once x y (j.stays x y (same_together cs x y s));
+  joins = λ n. together_same ds j.once a b j.joins;
+  only = λ x y s. go x y (j.only x y (same_together ds x y s));
 }
   where
     near : (x y : ℕ) → With cs a x ⊎ With cs b x → With cs a y ⊎ With cs b y → With cs x y ⊎ ((With cs x a × With cs b y) ⊎ (With cs x b × With cs a y))
@@ -93,23 +93,23 @@ joins-step cs o a b ds j = record {
     near x y (inr p) (inr q) = inl (with-on cs o x b y (with-back cs o b x p) q)
 
     go : (x y : ℕ) → Together cs x y ⊎ ((With cs a x ⊎ With cs b x) × (With cs a y ⊎ With cs b y)) → With cs x y ⊎ ((With cs x a × With cs b y) ⊎ (With cs x b × With cs a y))
-    go x y (inl t) = inl (inr (together-same cs o x y t))
+    go x y (inl t) = inl (inr (together_same cs o x y t))
     go x y (inr p) = near x y p.0 p.1
 
 -- members of the classes with one merged in
-merged-old : (cs : List Class) (i : ℕ) (d : Class) (x p : ℕ) → p < length cs → among x (class_at cs p).members ≡ true → among x (class_at (mergedAt cs i d) p).members ≡ true
+merged-old : (cs : List Class) (i : ℕ) (d : Class) (x p : ℕ) → p < length cs → among x (class_at cs p).members ≡ true → among x (class_at (merged_at cs i d) p).members ≡ true
 unfolding merged
 merged-old cs i d x p l h = go (ℕ_discrete p i)
   where
-    go : Dec (p ≡ i) → among x (class_at (mergedAt cs i d) p).members ≡ true
-    go (yes q) = rw (q, mergedAt-same cs i d (omega arith)) (among-left x (class_at cs i).members d.members (rw q at h))
-    go (no q) = rw (mergedAt-other cs i p d q) h
+    go : Dec (p ≡ i) → among x (class_at (merged_at cs i d) p).members ≡ true
+    go (yes q) = rw (q, merged_at-same cs i d (omega arith)) (among-left x (class_at cs i).members d.members (rw q at h))
+    go (no q) = rw (merged_at-other cs i p d q) h
 
-merged-new : (cs : List Class) (i : ℕ) (d : Class) (x : ℕ) → i < length cs → among x d.members ≡ true → among x (class_at (mergedAt cs i d) i).members ≡ true
+merged-new : (cs : List Class) (i : ℕ) (d : Class) (x : ℕ) → i < length cs → among x d.members ≡ true → among x (class_at (merged_at cs i d) i).members ≡ true
 unfolding merged
-merged-new cs i d x l h = rw (mergedAt-same cs i d l) (among-right x (class_at cs i).members d.members h)
+merged-new cs i d x l h = rw (merged_at-same cs i d l) (among-right x (class_at cs i).members d.members h)
 
-merged-from : (cs : List Class) (i : ℕ) (d : Class) (x p : ℕ) → p < length cs → among x (class_at (mergedAt cs i d) p).members ≡ true
+merged-from : (cs : List Class) (i : ℕ) (d : Class) (x p : ℕ) → p < length cs → among x (class_at (merged_at cs i d) p).members ≡ true
     → (among x (class_at cs p).members ≡ true) ⊎ ((p ≡ i) × (among x d.members ≡ true))
 unfolding merged
 merged-from cs i d x p l h = go (ℕ_discrete p i)
@@ -119,8 +119,8 @@ merged-from cs i d x p l h = go (ℕ_discrete p i)
     at q (inr m) = inr (q, m)
 
     go : Dec (p ≡ i) → (among x (class_at cs p).members ≡ true) ⊎ ((p ≡ i) × (among x d.members ≡ true))
-    go (yes q) = at q (among-either x (class_at cs i).members d.members (rw (q, mergedAt-same cs i d (omega arith)) at h))
-    go (no q) = inl (rw (mergedAt-other cs i p d q) at h)
+    go (yes q) = at q (among-either x (class_at cs i).members d.members (rw (q, merged_at-same cs i d (omega arith)) at h))
+    go (no q) = inl (rw (merged_at-other cs i p d q) at h)
 
 -- where whoever shares a place of ds was there before, or the place is one where all are near a or b
 only-by : (cs : List Class) (a b : ℕ) (ds : List Class) (P : ℕ → ℕ → Type 0)
@@ -138,43 +138,43 @@ only-by cs a b ds P from both x y t = go (from x t.place t.below t.left) (from y
 
 -- an expression without a class is pushed to the class of the other
 pushed-joins : (ns : List Node) (cs : List Class) → Once cs → (a b j : ℕ) → counts a cs ≡ 0 → j < length cs → among b (class_at cs j).members ≡ true
-    → Joins cs a b (mergedAt cs j (single ns a))
+    → Joins cs a b (merged_at cs j (single ns a))
 unfolding single
 pushed-joins ns cs o a b j z l h = record {
   once = λ e. once-at e (ℕ_discrete a e);
   stays = λ x y t. record {
     place = t.place;
-    below = rw (length-mergedAt cs j (single ns a)) t.below;
+    below = rw (length-merged_at cs j (single ns a)) t.below;
     left = merged-old cs j (single ns a) x t.place t.below t.left;
     right = merged-old cs j (single ns a) y t.place t.below t.right;
   };
   joins = record {
     place = j;
-    below = rw (length-mergedAt cs j (single ns a)) l;
+    below = rw (length-merged_at cs j (single ns a)) l;
     left = merged-new cs j (single ns a) a l (one-among a);
     right = merged-old cs j (single ns a) b j l h;
   };
-  only = only-by cs a b (mergedAt cs j (single ns a)) (λ x p. among x (class_at cs p).members ≡ true)
-      (λ x p k m. from x p (rw (length-mergedAt cs j (single ns a)) at k) m)
-      (λ x y p k m n. record { place = p; below = rw (length-mergedAt cs j (single ns a)) at k; left = m; right = n });
+  only = only-by cs a b (merged_at cs j (single ns a)) (λ x p. among x (class_at cs p).members ≡ true)
+      (λ x p k m. from x p (rw (length-merged_at cs j (single ns a)) at k) m)
+      (λ x y p k m n. record { place = p; below = rw (length-merged_at cs j (single ns a)) at k; left = m; right = n });
 }
   where
-    once-at : (e : ℕ) → Dec (a ≡ e) → counts e (mergedAt cs j (single ns a)) ≤ 1
+    once-at : (e : ℕ) → Dec (a ≡ e) → counts e (merged_at cs j (single ns a)) ≤ 1
     once-at e (yes q) =
         let z' : counts e cs ≡ 0 = rw q at z in
-        omega (arith, counts-mergedAt e cs j (single ns a) l, subst (λ (k : ℕ). count e (k ∷ []) ≡ 1) (sym q) (count_same e))
-    once-at e (no q) = omega (arith, counts-mergedAt e cs j (single ns a) l, count-other e a q, o e)
+        omega (arith, counts-merged_at e cs j (single ns a) l, subst (λ (k : ℕ). count e (k ∷ []) ≡ 1) (sym q) (count_same e))
+    once-at e (no q) = omega (arith, counts-merged_at e cs j (single ns a) l, count-other e a q, o e)
 
     near : (y : ℕ) → (among y (class_at cs j).members ≡ true) ⊎ ((j ≡ j) × (among y (single ns a).members ≡ true)) → With cs a y ⊎ With cs b y
     near y (inl m) = inr (with_at cs o b y j l h m)
     near y (inr m) = inl (inl (among_one y a m.1))
 
-    from : (x p : ℕ) → p < length cs → among x (class_at (mergedAt cs j (single ns a)) p).members ≡ true
-        → (among x (class_at cs p).members ≡ true) ⊎ ((y : ℕ) → among y (class_at (mergedAt cs j (single ns a)) p).members ≡ true → With cs a y ⊎ With cs b y)
+    from : (x p : ℕ) → p < length cs → among x (class_at (merged_at cs j (single ns a)) p).members ≡ true
+        → (among x (class_at cs p).members ≡ true) ⊎ ((y : ℕ) → among y (class_at (merged_at cs j (single ns a)) p).members ≡ true → With cs a y ⊎ With cs b y)
     from x p k m = at (merged-from cs j (single ns a) x p k m)
       where
         at : (among x (class_at cs p).members ≡ true) ⊎ ((p ≡ j) × (among x (single ns a).members ≡ true))
-            → (among x (class_at cs p).members ≡ true) ⊎ ((y : ℕ) → among y (class_at (mergedAt cs j (single ns a)) p).members ≡ true → With cs a y ⊎ With cs b y)
+            → (among x (class_at cs p).members ≡ true) ⊎ ((y : ℕ) → among y (class_at (merged_at cs j (single ns a)) p).members ≡ true → With cs a y ⊎ With cs b y)
         at (inl q) = inl q
         at (inr q) = inr (λ y n. near y (merged-from cs j (single ns a) y j l (rw q.0 at n)))
 
@@ -281,19 +281,19 @@ removed-to cs i q h l n = go (dec_lt q (length cs - 1))
 
 -- two classes: the higher joins the end of the lower
 joined-joins : (cs : List Class) → Once cs → (a b i j : ℕ) → i < j → j < length cs → among a (class_at cs i).members ≡ true → among b (class_at cs j).members ≡ true
-    → Joins cs a b (mergedAt (removed cs j) i (class_at cs j))
+    → Joins cs a b (merged_at (removed cs j) i (class_at cs j))
 joined-joins cs o a b i j l k ha hb = record {
-  once = λ e. omega (arith, counts-mergedAt e (removed cs j) i (class_at cs j) low, counts-removed e cs j k, o e);
+  once = λ e. omega (arith, counts-merged_at e (removed cs j) i (class_at cs j) low, counts-removed e cs j k, o e);
   stays = λ x y t. stays_at x y t (ℕ_discrete t.place j);
   joins = record {
     place = i;
-    below = rw (length-mergedAt (removed cs j) i (class_at cs j)) low;
+    below = rw (length-merged_at (removed cs j) i (class_at cs j)) low;
     left = merged-old (removed cs j) i (class_at cs j) a i low (rw same ha);
     right = merged-new (removed cs j) i (class_at cs j) b low hb;
   };
-  only = only-by cs a b (mergedAt (removed cs j) i (class_at cs j)) (λ x p. among x (class_at (removed cs j) p).members ≡ true)
-      (λ x p h m. from x p (rw (length-mergedAt (removed cs j) i (class_at cs j)) at h) m)
-      (λ x y p h m n. both x y p m n (removed-from cs j p (rw (length-mergedAt (removed cs j) i (class_at cs j)) at h)));
+  only = only-by cs a b (merged_at (removed cs j) i (class_at cs j)) (λ x p. among x (class_at (removed cs j) p).members ≡ true)
+      (λ x p h m. from x p (rw (length-merged_at (removed cs j) i (class_at cs j)) at h) m)
+      (λ x y p h m n. both x y p m n (removed-from cs j p (rw (length-merged_at (removed cs j) i (class_at cs j)) at h)));
 }
   where
     low : i < length (removed cs j)
@@ -302,10 +302,10 @@ joined-joins cs o a b i j l k ha hb = record {
     same : class_at (removed cs j) i ≡ class_at cs i
     same = removed-other cs j i (omega arith) (λ e. omega arith)
 
-    stays_at : (x y : ℕ) (t : Together cs x y) → Dec (t.place ≡ j) → Together (mergedAt (removed cs j) i (class_at cs j)) x y
+    stays_at : (x y : ℕ) (t : Together cs x y) → Dec (t.place ≡ j) → Together (merged_at (removed cs j) i (class_at cs j)) x y
     stays_at x y t (yes q) = record {
       place = i;
-      below = rw (length-mergedAt (removed cs j) i (class_at cs j)) low;
+      below = rw (length-merged_at (removed cs j) i (class_at cs j)) low;
       left = merged-new (removed cs j) i (class_at cs j) x low (rw q at t.left);
       right = merged-new (removed cs j) i (class_at cs j) y low (rw q at t.right);
     }
@@ -313,7 +313,7 @@ joined-joins cs o a b i j l k ha hb = record {
         let r = removed-to cs j t.place k t.below n in
         record {
           place = r.0;
-          below = rw (length-mergedAt (removed cs j) i (class_at cs j)) r.1;
+          below = rw (length-merged_at (removed cs j) i (class_at cs j)) r.1;
           left = merged-old (removed cs j) i (class_at cs j) x r.0 r.1 (rw r.2 t.left);
           right = merged-old (removed cs j) i (class_at cs j) y r.0 r.1 (rw r.2 t.right);
         }
@@ -326,12 +326,12 @@ joined-joins cs o a b i j l k ha hb = record {
     near y (inl m) = inl (with_at cs o a y i (omega arith) ha (rw same at m))
     near y (inr m) = inr (with_at cs o b y j k hb m.1)
 
-    from : (x p : ℕ) → p < length (removed cs j) → among x (class_at (mergedAt (removed cs j) i (class_at cs j)) p).members ≡ true
-        → (among x (class_at (removed cs j) p).members ≡ true) ⊎ ((y : ℕ) → among y (class_at (mergedAt (removed cs j) i (class_at cs j)) p).members ≡ true → With cs a y ⊎ With cs b y)
+    from : (x p : ℕ) → p < length (removed cs j) → among x (class_at (merged_at (removed cs j) i (class_at cs j)) p).members ≡ true
+        → (among x (class_at (removed cs j) p).members ≡ true) ⊎ ((y : ℕ) → among y (class_at (merged_at (removed cs j) i (class_at cs j)) p).members ≡ true → With cs a y ⊎ With cs b y)
     from x p h m = at (merged-from (removed cs j) i (class_at cs j) x p h m)
       where
         at : (among x (class_at (removed cs j) p).members ≡ true) ⊎ ((p ≡ i) × (among x (class_at cs j).members ≡ true))
-            → (among x (class_at (removed cs j) p).members ≡ true) ⊎ ((y : ℕ) → among y (class_at (mergedAt (removed cs j) i (class_at cs j)) p).members ≡ true → With cs a y ⊎ With cs b y)
+            → (among x (class_at (removed cs j) p).members ≡ true) ⊎ ((y : ℕ) → among y (class_at (merged_at (removed cs j) i (class_at cs j)) p).members ≡ true → With cs a y ⊎ With cs b y)
         at (inl q) = inl q
         at (inr q) = inr (λ y n. near y (merged-from (removed cs j) i (class_at cs j) y i low (rw q.0 at n)))
 
@@ -345,10 +345,10 @@ unfolding joined
 some-joins cs o a b i j p q = go (eqb i j) refl (dec_lt i j)
   where
     f : (i < length cs) × (among a (class_at cs i).members ≡ true)
-    f = classOf-some cs a i p
+    f = class_of-some cs a i p
 
     g : (j < length cs) × (among b (class_at cs j).members ≡ true)
-    g = classOf-some cs b j q
+    g = class_of-some cs b j q
 
     go : (t : Bool) → eqb i j ≡ t → Dec (i < j) → Joins cs a b (if t then cs else joined cs i j)
     go true e d = same-joins cs o a b (record { place = i; below = f.0; left = f.1; right = rw (eqb-true i j e) g.1 })
@@ -360,43 +360,43 @@ some-joins cs o a b i j p q = go (eqb i j) refl (dec_lt i j)
         let n = eqb-false i j e in
         let h : max i j ≡ i = omega arith in
         let k : min i j ≡ j = omega arith in
-        rw (h, k) (joins-back cs a b (mergedAt (removed cs i) j (class_at cs i)) (joined-joins cs o b a j i (omega arith) f.0 g.1 f.1))
+        rw (h, k) (joins-back cs a b (merged_at (removed cs i) j (class_at cs i)) (joined-joins cs o b a j i (omega arith) f.0 g.1 f.1))
 
 -- an equal condition puts its two expressions together
-pub condition-joins : (ns : List Node) (cs : List Class) → Once cs → (a b : ℕ) → Joins cs a b (equalCondition ns cs a b).1
-unfolding equalCondition equated
-condition-joins ns cs o a b = go (class_of cs a) (class_of cs b) refl refl
+pub condition_joins : (ns : List Node) (cs : List Class) → Once cs → (a b : ℕ) → Joins cs a b (equal_condition ns cs a b).1
+unfolding equal_condition equated
+condition_joins ns cs o a b = go (class_of cs a) (class_of cs b) refl refl
   where
     go : (p q : Option ℕ) → class_of cs a ≡ p → class_of cs b ≡ q → Joins cs a b (equated ns cs a b p q).1
-    go none none p q = new-joins ns cs o a b (classOf-none cs a p) (classOf-none cs b q)
-    go none (some j) p q = let g = classOf-some cs b j q in pushed-joins ns cs o a b j (classOf-none cs a p) g.0 g.1
+    go none none p q = new-joins ns cs o a b (class_of-none cs a p) (class_of-none cs b q)
+    go none (some j) p q = let g = class_of-some cs b j q in pushed-joins ns cs o a b j (class_of-none cs a p) g.0 g.1
     go (some i) none p q =
-        let f = classOf-some cs a i p in
-        joins-back cs a b (mergedAt cs i (single ns b)) (pushed-joins ns cs o b a i (classOf-none cs b q) f.0 f.1)
+        let f = class_of-some cs a i p in
+        joins-back cs a b (merged_at cs i (single ns b)) (pushed-joins ns cs o b a i (class_of-none cs b q) f.0 f.1)
     go (some i) (some j) p q = some-joins cs o a b i j p q
 
 -- the same in the words of who is with whom
-pub condition-step : (ns : List Node) (cs : List Class) → Distinct (flat cs) → (a b : ℕ) → Step cs a b (equalCondition ns cs a b).1
-condition-step ns cs d a b =
-    joins-step cs (distinct-once cs d) a b (equalCondition ns cs a b).1 (condition-joins ns cs (distinct-once cs d) a b)
+pub condition_step : (ns : List Node) (cs : List Class) → Distinct (flat cs) → (a b : ℕ) → Step cs a b (equal_condition ns cs a b).1
+condition_step ns cs d a b =
+    joins-step cs (distinct-once cs d) a b (equal_condition ns cs a b).1 (condition_joins ns cs (distinct-once cs d) a b)
 
 -- no number is a member twice afterwards
-pub condition-distinct : (ns : List Node) (cs : List Class) → Distinct (flat cs) → (a b : ℕ) → Distinct (flat (equalCondition ns cs a b).1)
-condition-distinct ns cs d a b = once-distinct (equalCondition ns cs a b).1 (condition-joins ns cs (distinct-once cs d) a b).once
+pub condition_distinct : (ns : List Node) (cs : List Class) → Distinct (flat cs) → (a b : ℕ) → Distinct (flat (equal_condition ns cs a b).1)
+condition_distinct ns cs d a b = once-distinct (equal_condition ns cs a b).1 (condition_joins ns cs (distinct-once cs d) a b).once
 
 -- afterwards the two are together, also where they are one expression
-pub condition-together : (ns : List Node) (cs : List Class) → Distinct (flat cs) → (a b : ℕ) → sameClass (equalCondition ns cs a b).1 a b ≡ true
-condition-together ns cs d a b =
-    let j = condition-joins ns cs (distinct-once cs d) a b in
-    together-same (equalCondition ns cs a b).1 j.once a b j.joins
+pub condition_together : (ns : List Node) (cs : List Class) → Distinct (flat cs) → (a b : ℕ) → same_class (equal_condition ns cs a b).1 a b ≡ true
+condition_together ns cs d a b =
+    let j = condition_joins ns cs (distinct-once cs d) a b in
+    together_same (equal_condition ns cs a b).1 j.once a b j.joins
 
 -- two that are together already: nothing, false
-pub already : (ns : List Node) (cs : List Class) (a b : ℕ) → sameClass cs a b ≡ true → equalCondition ns cs a b ≡ (false, cs)
-unfolding equalCondition equated sameClass
+pub already : (ns : List Node) (cs : List Class) (a b : ℕ) → same_class cs a b ≡ true → equal_condition ns cs a b ≡ (false, cs)
+unfolding equal_condition equated same_class
 already ns cs a b h = go (class_of cs a) (class_of cs b) refl refl
   where
     go : (p q : Option ℕ) → class_of cs a ≡ p → class_of cs b ≡ q → equated ns cs a b p q ≡ (false, cs)
-    go none none p q = absurd (true-not-false (rw (p, q) at h) refl)
-    go none (some j) p q = absurd (true-not-false (rw (p, q) at h) refl)
-    go (some i) none p q = absurd (true-not-false (rw (p, q) at h) refl)
+    go none none p q = absurd (true_not_false (rw (p, q) at h) refl)
+    go none (some j) p q = absurd (true_not_false (rw (p, q) at h) refl)
+    go (some i) none p q = absurd (true_not_false (rw (p, q) at h) refl)
     go (some i) (some j) p q = let e : eqb i j ≡ true = rw (p, q) at h in rw e

@@ -12,21 +12,21 @@ use Rattle.laws.specs.Tests.{if◌then◌else◌}
 use Rattle.laws.proofs.Booleans.{and_left, and_right, and_both}
 use Rattle.arena.specs.Node.{Node}
 use Rattle.classes.specs.Class.{Class}
-use Rattle.classes.specs.Group.{total, equalCondition}
+use Rattle.classes.specs.Group.{total, equal_condition}
 use Rattle.classes.specs.Steps.{Outcome, refused, fits, judged}
-use Rattle.conditions.specs.Steps.{addEqual, outcomes, after}
+use Rattle.conditions.specs.Steps.{add_equal, outcomes, after}
 
 -- past the end the number is that of the default
-number-default : (os : List Outcome) (i : ℕ) (d e : Outcome) → d.number ≡ e.number → (get_or os i d).number ≡ (get_or os i e).number
-number-default [] i d e h = h
-number-default (o ∷ os) zero d e h = refl
-number-default (o ∷ os) (suc i) d e h = number-default os i d e h
+number_default : (os : List Outcome) (i : ℕ) (d e : Outcome) → d.number ≡ e.number → (get_or os i d).number ≡ (get_or os i e).number
+number_default [] i d e h = h
+number_default (o ∷ os) zero d e h = refl
+number_default (o ∷ os) (suc i) d e h = number_default os i d e h
 
 -- as many outcomes as pairs
 pub length-outcomes : (l : ℕ) (ns : List Node) (cs : List Class) (ps : List (ℕ × ℕ)) → length (outcomes l ns cs ps) ≡ length ps
 unfolding outcomes
 length-outcomes l ns cs [] = refl
-length-outcomes l ns cs (p ∷ ps) = ap suc (length-outcomes l ns (addEqual l ns p.0 p.1 cs).classes ps)
+length-outcomes l ns cs (p ∷ ps) = ap suc (length-outcomes l ns (add_equal l ns p.0 p.1 cs).classes ps)
 
 -- the first k pairs are accepted
 abbrev pub FirstAccepted : ℕ → List Node → List Class → List (ℕ × ℕ) → ℕ → Type 0
@@ -34,16 +34,16 @@ FirstAccepted l ns cs ps k = (i : ℕ) → i < k → i < length ps → (get_or (
 
 -- then so is the first, and after it the first of the others
 accepted-head : (l : ℕ) (ns : List Node) (cs : List Class) (p : ℕ × ℕ) (ps : List (ℕ × ℕ)) (k : ℕ)
-    → FirstAccepted l ns cs (p ∷ ps) (suc k) → (addEqual l ns p.0 p.1 cs).number ≡ 0
+    → FirstAccepted l ns cs (p ∷ ps) (suc k) → (add_equal l ns p.0 p.1 cs).number ≡ 0
 unfolding outcomes
 accepted-head l ns cs p ps k h = h 0 (omega arith) (omega arith)
 
 accepted-tail : (l : ℕ) (ns : List Node) (cs : List Class) (p : ℕ × ℕ) (ps : List (ℕ × ℕ)) (k : ℕ)
-    → FirstAccepted l ns cs (p ∷ ps) (suc k) → FirstAccepted l ns (addEqual l ns p.0 p.1 cs).classes ps k
+    → FirstAccepted l ns cs (p ∷ ps) (suc k) → FirstAccepted l ns (add_equal l ns p.0 p.1 cs).classes ps k
 unfolding outcomes refused
 accepted-tail l ns cs p ps k h i a b =
-    let ds = (addEqual l ns p.0 p.1 cs).classes in
-    number-default (outcomes l ns ds ps) i (refused 0 ds) (refused 0 cs) refl ∙ h (suc i) (omega arith) (omega arith)
+    let ds = (add_equal l ns p.0 p.1 cs).classes in
+    number_default (outcomes l ns ds ps) i (refused 0 ds) (refused 0 cs) refl ∙ h (suc i) (omega arith) (omega arith)
 
 module _ (l m : ℕ) (le : l ≤ m) where
   -- what is within the smaller limit is within the larger
@@ -63,13 +63,13 @@ module _ (l m : ℕ) (le : l ≤ m) where
       go false q = absurd (omega (arith, rw q at h))
 
   -- an equal condition that the smaller limit accepts comes to the same
-  pub add-more : (ns : List Node) (a b : ℕ) (cs : List Class) → (addEqual l ns a b cs).number ≡ 0 → addEqual m ns a b cs ≡ addEqual l ns a b cs
-  unfolding addEqual
+  pub add-more : (ns : List Node) (a b : ℕ) (cs : List Class) → (add_equal l ns a b cs).number ≡ 0 → add_equal m ns a b cs ≡ add_equal l ns a b cs
+  unfolding add_equal
   add-more ns a b cs h = go (ltb a (length ns) && ltb b (length ns)) refl
     where
       go : (t : Bool) → (ltb a (length ns) && ltb b (length ns)) ≡ t
-          → (if t then judged m cs (equalCondition ns cs a b) else refused 1 cs) ≡ (if t then judged l cs (equalCondition ns cs a b) else refused 1 cs)
-      go true q = judged-more cs (equalCondition ns cs a b) (rw q at h)
+          → (if t then judged m cs (equal_condition ns cs a b) else refused 1 cs) ≡ (if t then judged l cs (equal_condition ns cs a b) else refused 1 cs)
+      go true q = judged-more cs (equal_condition ns cs a b) (rw q at h)
       go false q = refl
 
   -- the first k outcomes are the same where the smaller limit accepts the first k
@@ -78,7 +78,7 @@ module _ (l m : ℕ) (le : l ≤ m) where
   limit-more-first ns cs [] k h = refl
   limit-more-first ns cs (p ∷ ps) zero h = refl
   limit-more-first ns cs (p ∷ ps) (suc k) h =
-      let o = addEqual l ns p.0 p.1 cs in
+      let o = add_equal l ns p.0 p.1 cs in
       rw (add-more ns p.0 p.1 cs (accepted-head l ns cs p ps k h))
       (ap {B = List Outcome} (λ r. o ∷ r) (limit-more-first ns o.classes ps k (accepted-tail l ns cs p ps k h)))
 
@@ -90,7 +90,7 @@ module _ (l m : ℕ) (le : l ≤ m) where
   limit-more-after ns cs (p ∷ ps) zero h = refl
   limit-more-after ns cs (p ∷ ps) (suc k) h =
       ap (λ (o : Outcome). after m ns o.classes (take k ps)) (add-more ns p.0 p.1 cs (accepted-head l ns cs p ps k h))
-      ∙ limit-more-after ns (addEqual l ns p.0 p.1 cs).classes ps k (accepted-tail l ns cs p ps k h)
+      ∙ limit-more-after ns (add_equal l ns p.0 p.1 cs).classes ps k (accepted-tail l ns cs p ps k h)
 
   -- a sequence that the smaller limit accepts whole comes to the same
   pub limit-more : (ns : List Node) (cs : List Class) (ps : List (ℕ × ℕ))

@@ -12,22 +12,22 @@ use Rattle.laws.specs.Tests.{if◌then◌else◌}
 use Rattle.laws.proofs.Booleans.{and_left, and_right}
 use Rattle.arena.specs.Node.{Node}
 use Rattle.arena.specs.Layout.{lawful, decode as nodes}
-use Rattle.classes.specs.Class.{Constant, noConstant, Class}
-use Rattle.classes.specs.Group.{class_at, total, length_removed, equalCondition, withConstant}
+use Rattle.classes.specs.Class.{Constant, no_constant, Class}
+use Rattle.classes.specs.Group.{class_at, total, length_removed, equal_condition, with_constant}
 use Rattle.classes.specs.Good.{Good}
 use Rattle.classes.specs.Steps.{Outcome, fits}
-use Rattle.classes.specs.Layout.{encode, decode, constantFrom}
-use Rattle.classes.specs.Calls.{groupNumber, changed, onGroup}
+use Rattle.classes.specs.Layout.{encode, decode, constant_from}
+use Rattle.classes.specs.Calls.{group_number, changed, on_group}
 use Rattle.group_checks.specs.Calls.{opened}
 use Rattle.classes.specs.declared.Group.{Group}
 use Rattle.classes.specs.declared.Changed.{Changed}
 use Rattle.classes.proofs.Places.{total-same, total-removed}
 use Rattle.group_checks.proofs.HeldLaws.{number-lawful, Fit, number-fit, number-held, held_number}
-use Rattle.classes.proofs.Judging.{handedBack}
-use Rattle.conditions.specs.Steps.{addEqual, addConstant, clear}
-use Rattle.conditions.specs.Calls.{sayable, onConstant}
-use Rattle.demands.proofs.Answers.{addEqual-holds, addConstant-holds, addEqual-keeps, addConstant-keeps}
-use Rattle.demands.proofs.GoodKept.{clear-keeps, heterogeneous-below, condition-good, constant-good, clear-call-good, empty-good}
+use Rattle.classes.proofs.Judging.{handed_back}
+use Rattle.conditions.specs.Steps.{add_equal, add_constant, clear}
+use Rattle.conditions.specs.Calls.{sayable, on_constant}
+use Rattle.demands.proofs.Answers.{add_equal-holds, add_constant-holds, add_equal-keeps, add_constant-keeps}
+use Rattle.demands.proofs.GoodKept.{clear-keeps, heterogeneous-below, condition_good, constant-good, clear-call-good, empty-good}
 
 -- from classes that are a group, a step to good ones that fit
 fit-step : (ns : List Node) (l : ℕ) (cs ds : List Class) → Fit ns l cs → Good ns ds → fits l ds ≡ true → Fit ns l ds
@@ -45,73 +45,73 @@ clear-fewer : (l n : ℕ) (cs : List Class) → (total cs ≤ l) × (length cs �
 unfolding clear
 clear-fewer l n cs w =
     clear-keeps (λ (ds : List Class). (total ds ≤ l) × (length ds ≤ n))
-    (λ ds i h p. (omega (arith, total-same ds i noConstant, p.0), omega (arith, length-set ds i (record { members = (class_at ds i).members; constant = noConstant }), p.1)))
+    (λ ds i h p. (omega (arith, total-same ds i no_constant, p.0), omega (arith, length-set ds i (record { members = (class_at ds i).members; constant = no_constant }), p.1)))
     (λ ds i h p. (omega (arith, total-removed ds i (heterogeneous-below ds i h), p.0), omega (arith, length_removed ds i, p.1)))
     cs w
 
 module _ (cells : List ℕ) (g : Group) where
   -- where the classes of a call's outcome are good and within the limits, the group that it hands back is valid
-  valid-outcome : (call : List Node → List Class → Outcome) → ((ns : List Node) (cs : List Class) → Fit ns g.limit cs → Fit ns g.limit (call ns cs).classes)
-      → groupNumber cells g ≡ 0 → groupNumber cells (onGroup call cells g).group ≡ 0
-  unfolding onGroup changed
-  valid-outcome call k e = go (eqb (groupNumber cells g) 0)
+  valid_outcome : (call : List Node → List Class → Outcome) → ((ns : List Node) (cs : List Class) → Fit ns g.limit cs → Fit ns g.limit (call ns cs).classes)
+      → group_number cells g ≡ 0 → group_number cells (on_group call cells g).group ≡ 0
+  unfolding on_group changed
+  valid_outcome call k e = go (eqb (group_number cells g) 0)
     where
-      go : (b : Bool) → groupNumber cells (if b then changed g.limit (call (nodes cells) (decode g)) else handedBack (groupNumber cells g) g).group ≡ 0
+      go : (b : Bool) → group_number cells (if b then changed g.limit (call (nodes cells) (decode g)) else handed_back (group_number cells g) g).group ≡ 0
       go true = held_number cells (number-lawful cells g e) g.limit (call (nodes cells) (decode g)).classes (k (nodes cells) (decode g) (number-fit cells g e))
       go false = e
 
   -- an equal condition
-  pub valid-equal : (a b : ℕ) → groupNumber cells g ≡ 0 → groupNumber cells (onGroup (λ ns cs. addEqual g.limit ns a b cs) cells g).group ≡ 0
-  valid-equal a b =
-      valid-outcome (λ ns cs. addEqual g.limit ns a b cs)
-      (λ ns cs f. addEqual-holds (λ (ds : List Class). Fit ns g.limit ds) g.limit cs f ns a b
-      (λ la lb q. fit-step ns g.limit cs (equalCondition ns cs a b).1 f (condition-good ns cs a b f.good la lb) q))
+  pub valid_equal : (a b : ℕ) → group_number cells g ≡ 0 → group_number cells (on_group (λ ns cs. add_equal g.limit ns a b cs) cells g).group ≡ 0
+  valid_equal a b =
+      valid_outcome (λ ns cs. add_equal g.limit ns a b cs)
+      (λ ns cs f. add_equal-holds (λ (ds : List Class). Fit ns g.limit ds) g.limit cs f ns a b
+      (λ la lb q. fit-step ns g.limit cs (equal_condition ns cs a b).1 f (condition_good ns cs a b f.good la lb) q))
 
   -- a constant
-  pub valid-constant : (e flavour value : ℕ) → groupNumber cells g ≡ 0 → groupNumber cells (onConstant e flavour value cells g).group ≡ 0
-  unfolding onConstant
-  valid-constant e flavour value z = go (sayable flavour value)
+  pub valid_constant : (e flavour value : ℕ) → group_number cells g ≡ 0 → group_number cells (on_constant e flavour value cells g).group ≡ 0
+  unfolding on_constant
+  valid_constant e flavour value z = go (sayable flavour value)
     where
       said : Constant
-      said = constantFrom (flavour + 1) value
+      said = constant_from (flavour + 1) value
 
       call : List Node → List Class → Outcome
-      call ns cs = addConstant true g.limit ns e said cs
+      call ns cs = add_constant true g.limit ns e said cs
 
-      go : (b : Bool) → groupNumber cells (if b then onGroup call cells g else handedBack 12 g).group ≡ 0
+      go : (b : Bool) → group_number cells (if b then on_group call cells g else handed_back 12 g).group ≡ 0
       go true =
-          valid-outcome call
-          (λ ns cs f. addConstant-holds (λ (ds : List Class). Fit ns g.limit ds) g.limit cs f true ns e said
-          (λ l q. fit-step ns g.limit cs (withConstant true ns cs e said) f (constant-good true ns cs e f.good l said) q)) z
+          valid_outcome call
+          (λ ns cs f. add_constant-holds (λ (ds : List Class). Fit ns g.limit ds) g.limit cs f true ns e said
+          (λ l q. fit-step ns g.limit cs (with_constant true ns cs e said) f (constant-good true ns cs e f.good l said) q)) z
       go false = z
 
   -- clearing
-  pub valid-clear : groupNumber cells g ≡ 0 → groupNumber cells (onGroup (λ ns cs. clear cs) cells g).group ≡ 0
-  valid-clear =
-      valid-outcome (λ ns cs. clear cs)
+  pub valid_clear : group_number cells g ≡ 0 → group_number cells (on_group (λ ns cs. clear cs) cells g).group ≡ 0
+  valid_clear =
+      valid_outcome (λ ns cs. clear cs)
       (λ ns cs f. let w = clear-fewer g.limit 64 cs (f.within, f.few) in record { low = f.low; high = f.high; few = w.1; within = w.0; good = clear-call-good ns cs f.good })
 
 -- what opening comes to, by whether the limit is from 1 to 256
-abbrev openedBy : ℕ → Bool → Changed
-openedBy limit b = if b then record { number = 0; answer = true; group = encode limit [] } else handedBack 12 (encode 0 [])
+abbrev opened_by : ℕ → Bool → Changed
+opened_by limit b = if b then record { number = 0; answer = true; group = encode limit [] } else handed_back 12 (encode 0 [])
 
 -- a group that was opened is valid beside every arena
-pub valid-opened : (cells : List ℕ) → lawful cells ≡ true → (limit : ℕ) → (opened limit).number ≡ 0 → groupNumber cells (opened limit).group ≡ 0
+pub valid_opened : (cells : List ℕ) → lawful cells ≡ true → (limit : ℕ) → (opened limit).number ≡ 0 → group_number cells (opened limit).group ≡ 0
 unfolding opened total
-valid-opened cells w limit = go (ltb 0 limit && leb limit 256) refl
+valid_opened cells w limit = go (ltb 0 limit && leb limit 256) refl
   where
-    go : (b : Bool) → (ltb 0 limit && leb limit 256) ≡ b → (openedBy limit b).number ≡ 0 → groupNumber cells (openedBy limit b).group ≡ 0
+    go : (b : Bool) → (ltb 0 limit && leb limit 256) ≡ b → (opened_by limit b).number ≡ 0 → group_number cells (opened_by limit b).group ≡ 0
     go true q z =
         held_number cells w limit []
         (record { low = ltb-true 0 limit (and_left (ltb 0 limit) (leb limit 256) q); high = leb-true limit 256 (and_right (ltb 0 limit) (leb limit 256) q); few = omega arith; within = omega arith; good = empty-good (nodes cells) })
     go false q z = absurd (omega arith)
 
 -- a limit that is refused opens no group
-pub refusal-opens-none : (limit : ℕ) → ((opened limit).number ≡ 0 → ⊥) → (opened limit).group ≡ encode 0 []
+pub refusal_opens_none : (limit : ℕ) → ((opened limit).number ≡ 0 → ⊥) → (opened limit).group ≡ encode 0 []
 unfolding opened
-refusal-opens-none limit = go (ltb 0 limit && leb limit 256)
+refusal_opens_none limit = go (ltb 0 limit && leb limit 256)
   where
-    go : (b : Bool) → ((openedBy limit b).number ≡ 0 → ⊥) → (openedBy limit b).group ≡ encode 0 []
+    go : (b : Bool) → ((opened_by limit b).number ≡ 0 → ⊥) → (opened_by limit b).group ≡ encode 0 []
     go true z = absurd (z refl)
     go false z = refl
 
@@ -125,47 +125,47 @@ pub record Tables (g : Group) : Type 0 where
 module _ (cells : List ℕ) (g : Group) where
   -- a call on a lent group that is refused hands it back, where its outcome does
   refusal-keeps : (call : List Node → List Class → Outcome)
-      → (groupNumber cells g ≡ 0 → ((call (nodes cells) (decode g)).number ≡ 0 → ⊥) → encode g.limit (call (nodes cells) (decode g)).classes ≡ g)
-      → ((onGroup call cells g).number ≡ 0 → ⊥) → (onGroup call cells g).group ≡ g
-  unfolding onGroup changed
-  refusal-keeps call k = go (eqb (groupNumber cells g) 0) refl
+      → (group_number cells g ≡ 0 → ((call (nodes cells) (decode g)).number ≡ 0 → ⊥) → encode g.limit (call (nodes cells) (decode g)).classes ≡ g)
+      → ((on_group call cells g).number ≡ 0 → ⊥) → (on_group call cells g).group ≡ g
+  unfolding on_group changed
+  refusal-keeps call k = go (eqb (group_number cells g) 0) refl
     where
       out : Bool → Changed
-      out b = if b then changed g.limit (call (nodes cells) (decode g)) else handedBack (groupNumber cells g) g
+      out b = if b then changed g.limit (call (nodes cells) (decode g)) else handed_back (group_number cells g) g
 
-      go : (b : Bool) → eqb (groupNumber cells g) 0 ≡ b → ((out b).number ≡ 0 → ⊥) → (out b).group ≡ g
-      go true q z = k (eqb-true (groupNumber cells g) 0 q) z
+      go : (b : Bool) → eqb (group_number cells g) 0 ≡ b → ((out b).number ≡ 0 → ⊥) → (out b).group ≡ g
+      go true q z = k (eqb-true (group_number cells g) 0 q) z
       go false q z = refl
 
   -- clearing
-  pub refusal-keeps-clear : ((onGroup (λ ns cs. clear cs) cells g).number ≡ 0 → ⊥) → (onGroup (λ ns cs. clear cs) cells g).group ≡ g
+  pub refusal-keeps-clear : ((on_group (λ ns cs. clear cs) cells g).number ≡ 0 → ⊥) → (on_group (λ ns cs. clear cs) cells g).group ≡ g
   unfolding clear
   refusal-keeps-clear = refusal-keeps (λ ns cs. clear cs) (λ e z. absurd (z refl))
 
   module _ (t : Tables g) where
     -- a valid group is the layout of its classes
-    coded : groupNumber cells g ≡ 0 → encode g.limit (decode g) ≡ g
+    coded : group_number cells g ≡ 0 → encode g.limit (decode g) ≡ g
     coded e = (number-held cells g t.sizes t.flavours t.values t.members e).coded.coded
 
     -- an equal condition
-    pub refusal-keeps-equal : (a b : ℕ) → let r : Changed = onGroup (λ ns cs. addEqual g.limit ns a b cs) cells g in (r.number ≡ 0 → ⊥) → r.group ≡ g
+    pub refusal-keeps-equal : (a b : ℕ) → let r : Changed = on_group (λ ns cs. add_equal g.limit ns a b cs) cells g in (r.number ≡ 0 → ⊥) → r.group ≡ g
     refusal-keeps-equal a b =
-        refusal-keeps (λ ns cs. addEqual g.limit ns a b cs)
-        (λ e z. ap (encode g.limit) (addEqual-keeps g.limit (nodes cells) a b (decode g) z) ∙ coded e)
+        refusal-keeps (λ ns cs. add_equal g.limit ns a b cs)
+        (λ e z. ap (encode g.limit) (add_equal-keeps g.limit (nodes cells) a b (decode g) z) ∙ coded e)
 
     -- a constant
-    pub refusal-keeps-constant : (e flavour value : ℕ) → ((onConstant e flavour value cells g).number ≡ 0 → ⊥) → (onConstant e flavour value cells g).group ≡ g
-    unfolding onConstant
+    pub refusal-keeps-constant : (e flavour value : ℕ) → ((on_constant e flavour value cells g).number ≡ 0 → ⊥) → (on_constant e flavour value cells g).group ≡ g
+    unfolding on_constant
     refusal-keeps-constant e flavour value = go (sayable flavour value)
       where
         said : Constant
-        said = constantFrom (flavour + 1) value
+        said = constant_from (flavour + 1) value
 
         out : Bool → Changed
-        out b = if b then onGroup (λ ns cs. addConstant true g.limit ns e said cs) cells g else handedBack 12 g
+        out b = if b then on_group (λ ns cs. add_constant true g.limit ns e said cs) cells g else handed_back 12 g
 
         go : (b : Bool) → ((out b).number ≡ 0 → ⊥) → (out b).group ≡ g
         go true =
-            refusal-keeps (λ ns cs. addConstant true g.limit ns e said cs)
-            (λ n z. ap (encode g.limit) (addConstant-keeps true g.limit (nodes cells) e said (decode g) z) ∙ coded n)
+            refusal-keeps (λ ns cs. add_constant true g.limit ns e said cs)
+            (λ n z. ap (encode g.limit) (add_constant-keeps true g.limit (nodes cells) e said (decode g) z) ∙ coded n)
         go false = λ z. refl

@@ -14,11 +14,11 @@ use Rattle.laws.proofs.Booleans.{and_left, and_right}
 use Rattle.laws.proofs.Each.{each_holds}
 use Rattle.arena.specs.Layout.{count, lawful}
 use Rattle.classes.specs.Layout.{fresh}
-use Rattle.orderings.specs.Ordering.{exprOf}
+use Rattle.orderings.specs.Ordering.{expr_of}
 use Rattle.orderings.proofs.Codec.{get_d_any}
 use Rattle.orderings.proofs.ListChecks.{four}
-use Rattle.dependencies.specs.Layout.{unused, place_in, restUnused, lawfulEntry, unusedEntry, freshKey, lawfulMap, entryInside, keysInside}
-use Rattle.dependencies.specs.Calls.{mapNumber}
+use Rattle.dependencies.specs.Layout.{unused, place_in, rest_unused, lawful_entry, unused_entry, fresh_key, lawful_map, entry_inside, keys_inside}
+use Rattle.dependencies.specs.Calls.{map_number}
 use Rattle.dependencies.specs.declared.DependencyNode.{DependencyNode}
 use Rattle.dependencies.specs.declared.DependencyMap.{DependencyMap}
 use Rattle.dependencies.specs.contracts.DependencyNode.{the_field}
@@ -29,15 +29,15 @@ pub sized : (m : DependencyMap) (vs : List Val) → Is the_row m vs → length m
 sized m vs p = sym (length-map m.list the_field.into) ∙ p.1.1.1.0.1.0.1
 
 -- what the code reads past the end
-abbrev pub noPlace : DependencyNode
-noPlace = record { key = 0; projected = false; target = 0; size = 0; dependencies = [] }
+abbrev pub no_place : DependencyNode
+no_place = record { key = 0; projected = false; target = 0; size = 0; dependencies = [] }
 
 -- what the code reads at a place is what stands there
-pub read_is : (m : DependencyMap) → length m.list ≡ 64 → (i : ℕ) → i < 64 → get_or m.list i noPlace ≡ place_in m i
-read_is m z i l = get_d_any m.list i noPlace unused (omega arith)
+pub read_is : (m : DependencyMap) → length m.list ≡ 64 → (i : ℕ) → i < 64 → get_or m.list i no_place ≡ place_in m i
+read_is m z i l = get_d_any m.list i no_place unused (omega arith)
 
 -- so a test of what it reads is a test of the place
-pub at_place : (f : DependencyNode → Bool) (b : Bool) (m : DependencyMap) → length m.list ≡ 64 → (i : ℕ) → i < 64 → f (get_or m.list i noPlace) ≡ b → f (place_in m i) ≡ b
+pub at_place : (f : DependencyNode → Bool) (b : Bool) (m : DependencyMap) → length m.list ≡ 64 → (i : ℕ) → i < 64 → f (get_or m.list i no_place) ≡ b → f (place_in m i) ≡ b
 at_place f b m z i l e = subst (λ (r : DependencyNode). f r ≡ b) (read_is m z i l) e
 
 -- the tests of a place for dependencies
@@ -51,20 +51,20 @@ abbrev pub Unused : DependencyNode → ℕ → Bool
 Unused r k = eqb (get_or r.dependencies (r.size + k) 0) 0
 
 abbrev pub Below : DependencyNode → ℕ → ℕ → Bool
-Below r n k = ltb (exprOf (get_or r.dependencies k 0)) n
+Below r n k = ltb (expr_of (get_or r.dependencies k 0)) n
 
 -- the tests of a place for entries
 abbrev pub LawfulAt : DependencyMap → ℕ → Bool
-LawfulAt m i = lawfulEntry (place_in m i)
+LawfulAt m i = lawful_entry (place_in m i)
 
 abbrev pub FreshAt : DependencyMap → ℕ → Bool
-FreshAt m i = freshKey m i
+FreshAt m i = fresh_key m i
 
 abbrev pub UnusedAt : DependencyMap → ℕ → Bool
-UnusedAt m i = unusedEntry (place_in m (m.count + i))
+UnusedAt m i = unused_entry (place_in m (m.count + i))
 
 abbrev pub InsideAt : ℕ → DependencyMap → ℕ → Bool
-InsideAt n m i = entryInside n (place_in m i)
+InsideAt n m i = entry_inside n (place_in m i)
 
 -- the key at place i is not the one at place k
 abbrev pub Unlike : DependencyMap → ℕ → ℕ → Bool
@@ -72,35 +72,35 @@ Unlike m k i = not (eqb (place_in m i).key (place_in m k).key)
 
 -- from the keys that the code reads
 module _ (m : DependencyMap) (z : length m.list ≡ 64) (k i : ℕ) (a : k < 64) (b : i < 64) where
-  pub like-read : (get_or m.list i noPlace).key ≡ (get_or m.list k noPlace).key → Unlike m k i ≡ false
+  pub like-read : (get_or m.list i no_place).key ≡ (get_or m.list k no_place).key → Unlike m k i ≡ false
   like-read e =
       ap not (eq-eqb (place_in m i).key (place_in m k).key (ap (λ (r : DependencyNode). r.key) (sym (read_is m z i b)) ∙ e ∙ ap (λ (r : DependencyNode). r.key) (read_is m z k a)))
 
-  pub unlike-read : ((get_or m.list i noPlace).key ≡ (get_or m.list k noPlace).key → ⊥) → Unlike m k i ≡ true
+  pub unlike-read : ((get_or m.list i no_place).key ≡ (get_or m.list k no_place).key → ⊥) → Unlike m k i ≡ true
   unlike-read n =
       ap not (ne_eqb (place_in m i).key (place_in m k).key (λ e. n (ap (λ (r : DependencyNode). r.key) (read_is m z i b) ∙ e ∙ ap (λ (r : DependencyNode). r.key) (sym (read_is m z k a)))))
 
 -- an entry that passes has at most 16 dependencies
-pub entry-size : (r : DependencyNode) → lawfulEntry r ≡ true → r.size ≤ 16
-unfolding lawfulEntry
-entry-size r e = leb-true r.size 16 (four (leb r.size 16) (each (Fresh r) r.size) (r.projected || eqb r.target 0) (restUnused r) e).0
+pub entry-size : (r : DependencyNode) → lawful_entry r ≡ true → r.size ≤ 16
+unfolding lawful_entry
+entry-size r e = leb-true r.size 16 (four (leb r.size 16) (each (Fresh r) r.size) (r.projected || eqb r.target 0) (rest_unused r) e).0
 
 -- the tests that a map passes
-map-tests : (m : DependencyMap) → lawfulMap m ≡ true
+map-tests : (m : DependencyMap) → lawful_map m ≡ true
     → (leb m.count 64 ≡ true) × (each (LawfulAt m) m.count ≡ true) × (each (FreshAt m) m.count ≡ true) × (each (UnusedAt m) (64 - m.count) ≡ true)
-unfolding lawfulMap
+unfolding lawful_map
 map-tests m e = four (leb m.count 64) (each (LawfulAt m) m.count) (each (FreshAt m) m.count) (each (UnusedAt m) (64 - m.count)) e
 
 -- it has at most 64 entries
-pub lawful-few : (m : DependencyMap) → lawfulMap m ≡ true → m.count ≤ 64
+pub lawful-few : (m : DependencyMap) → lawful_map m ≡ true → m.count ≤ 64
 lawful-few m e = leb-true m.count 64 (map-tests m e).0
 
 -- each of them is lawful
-pub lawful-entries : (m : DependencyMap) → lawfulMap m ≡ true → (i : ℕ) → i < m.count → lawfulEntry (place_in m i) ≡ true
+pub lawful-entries : (m : DependencyMap) → lawful_map m ≡ true → (i : ℕ) → i < m.count → lawful_entry (place_in m i) ≡ true
 lawful-entries m e i l = each_holds (LawfulAt m) m.count i (map-tests m e).1 l
 
 -- so what the code reads there has at most 16 dependencies
-pub read-size : (m : DependencyMap) → length m.list ≡ 64 → lawfulMap m ≡ true → (i : ℕ) → i < m.count → (get_or m.list i noPlace).size ≤ 16
+pub read-size : (m : DependencyMap) → length m.list ≡ 64 → lawful_map m ≡ true → (i : ℕ) → i < m.count → (get_or m.list i no_place).size ≤ 16
 read-size m z e i l =
     let w = lawful-few m e in
     subst (λ (r : DependencyNode). r.size ≤ 16) (sym (read_is m z i (omega arith))) (entry-size (place_in m i) (lawful-entries m e i l))
@@ -111,12 +111,12 @@ passed true b e = refl
 passed false b e = absurd (omega arith)
 
 -- a map that passes over an arena: both are lawful
-both : (cells : List ℕ) (m : DependencyMap) → mapNumber cells m ≡ 0 → (lawful cells && lawfulMap m) ≡ true
-unfolding mapNumber
-both cells m e = passed (lawful cells && lawfulMap m) (keysInside (count cells) m) e
+both : (cells : List ℕ) (m : DependencyMap) → map_number cells m ≡ 0 → (lawful cells && lawful_map m) ≡ true
+unfolding map_number
+both cells m e = passed (lawful cells && lawful_map m) (keys_inside (count cells) m) e
 
-pub number-lawful : (cells : List ℕ) (m : DependencyMap) → mapNumber cells m ≡ 0 → lawfulMap m ≡ true
-number-lawful cells m e = and_right (lawful cells) (lawfulMap m) (both cells m e)
+pub number-lawful : (cells : List ℕ) (m : DependencyMap) → map_number cells m ≡ 0 → lawful_map m ≡ true
+number-lawful cells m e = and_right (lawful cells) (lawful_map m) (both cells m e)
 
-pub number-arena : (cells : List ℕ) (m : DependencyMap) → mapNumber cells m ≡ 0 → lawful cells ≡ true
-number-arena cells m e = and_left (lawful cells) (lawfulMap m) (both cells m e)
+pub number-arena : (cells : List ℕ) (m : DependencyMap) → map_number cells m ≡ 0 → lawful cells ≡ true
+number-arena cells m e = and_left (lawful cells) (lawful_map m) (both cells m e)

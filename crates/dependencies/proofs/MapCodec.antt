@@ -19,11 +19,11 @@ use Rattle.laws.specs.Lists.{table}
 use Rattle.laws.specs.Tests.{if◌then◌else◌, each}
 use Rattle.laws.proofs.Booleans.{and_left, and_right}
 use Rattle.laws.proofs.Each.{each_holds}
-use Rattle.laws.proofs.Table.{length-table, getD-table, table_is}
-use Rattle.orderings.proofs.Codec.{fill-after}
+use Rattle.laws.proofs.Table.{length-table, get_or-table, table_is}
+use Rattle.orderings.proofs.Codec.{fill_after}
 use Rattle.orderings.proofs.ListChecks.{four}
 use Rattle.dependencies.specs.Map.{Dependent, entry_at}
-use Rattle.dependencies.specs.Layout.{isThere, numberOr0, row, entry_of, unused, encode, place_in, decode, restUnused, lawfulEntry, unusedEntry, lawfulMap}
+use Rattle.dependencies.specs.Layout.{is_there, number_or0, row, entry_of, unused, encode, place_in, decode, rest_unused, lawful_entry, unused_entry, lawful_map}
 use Rattle.dependencies.specs.Inner.{Coded, Held}
 use Rattle.dependencies.specs.declared.DependencyNode.{DependencyNode}
 use Rattle.dependencies.specs.declared.DependencyMap.{DependencyMap}
@@ -33,14 +33,14 @@ use Rattle.dependencies.proofs.MapChecks.{sized, Fresh, LawfulAt, FreshAt, Unuse
 
 -- n places with a list's elements and nothing after them are the list filled up
 fill_is : {A : Type 0} (d : A) (n : ℕ) (xs ys : List A) → length xs ≤ n → length ys ≡ n → ((i : ℕ) → i < n → get_or xs i d ≡ get_or ys i d) → xs ++ replicate (n - length xs) d ≡ ys
-fill_is d n xs ys l e h = ext_get_or d (xs ++ replicate (n - length xs) d) ys (whole ∙ sym e) (λ i b. fill-after d xs (n - length xs) i ∙ h i (omega (arith, whole)))
+fill_is d n xs ys l e h = ext_get_or d (xs ++ replicate (n - length xs) d) ys (whole ∙ sym e) (λ i b. fill_after d xs (n - length xs) i ∙ h i (omega (arith, whole)))
   where
     whole : length (xs ++ replicate (n - length xs) d) ≡ n
     whole = omega (arith, length-append xs (replicate (n - length xs) d), length-replicate (n - length xs) d)
 
 -- a list that is filled up, with another element at one of its places
-fill-set : {A : Type 0} (d : A) (n : ℕ) (xs : List A) (i : ℕ) (x : A) → i < length xs → set (xs ++ replicate (n - length xs) d) i x ≡ set xs i x ++ replicate (n - length (set xs i x)) d
-fill-set d n xs i x l = rw (length-set xs i x) (set-append_left xs (replicate (n - length xs) d) i x l)
+fill_set : {A : Type 0} (d : A) (n : ℕ) (xs : List A) (i : ℕ) (x : A) → i < length xs → set (xs ++ replicate (n - length xs) d) i x ≡ set xs i x ++ replicate (n - length (set xs i x)) d
+fill_set d n xs i x l = rw (length-set xs i x) (set-append_left xs (replicate (n - length xs) d) i x l)
 
 -- and with one more
 fill_more : {A : Type 0} (d : A) (n : ℕ) (xs : List A) (x : A) → length xs < n → set (xs ++ replicate (n - length xs) d) (length xs) x ≡ xs ++ (x ∷ []) ++ replicate (n - length (xs ++ (x ∷ []))) d
@@ -67,25 +67,25 @@ dependencies-sized (r ∷ rs) (u ∷ us) p zero l = length_unmapped ℕ r.depend
 dependencies-sized (r ∷ rs) (u ∷ us) p (suc i) l = dependencies-sized rs us p.1 i (omega arith)
 
 -- the struct's type says so
-pub arrays-sized : (m : DependencyMap) (vs : List Val) → Is the_row m vs → Sized m
-arrays-sized m vs p =
+pub arrays_sized : (m : DependencyMap) (vs : List Val) → Is the_row m vs → Sized m
+arrays_sized m vs p =
     let list = p.1.1.1.0 in
     let n = sized m vs p in
     record { places = n; dependencies = λ i l. dependencies-sized m.list list.0 list.1.1 i (omega arith) }
 
 -- a target and its two fields
-target-back : (o : Option ℕ) → (if isThere o then some (numberOr0 o) else none) ≡ o
-unfolding isThere numberOr0
+target-back : (o : Option ℕ) → (if is_there o then some (number_or0 o) else none) ≡ o
+unfolding is_there number_or0
 target-back none = refl
 target-back (some t) = refl
 
-there_back : (b : Bool) (t : ℕ) → isThere (if b then some t else none) ≡ b
-unfolding isThere
+there_back : (b : Bool) (t : ℕ) → is_there (if b then some t else none) ≡ b
+unfolding is_there
 there_back true t = refl
 there_back false t = refl
 
-number-back : (b : Bool) (t : ℕ) → (b || eqb t 0) ≡ true → numberOr0 (if b then some t else none) ≡ t
-unfolding numberOr0
+number-back : (b : Bool) (t : ℕ) → (b || eqb t 0) ≡ true → number_or0 (if b then some t else none) ≡ t
+unfolding number_or0
 number-back true t e = refl
 number-back false t e = sym (eqb-true t 0 e)
 
@@ -97,7 +97,7 @@ entry_row d = λ t. record { key = d.key; target = target-back d.target t; depen
     kept : table (λ k. get_or (d.dependencies ++ replicate (16 - length d.dependencies) 0) k 0) (length d.dependencies) ≡ d.dependencies
     kept =
         sym (table_is (λ k. get_or (d.dependencies ++ replicate (16 - length d.dependencies) 0) k 0) (length d.dependencies) d.dependencies 0 refl
-        (λ k l. sym (fill-after 0 d.dependencies (16 - length d.dependencies) k)))
+        (λ k l. sym (fill_after 0 d.dependencies (16 - length d.dependencies) k)))
 
 -- an entry of at most 16 dependencies is held in its struct
 pub row-coded : (d : Dependent) → length d.dependencies ≤ 16 → Coded (row d)
@@ -112,10 +112,10 @@ module _ (r : DependencyNode) where
 
   dependency-is : (k : ℕ) → k < r.size → get_or (entry_of r).dependencies k 0 ≡ get_or r.dependencies k 0
   unfolding entry_of
-  dependency-is k l = getD-table (λ k. get_or r.dependencies k 0) r.size k 0 l
+  dependency-is k l = get_or-table (λ k. get_or r.dependencies k 0) r.size k 0 l
 
-  unused-of : restUnused r ≡ true → (k : ℕ) → r.size ≤ k → k < 16 → get_or r.dependencies k 0 ≡ 0
-  unfolding restUnused
+  unused-of : rest_unused r ≡ true → (k : ℕ) → r.size ≤ k → k < 16 → get_or r.dependencies k 0 ≡ 0
+  unfolding rest_unused
   unused-of h k a b =
       let e : r.size + (k - r.size) ≡ k = omega arith in
       rw e at (eqb-true (get_or r.dependencies (r.size + (k - r.size)) 0) 0
@@ -123,7 +123,7 @@ module _ (r : DependencyNode) where
 
 -- an entry that passes
 module _ (r : DependencyNode) (n : length r.dependencies ≡ 16) where
-  filled : r.size ≤ 16 → restUnused r ≡ true → (entry_of r).dependencies ++ replicate (16 - length (entry_of r).dependencies) 0 ≡ r.dependencies
+  filled : r.size ≤ 16 → rest_unused r ≡ true → (entry_of r).dependencies ++ replicate (16 - length (entry_of r).dependencies) 0 ≡ r.dependencies
   filled l u = fill_is 0 16 (entry_of r).dependencies r.dependencies (omega (arith, size_is r)) n (λ k b. at k b (dec_lt k r.size))
     where
       at : (k : ℕ) → k < 16 → Dec (k < r.size) → get_or (entry_of r).dependencies k 0 ≡ get_or r.dependencies k 0
@@ -131,7 +131,7 @@ module _ (r : DependencyNode) (n : length r.dependencies ≡ 16) where
       at k b (no p) = get_or-eq_default (entry_of r).dependencies 0 (omega (arith, size_is r)) ∙ sym (unused-of r u k (omega arith) b)
 
   -- a struct of 16 places with nothing after its dependencies is the layout of its entry
-  row_back : r.size ≤ 16 → (r.projected || eqb r.target 0) ≡ true → restUnused r ≡ true → row (entry_of r) ≡ r
+  row_back : r.size ≤ 16 → (r.projected || eqb r.target 0) ≡ true → rest_unused r ≡ true → row (entry_of r) ≡ r
   unfolding row entry_of
   row_back l e u = λ t. record {
     key = r.key;
@@ -142,18 +142,18 @@ module _ (r : DependencyNode) (n : length r.dependencies ≡ 16) where
   }
 
   -- it is the layout of an entry
-  entry-coded : lawfulEntry r ≡ true → Coded r
-  unfolding lawfulEntry
+  entry-coded : lawful_entry r ≡ true → Coded r
+  unfolding lawful_entry
   entry-coded e =
-      let p = four (leb r.size 16) (each (Fresh r) r.size) (r.projected || eqb r.target 0) (restUnused r) e in
+      let p = four (leb r.size 16) (each (Fresh r) r.size) (r.projected || eqb r.target 0) (rest_unused r) e in
       let few = entry-size r e in
       record { coded = row_back few p.2 p.3; short = few }
 
   -- an unused place is the layout of an empty one
-  place-empty : unusedEntry r ≡ true → r ≡ unused
-  unfolding unusedEntry row isThere numberOr0
+  place-empty : unused_entry r ≡ true → r ≡ unused
+  unfolding unused_entry row is_there number_or0
   place-empty e =
-      let p = four (eqb r.key 0 && not r.projected) (eqb r.target 0) (eqb r.size 0) (restUnused r) e in
+      let p = four (eqb r.key 0 && not r.projected) (eqb r.target 0) (eqb r.size 0) (rest_unused r) e in
       let key : r.key ≡ 0 = eqb-true r.key 0 (and_left (eqb r.key 0) (not r.projected) p.0) in
       let none-there : r.projected ≡ false = not-true r.projected (and_right (eqb r.key 0) (not r.projected) p.0) in
       let target : r.target ≡ 0 = eqb-true r.target 0 p.1 in
@@ -165,7 +165,7 @@ module _ (r : DependencyNode) (n : length r.dependencies ≡ 16) where
 -- a place of a map, also past its end
 pub place-encode : (ds : List Dependent) (i : ℕ) → place_in (encode ds) i ≡ row (entry_at ds i)
 unfolding encode
-place-encode ds i = fill-after unused (map row ds) (64 - length ds) i ∙ get_or-map row ds i (record { key = 0; target = none; dependencies = [] })
+place-encode ds i = fill_after unused (map row ds) (64 - length ds) i ∙ get_or-map row ds i (record { key = 0; target = none; dependencies = [] })
 
 -- nothing is lost
 pub decode-encode : (ds : List Dependent) → decode (encode ds) ≡ ds
@@ -182,12 +182,12 @@ length-decode m = length-table (λ i. entry_of (place_in m i)) m.count
 -- an entry of a struct
 pub place-decode : (m : DependencyMap) (i : ℕ) → i < m.count → entry_at (decode m) i ≡ entry_of (place_in m i)
 unfolding decode
-place-decode m i l = getD-table (λ i. entry_of (place_in m i)) m.count i (record { key = 0; target = none; dependencies = [] }) l
+place-decode m i l = get_or-table (λ i. entry_of (place_in m i)) m.count i (record { key = 0; target = none; dependencies = [] }) l
 
 -- a struct that passes
-module _ (m : DependencyMap) (z : Sized m) (e : lawfulMap m ≡ true) where
+module _ (m : DependencyMap) (z : Sized m) (e : lawful_map m ≡ true) where
   rest-passes : each (UnusedAt m) (64 - m.count) ≡ true
-  unfolding lawfulMap
+  unfolding lawful_map
   rest-passes = (four (leb m.count 64) (each (LawfulAt m) m.count) (each (FreshAt m) m.count) (each (UnusedAt m) (64 - m.count)) e).3
 
   place-coded : (i : ℕ) → i < m.count → Coded (place_in m i)
@@ -197,7 +197,7 @@ module _ (m : DependencyMap) (z : Sized m) (e : lawfulMap m ≡ true) where
   place-unused i a b =
       let s : m.count + (i - m.count) ≡ i = omega arith in
       place-empty (place_in m i) (z.dependencies i b)
-      (subst (λ (k : ℕ). unusedEntry (place_in m k) ≡ true) s (each_holds (UnusedAt m) (64 - m.count) (i - m.count) rest-passes (omega arith)))
+      (subst (λ (k : ℕ). unused_entry (place_in m k) ≡ true) s (each_holds (UnusedAt m) (64 - m.count) (i - m.count) rest-passes (omega arith)))
 
   list-is : map row (decode m) ++ replicate (64 - length (decode m)) unused ≡ m.list
   list-is =
@@ -229,7 +229,7 @@ set-encode ds i d l = λ t. record { count = sym (length-set ds i d) t; list = m
     moved : set (map row ds ++ replicate (64 - length ds) unused) i (row d) ≡ map row (set ds i d) ++ replicate (64 - length (set ds i d)) unused
     moved =
         ap (λ (k : ℕ). set (map row ds ++ replicate (64 - k) unused) i (row d)) (sym (length-map ds row))
-        ∙ fill-set unused 64 (map row ds) i (row d) (omega (arith, length-map ds row))
+        ∙ fill_set unused 64 (map row ds) i (row d) (omega (arith, length-map ds row))
         ∙ list-filled (set (map row ds) i (row d)) (set ds i d) (sym (map-set row ds i d))
 
 -- and with one more
@@ -266,7 +266,7 @@ pub row_more : (d : Dependent) (k : ℕ) → length d.dependencies < 16
     → ◌≡◌ {A = DependencyNode} (record { key = (row d).key; projected = (row d).projected; target = (row d).target; size = (row d).size + 1; dependencies = set (row d).dependencies (row d).size k })
     (row (record { key = d.key; target = d.target; dependencies = d.dependencies ++ (k ∷ []) }))
 unfolding row
-row_more d k l = λ t. record { key = d.key; projected = isThere d.target; target = numberOr0 d.target; size = same t; dependencies = fill_more 0 16 d.dependencies k l t }
+row_more d k l = λ t. record { key = d.key; projected = is_there d.target; target = number_or0 d.target; size = same t; dependencies = fill_more 0 16 d.dependencies k l t }
   where
     same : length d.dependencies + 1 ≡ length (d.dependencies ++ (k ∷ []))
     same = omega (arith, length-append d.dependencies (k ∷ []))

@@ -10,12 +10,12 @@ use borrow.Author.Tests.{leb-true, leb-false, le-leb, lt-leb, eq-eqb, ne_eqb}
 use lib.Dec.{eqb, leb}
 use lib.ListN.{length, set, length-append, length-set, get_or-append}
 use lib.Seq.{get_or_at, get_or-set_same, get_or-set_other}
-use Rattle.laws.specs.Tests.{each, firstFrom, first}
-use Rattle.laws.proofs.Booleans.{true-not-false, and-fails-right}
-use Rattle.laws.proofs.Each.{each_all, each-fails}
+use Rattle.laws.specs.Tests.{each, first_from, first}
+use Rattle.laws.proofs.Booleans.{true_not_false, and_fails_right}
+use Rattle.laws.proofs.Each.{each_all, each_fails}
 use Rattle.laws.proofs.First.{first-begins, first-hit, first_on, first_ends, first_some, first_cong}
 use Rattle.classes.specs.Group.{among}
-use Rattle.dependencies.specs.Map.{Dependent, entry_at, place_of, withDependency, insertedAt, inserted, fits}
+use Rattle.dependencies.specs.Map.{Dependent, entry_at, place_of, with_dependency, inserted_at, inserted, fits}
 use Rattle.dependencies.specs.Layout.{row, entry_of, encode, decode, place_in}
 use Rattle.dependencies.specs.Calls.{judged}
 use Rattle.dependencies.specs.Inner.{Coded, Held, extended_by}
@@ -23,7 +23,7 @@ use Rattle.dependencies.specs.declared.DependencyNode.{DependencyNode}
 use Rattle.dependencies.specs.declared.DependencyMap.{DependencyMap}
 use Rattle.dependencies.specs.declared.Extended.{Extended}
 use Rattle.dependencies.specs.declared.Inserted.{Inserted}
-use Rattle.classes.specs.Inner.{place_of as placeAs}
+use Rattle.classes.specs.Inner.{place_of as place_as}
 use Rattle.classes.specs.declared.Place.TheVariants.{At, Nowhere}
 use Rattle.dependencies.proofs.MapCodec.{entry_row, size_is, length-decode, place-decode, place_set, place-more, row_more}
 
@@ -39,18 +39,18 @@ module _ (m : DependencyMap) (key : ℕ) where
       ap (λ (n : ℕ). first (λ i. eqb (entry_at (decode m) i).key key) n) (length-decode m)
       ∙ first_cong (λ i. eqb (entry_at (decode m) i).key key) (KeyAt m key) m.count (λ i l. ap (λ (d : Dependent). eqb d.key key) (place-decode m i l))
 
-  pub key-begins : place_of (decode m) key ≡ firstFrom (KeyAt m key) (m.count - 0) 0
+  pub key-begins : place_of (decode m) key ≡ first_from (KeyAt m key) (m.count - 0) 0
   key-begins = key-first ∙ first-begins (KeyAt m key) m.count
 
-  module _ (i : ℕ) (h : place_of (decode m) key ≡ firstFrom (KeyAt m key) (m.count - i) i) where
-    pub key-found : i < m.count → (place_in m i).key ≡ key → At i ≡ placeAs (place_of (decode m) key)
-    key-found l q = sym (ap placeAs (h ∙ first-hit (KeyAt m key) m.count i l (eq-eqb (place_in m i).key key q)))
+  module _ (i : ℕ) (h : place_of (decode m) key ≡ first_from (KeyAt m key) (m.count - i) i) where
+    pub key-found : i < m.count → (place_in m i).key ≡ key → At i ≡ place_as (place_of (decode m) key)
+    key-found l q = sym (ap place_as (h ∙ first-hit (KeyAt m key) m.count i l (eq-eqb (place_in m i).key key q)))
 
-    pub key-on : i < m.count → ((place_in m i).key ≡ key → ⊥) → place_of (decode m) key ≡ firstFrom (KeyAt m key) (m.count - (i + 1)) (i + 1)
+    pub key-on : i < m.count → ((place_in m i).key ≡ key → ⊥) → place_of (decode m) key ≡ first_from (KeyAt m key) (m.count - (i + 1)) (i + 1)
     key-on l f = h ∙ first_on (KeyAt m key) m.count i l (ne_eqb (place_in m i).key key f)
 
-    pub key-nowhere : m.count ≤ i → Nowhere ≡ placeAs (place_of (decode m) key)
-    key-nowhere l = sym (ap placeAs (h ∙ first_ends (KeyAt m key) m.count i l))
+    pub key-nowhere : m.count ≤ i → Nowhere ≡ place_as (place_of (decode m) key)
+    key-nowhere l = sym (ap place_as (h ∙ first_ends (KeyAt m key) m.count i l))
 
   -- a place that was found is one of the map
   pub key-inside : (i : ℕ) → place_of (decode m) key ≡ some i → i < m.count
@@ -58,27 +58,27 @@ module _ (m : DependencyMap) (key : ℕ) where
 
 -- the answer of an insert by the place of its key; where the key is, its target and the key that is given make no difference
 module _ (m : DependencyMap) (k key : ℕ) (target dependency : Option ℕ) (r : Inserted) where
-  pub inserted-at : (o : Option ℕ) → place_of (decode m) k ≡ o → k ≡ key → r ≡ judged m (insertedAt (decode m) k target dependency o) → r ≡ judged m (inserted (decode m) key target dependency)
+  pub inserted-at : (o : Option ℕ) → place_of (decode m) k ≡ o → k ≡ key → r ≡ judged m (inserted_at (decode m) k target dependency o) → r ≡ judged m (inserted (decode m) key target dependency)
   unfolding inserted
   inserted-at o e q p =
-      p ∙ ap (λ (x : Option ℕ). judged m (insertedAt (decode m) k target dependency x)) (sym e) ∙ ap (λ (x : ℕ). judged m (inserted (decode m) x target dependency)) q
+      p ∙ ap (λ (x : Option ℕ). judged m (inserted_at (decode m) k target dependency x)) (sym e) ∙ ap (λ (x : ℕ). judged m (inserted (decode m) x target dependency)) q
 
-  pub inserted-there : (i : ℕ) → place_of (decode m) k ≡ some i → k ≡ key → r ≡ judged m (insertedAt (decode m) 0 none dependency (some i)) → r ≡ judged m (inserted (decode m) key target dependency)
-  unfolding insertedAt
+  pub inserted-there : (i : ℕ) → place_of (decode m) k ≡ some i → k ≡ key → r ≡ judged m (inserted_at (decode m) 0 none dependency (some i)) → r ≡ judged m (inserted (decode m) key target dependency)
+  unfolding inserted_at
   inserted-there i e q p = inserted-at (some i) e q p
 
 -- a dependency is there, or it comes to the end
-pub with-there : (ks : List ℕ) (k : ℕ) → among k ks ≡ true → withDependency ks (some k) ≡ ks
-unfolding withDependency
+pub with-there : (ks : List ℕ) (k : ℕ) → among k ks ≡ true → with_dependency ks (some k) ≡ ks
+unfolding with_dependency
 with-there ks k e = rw e
 
-pub with-new : (ks : List ℕ) (k : ℕ) → among k ks ≡ false → withDependency ks (some k) ≡ ks ++ (k ∷ [])
-unfolding withDependency
+pub with-new : (ks : List ℕ) (k : ℕ) → among k ks ≡ false → with_dependency ks (some k) ≡ ks ++ (k ∷ [])
+unfolding with_dependency
 with-new ks k e = rw e
 
 -- a first dependency is one
-pub with-one : (d : Option ℕ) → length (withDependency [] d) ≤ 16
-unfolding withDependency among
+pub with-one : (d : Option ℕ) → length (with_dependency [] d) ≤ 16
+unfolding with_dependency among
 with-one none = omega arith
 with-one (some k) = omega arith
 
@@ -90,11 +90,11 @@ abbrev answer : Bool → DependencyNode → Extended
 answer b r = record { fits = b; node = r }
 
 -- an entry with a dependency more, by its dependencies then
-extended_fits : (r : DependencyNode) (d : Option ℕ) (ks : List ℕ) → withDependency (entry_of r).dependencies d ≡ ks → length ks ≤ 16 → extended_by r d ≡ answer true (row (depends (entry_of r) ks))
+extended_fits : (r : DependencyNode) (d : Option ℕ) (ks : List ℕ) → with_dependency (entry_of r).dependencies d ≡ ks → length ks ≤ 16 → extended_by r d ≡ answer true (row (depends (entry_of r) ks))
 unfolding extended_by
 extended_fits r d ks e l = rw (e, le-leb (length ks) 16 l)
 
-extended-full : (r : DependencyNode) (d : Option ℕ) (ks : List ℕ) → withDependency (entry_of r).dependencies d ≡ ks → 16 < length ks → extended_by r d ≡ answer false r
+extended-full : (r : DependencyNode) (d : Option ℕ) (ks : List ℕ) → with_dependency (entry_of r).dependencies d ≡ ks → 16 < length ks → extended_by r d ≡ answer false r
 unfolding extended_by
 extended-full r d ks e l = rw (e, lt-leb (length ks) 16 l)
 
@@ -104,7 +104,7 @@ module _ (r : DependencyNode) (h : Coded r) where
   few = omega (arith, h.short, size_is r)
 
   pub extended_none : answer true r ≡ extended_by r none
-  unfolding withDependency
+  unfolding with_dependency
   extended_none = sym (extended_fits r none (entry_of r).dependencies refl few ∙ ap (answer true) h.coded)
 
   module _ (key : ℕ) where
@@ -127,25 +127,25 @@ module _ (r : DependencyNode) (h : Coded r) where
 
 -- what an answer says of the dependencies
 record Fitting (e : Extended) (r : DependencyNode) (d : Option ℕ) : Type 0 where
-  short : length (withDependency (entry_of r).dependencies d) ≤ 16
-  is : e.node ≡ row (depends (entry_of r) (withDependency (entry_of r).dependencies d))
+  short : length (with_dependency (entry_of r).dependencies d) ≤ 16
+  is : e.node ≡ row (depends (entry_of r) (with_dependency (entry_of r).dependencies d))
 
 module _ (e : Extended) (r : DependencyNode) (d : Option ℕ) (q : e ≡ extended_by r d) where
   fitting : e.fits ≡ true → Fitting e r d
-  fitting t = go (leb (length (withDependency (entry_of r).dependencies d)) 16) refl
+  fitting t = go (leb (length (with_dependency (entry_of r).dependencies d)) 16) refl
     where
-      go : (b : Bool) → leb (length (withDependency (entry_of r).dependencies d)) 16 ≡ b → Fitting e r d
+      go : (b : Bool) → leb (length (with_dependency (entry_of r).dependencies d)) 16 ≡ b → Fitting e r d
       go true s =
-          let l = leb-true (length (withDependency (entry_of r).dependencies d)) 16 s in
-          record { short = l; is = ap (λ (x : Extended). x.node) (q ∙ extended_fits r d (withDependency (entry_of r).dependencies d) refl l) }
-      go false s = absurd (true-not-false t (ap (λ (x : Extended). x.fits) (q ∙ extended-full r d (withDependency (entry_of r).dependencies d) refl (leb-false (length (withDependency (entry_of r).dependencies d)) 16 s))))
+          let l = leb-true (length (with_dependency (entry_of r).dependencies d)) 16 s in
+          record { short = l; is = ap (λ (x : Extended). x.node) (q ∙ extended_fits r d (with_dependency (entry_of r).dependencies d) refl l) }
+      go false s = absurd (true_not_false t (ap (λ (x : Extended). x.fits) (q ∙ extended-full r d (with_dependency (entry_of r).dependencies d) refl (leb-false (length (with_dependency (entry_of r).dependencies d)) 16 s))))
 
-  unfitting : e.fits ≡ false → 16 < length (withDependency (entry_of r).dependencies d)
-  unfitting t = go (leb (length (withDependency (entry_of r).dependencies d)) 16) refl
+  unfitting : e.fits ≡ false → 16 < length (with_dependency (entry_of r).dependencies d)
+  unfitting t = go (leb (length (with_dependency (entry_of r).dependencies d)) 16) refl
     where
-      go : (b : Bool) → leb (length (withDependency (entry_of r).dependencies d)) 16 ≡ b → 16 < length (withDependency (entry_of r).dependencies d)
-      go true s = absurd (true-not-false (ap (λ (x : Extended). x.fits) (q ∙ extended_fits r d (withDependency (entry_of r).dependencies d) refl (leb-true (length (withDependency (entry_of r).dependencies d)) 16 s))) t)
-      go false s = leb-false (length (withDependency (entry_of r).dependencies d)) 16 s
+      go : (b : Bool) → leb (length (with_dependency (entry_of r).dependencies d)) 16 ≡ b → 16 < length (with_dependency (entry_of r).dependencies d)
+      go true s = absurd (true_not_false (ap (λ (x : Extended). x.fits) (q ∙ extended_fits r d (with_dependency (entry_of r).dependencies d) refl (leb-true (length (with_dependency (entry_of r).dependencies d)) 16 s))) t)
+      go false s = leb-false (length (with_dependency (entry_of r).dependencies d)) 16 s
 
 -- each entry has at most 16 dependencies
 abbrev AllShort : List Dependent → Type 0
@@ -155,8 +155,8 @@ AllShort ds = (i : ℕ) → i < length ds → length (entry_at ds i).dependencie
 long-fits : (ds : List Dependent) (i : ℕ) → i < length ds → 16 < length (entry_at ds i).dependencies → fits ds ≡ false
 unfolding fits
 long-fits ds i l b =
-    and-fails-right (leb (length ds) 64) (each (λ i. leb (length (entry_at ds i).dependencies) 16) (length ds))
-    (each-fails (λ i. leb (length (entry_at ds i).dependencies) 16) (length ds) i l (lt-leb (length (entry_at ds i).dependencies) 16 b))
+    and_fails_right (leb (length ds) 64) (each (λ i. leb (length (entry_at ds i).dependencies) 16) (length ds))
+    (each_fails (λ i. leb (length (entry_at ds i).dependencies) 16) (length ds) i l (lt-leb (length (entry_at ds i).dependencies) 16 b))
 
 abbrev made : DependencyMap → Inserted
 made m = record { number = 0; map = m }
@@ -188,12 +188,12 @@ held-short m h i l =
 -- an entry is replaced, with a dependency more
 module _ (m : DependencyMap) (h : Held m) (i : ℕ) (l : i < m.count) (e : Extended) (d : Option ℕ) (q : e ≡ extended_by (place_in m i) d) where
   abbrev next : Dependent
-  next = depends (entry_at (decode m) i) (withDependency (entry_at (decode m) i).dependencies d)
+  next = depends (entry_at (decode m) i) (with_dependency (entry_at (decode m) i).dependencies d)
 
-  next-is : next ≡ depends (entry_of (place_in m i)) (withDependency (entry_of (place_in m i)).dependencies d)
-  next-is = ap (λ (x : Dependent). depends x (withDependency x.dependencies d)) (place-decode m i l)
+  next-is : next ≡ depends (entry_of (place_in m i)) (with_dependency (entry_of (place_in m i)).dependencies d)
+  next-is = ap (λ (x : Dependent). depends x (with_dependency x.dependencies d)) (place-decode m i l)
 
-  next-size : length next.dependencies ≡ length (withDependency (entry_of (place_in m i)).dependencies d)
+  next-size : length next.dependencies ≡ length (with_dependency (entry_of (place_in m i)).dependencies d)
   next-size = ap (λ (x : Dependent). length x.dependencies) next-is
 
   inside : i < length (decode m)
@@ -202,14 +202,14 @@ module _ (m : DependencyMap) (h : Held m) (i : ℕ) (l : i < m.count) (e : Exten
   place-next : entry_at (set (decode m) i next) i ≡ next
   place-next = get_or-set_same (decode m) i next (record { key = 0; target = none; dependencies = [] }) inside
 
-  pub replaced-full : e.fits ≡ false → judged m (insertedAt (decode m) 0 none d (some i)) ≡ refused m
-  unfolding insertedAt
+  pub replaced-full : e.fits ≡ false → judged m (inserted_at (decode m) 0 none d (some i)) ≡ refused m
+  unfolding inserted_at
   replaced-full f =
       judged-long m (set (decode m) i next) i (omega (arith, inside, length-set (decode m) i next))
       (omega (arith, ap (λ (x : Dependent). length x.dependencies) place-next, next-size, unfitting e (place_in m i) d q f))
 
-  pub replaced : e.fits ≡ true → made (record { count = m.count; list = set m.list i e.node }) ≡ judged m (insertedAt (decode m) 0 none d (some i))
-  unfolding insertedAt
+  pub replaced : e.fits ≡ true → made (record { count = m.count; list = set m.list i e.node }) ≡ judged m (inserted_at (decode m) 0 none d (some i))
+  unfolding inserted_at
   replaced f =
       let v = fitting e (place_in m i) d q f in
       ap (λ (r : DependencyNode). made (record { count = m.count; list = set m.list i r })) (v.is ∙ ap row (sym next-is))
@@ -226,15 +226,15 @@ module _ (m : DependencyMap) (h : Held m) (i : ℕ) (l : i < m.count) (e : Exten
 -- a key comes to the end
 module _ (m : DependencyMap) (h : Held m) (key : ℕ) (target d : Option ℕ) where
   abbrev last : Dependent
-  last = record { key = key; target = target; dependencies = withDependency [] d }
+  last = record { key = key; target = target; dependencies = with_dependency [] d }
 
-  pub appended-many : 64 ≤ m.count → judged m (insertedAt (decode m) key target d none) ≡ refused m
-  unfolding insertedAt
+  pub appended-many : 64 ≤ m.count → judged m (inserted_at (decode m) key target d none) ≡ refused m
+  unfolding inserted_at
   appended-many l = judged-many m (decode m ++ (last ∷ [])) (omega (arith, length-append (decode m) (last ∷ []), length-decode m))
 
   pub appended : (r : DependencyNode) (e : Extended) → r ≡ row (record { key = key; target = target; dependencies = [] }) → e ≡ extended_by r d → m.count < 64
-      → made (record { count = m.count + 1; list = set m.list m.count e.node }) ≡ judged m (insertedAt (decode m) key target d none)
-  unfolding insertedAt
+      → made (record { count = m.count + 1; list = set m.list m.count e.node }) ≡ judged m (inserted_at (decode m) key target d none)
+  unfolding inserted_at
   appended r e p q l =
       ap (λ (x : DependencyNode). made (record { count = m.count + 1; list = set m.list m.count x })) node
       ∙ ap made (place-more m h last l)
@@ -245,8 +245,8 @@ module _ (m : DependencyMap) (h : Held m) (key : ℕ) (target d : Option ℕ) wh
 
       node : e.node ≡ row last
       node =
-          ap (λ (x : Extended). x.node) (q ∙ extended_fits r d (withDependency [] d) (ap (λ (x : Dependent). withDependency x.dependencies d) back) (with-one d))
-          ∙ ap (λ (x : Dependent). row (depends x (withDependency [] d))) back
+          ap (λ (x : Extended). x.node) (q ∙ extended_fits r d (with_dependency [] d) (ap (λ (x : Dependent). with_dependency x.dependencies d) back) (with-one d))
+          ∙ ap (λ (x : Dependent). row (depends x (with_dependency [] d))) back
 
       at : (j : ℕ) → j < length (decode m ++ (last ∷ [])) → Dec (j ≡ length (decode m)) → length (entry_at (decode m ++ (last ∷ [])) j).dependencies ≤ 16
       at j b (yes s) = rw (get_or_at (decode m) last [] (record { key = 0; target = none; dependencies = [] }) j (sym s)) (with-one d)

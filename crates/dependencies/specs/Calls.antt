@@ -5,28 +5,28 @@ use Rattle.std.proofs.Math.Option.{Option, none, some}
 use Rattle.laws.specs.Tests.{if◌then◌else◌}
 use Rattle.arena.specs.Layout.{count, lawful}
 use Rattle.dependencies.specs.Map.{Dependent, inserted, fits}
-use Rattle.dependencies.specs.Layout.{encode, decode, lawfulMap, keysInside}
+use Rattle.dependencies.specs.Layout.{encode, decode, lawful_map, keys_inside}
 use Rattle.dependencies.specs.declared.DependencyMap.{DependencyMap}
 use Rattle.dependencies.specs.declared.Inserted.{Inserted}
 use Rattle.dependencies.specs.declared.Given.{Given}
 use Rattle.dependencies.specs.declared.Given.TheVariants.{Key, Nothing}
 
 -- the check of a lent map over a lent arena: 11 for the arena or the map, then 1, else 0
-unfoldable pub mapNumber : List ℕ → DependencyMap → ℕ
-mapNumber cells m =
-    if lawful cells && lawfulMap m then
-    (if keysInside (count cells) m then 0 else 1)
+unfoldable pub map_number : List ℕ → DependencyMap → ℕ
+map_number cells m =
+    if lawful cells && lawful_map m then
+    (if keys_inside (count cells) m then 0 else 1)
     else 11
 
 -- a key that is given has options 0 to 3 (else 12)
-unfoldable pub optionsKnown : Given → Bool
-optionsKnown (Key e options) = leb options 3
-optionsKnown Nothing = true
+unfoldable pub options_known : Given → Bool
+options_known (Key e options) = leb options 3
+options_known Nothing = true
 
 -- and an expression among the first n (else 1)
-unfoldable pub givenBelow : ℕ → Given → Bool
-givenBelow n (Key e options) = ltb e n
-givenBelow n Nothing = true
+unfoldable pub given_below : ℕ → Given → Bool
+given_below n (Key e options) = ltb e n
+given_below n Nothing = true
 
 -- the key that is given, as one number
 unfoldable pub key_of : Given → Option ℕ
@@ -34,12 +34,12 @@ key_of (Key e options) = some (e * 4 + options)
 key_of Nothing = none
 
 -- the check of what an insert is lent and given: 12 for options, 11 for the arena or the map, 1 for an expression, else 0
-unfoldable pub insertNumber : List ℕ → DependencyMap → ℕ → ℕ → Given → Given → ℕ
-insertNumber cells m e options target dependency =
-    if leb options 3 && optionsKnown target && optionsKnown dependency then
-    (if eqb (mapNumber cells m) 0 then
-    (if ltb e (count cells) && givenBelow (count cells) target && givenBelow (count cells) dependency then 0 else 1)
-    else mapNumber cells m)
+unfoldable pub insert_number : List ℕ → DependencyMap → ℕ → ℕ → Given → Given → ℕ
+insert_number cells m e options target dependency =
+    if leb options 3 && options_known target && options_known dependency then
+    (if eqb (map_number cells m) 0 then
+    (if ltb e (count cells) && given_below (count cells) target && given_below (count cells) dependency then 0 else 1)
+    else map_number cells m)
     else 12
 
 -- a map that was made, or 5 where it is too large, and then the map that was given
@@ -47,7 +47,7 @@ unfoldable pub judged : DependencyMap → List Dependent → Inserted
 judged m ds = if fits ds then record { number = 0; map = encode ds } else record { number = 5; map = m }
 
 -- the call on lent cells and a lent map
-unfoldable pub insertAnswer : List ℕ → DependencyMap → ℕ → ℕ → Given → Given → Inserted
-insertAnswer cells m e options target dependency =
-    if eqb (insertNumber cells m e options target dependency) 0 then judged m (inserted (decode m) (e * 4 + options) (key_of target) (key_of dependency))
-    else record { number = insertNumber cells m e options target dependency; map = m }
+unfoldable pub insert_answer : List ℕ → DependencyMap → ℕ → ℕ → Given → Given → Inserted
+insert_answer cells m e options target dependency =
+    if eqb (insert_number cells m e options target dependency) 0 then judged m (inserted (decode m) (e * 4 + options) (key_of target) (key_of dependency))
+    else record { number = insert_number cells m e options target dependency; map = m }

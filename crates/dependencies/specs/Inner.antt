@@ -2,8 +2,8 @@
 use Rattle.std.specs.Prelude.{ℕ, ◌<◌, ◌≤◌, Bool, true, false, List, ◌≡◌, leb, length, get_or}
 use Rattle.std.proofs.Math.Option.{Option, none, some}
 use Rattle.laws.specs.Tests.{if◌then◌else◌}
-use Rattle.dependencies.specs.Map.{Dependent, entry_at, withDependency}
-use Rattle.dependencies.specs.Layout.{row, entry_of, encode, decode, place_in, lawfulMap}
+use Rattle.dependencies.specs.Map.{Dependent, entry_at, with_dependency}
+use Rattle.dependencies.specs.Layout.{row, entry_of, encode, decode, place_in, lawful_map}
 use Rattle.dependencies.specs.declared.DependencyNode.{DependencyNode}
 use Rattle.dependencies.specs.declared.DependencyMap.{DependencyMap}
 use Rattle.dependencies.specs.declared.Extended.{Extended}
@@ -22,6 +22,6 @@ pub record Held (m : DependencyMap) : Type 0 where
 -- an entry with a dependency more, or that it has no room for it
 unfoldable pub extended_by : DependencyNode → Option ℕ → Extended
 extended_by r d =
-    if leb (length (withDependency (entry_of r).dependencies d)) 16
-    then record { fits = true; node = row (record { key = (entry_of r).key; target = (entry_of r).target; dependencies = withDependency (entry_of r).dependencies d }) }
+    if leb (length (with_dependency (entry_of r).dependencies d)) 16
+    then record { fits = true; node = row (record { key = (entry_of r).key; target = (entry_of r).target; dependencies = with_dependency (entry_of r).dependencies d }) }
     else record { fits = false; node = r }

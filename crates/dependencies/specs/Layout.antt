@@ -5,28 +5,28 @@ use Rattle.std.proofs.Math.Option.{Option, none, some}
 use Rattle.laws.specs.Lists.{table}
 use Rattle.laws.specs.Tests.{if◌then◌else◌, each}
 use Rattle.classes.specs.Layout.{fresh}
-use Rattle.orderings.specs.Ordering.{exprOf}
+use Rattle.orderings.specs.Ordering.{expr_of}
 use Rattle.dependencies.specs.Map.{Dependent}
 use Rattle.dependencies.specs.declared.DependencyNode.{DependencyNode}
 use Rattle.dependencies.specs.declared.DependencyMap.{DependencyMap}
 
 -- there is a target
-unfoldable pub isThere : Option ℕ → Bool
-isThere none = false
-isThere (some t) = true
+unfoldable pub is_there : Option ℕ → Bool
+is_there none = false
+is_there (some t) = true
 
 -- the number of a target; 0 where there is none
-unfoldable pub numberOr0 : Option ℕ → ℕ
-numberOr0 none = 0
-numberOr0 (some t) = t
+unfoldable pub number_or0 : Option ℕ → ℕ
+number_or0 none = 0
+number_or0 (some t) = t
 
 -- an entry as its struct
 unfoldable pub row : Dependent → DependencyNode
 row d =
     record {
       key = d.key;
-      projected = isThere d.target;
-      target = numberOr0 d.target;
+      projected = is_there d.target;
+      target = number_or0 d.target;
       size = length d.dependencies;
       dependencies = d.dependencies ++ replicate (16 - length d.dependencies) 0;
     }
@@ -57,33 +57,33 @@ unfoldable pub decode : DependencyMap → List Dependent
 decode m = table (λ i. entry_of (place_in m i)) m.count
 
 -- the places for dependencies after those that are used are 0
-unfoldable pub restUnused : DependencyNode → Bool
-restUnused r = each (λ k. eqb (get_or r.dependencies (r.size + k) 0) 0) (16 - r.size)
+unfoldable pub rest_unused : DependencyNode → Bool
+rest_unused r = each (λ k. eqb (get_or r.dependencies (r.size + k) 0) 0) (16 - r.size)
 
 -- an entry: at most 16 dependencies, none twice, a target number only where there is a target, unused places 0
-unfoldable pub lawfulEntry : DependencyNode → Bool
-lawfulEntry r = leb r.size 16 && each (λ k. fresh r.dependencies k) r.size && (r.projected || eqb r.target 0) && restUnused r
+unfoldable pub lawful_entry : DependencyNode → Bool
+lawful_entry r = leb r.size 16 && each (λ k. fresh r.dependencies k) r.size && (r.projected || eqb r.target 0) && rest_unused r
 
 -- an unused place: everything 0
-unfoldable pub unusedEntry : DependencyNode → Bool
-unusedEntry r = eqb r.key 0 && not r.projected && eqb r.target 0 && eqb r.size 0 && restUnused r
+unfoldable pub unused_entry : DependencyNode → Bool
+unused_entry r = eqb r.key 0 && not r.projected && eqb r.target 0 && eqb r.size 0 && rest_unused r
 
 -- the key at a place does not stand before it
-unfoldable pub freshKey : DependencyMap → ℕ → Bool
-freshKey m k = each (λ i. not (eqb (place_in m i).key (place_in m k).key)) k
+unfoldable pub fresh_key : DependencyMap → ℕ → Bool
+fresh_key m k = each (λ i. not (eqb (place_in m i).key (place_in m k).key)) k
 
 -- document 01's rule 11 for a lent map (else 11): at most 64 keys, none twice, each entry lawful, the other places unused
-unfoldable pub lawfulMap : DependencyMap → Bool
-lawfulMap m =
+unfoldable pub lawful_map : DependencyMap → Bool
+lawful_map m =
     leb m.count 64
-    && each (λ i. lawfulEntry (place_in m i)) m.count
-    && each (λ i. freshKey m i) m.count
-    && each (λ i. unusedEntry (place_in m (m.count + i))) (64 - m.count)
+    && each (λ i. lawful_entry (place_in m i)) m.count
+    && each (λ i. fresh_key m i) m.count
+    && each (λ i. unused_entry (place_in m (m.count + i))) (64 - m.count)
 
 -- the expressions of an entry's key, target and dependencies are among the first n
-unfoldable pub entryInside : ℕ → DependencyNode → Bool
-entryInside n r = ltb (exprOf r.key) n && ltb (exprOf r.target) n && each (λ k. ltb (exprOf (get_or r.dependencies k 0)) n) r.size
+unfoldable pub entry_inside : ℕ → DependencyNode → Bool
+entry_inside n r = ltb (expr_of r.key) n && ltb (expr_of r.target) n && each (λ k. ltb (expr_of (get_or r.dependencies k 0)) n) r.size
 
 -- so are those of all entries (else 1), after 11. A target that is not there is 0, the first expression
-unfoldable pub keysInside : ℕ → DependencyMap → Bool
-keysInside n m = each (λ i. entryInside n (place_in m i)) m.count
+unfoldable pub keys_inside : ℕ → DependencyMap → Bool
+keys_inside n m = each (λ i. entry_inside n (place_in m i)) m.count

@@ -20,19 +20,19 @@ unfoldable pub place_of : List Dependent → ℕ → Option ℕ
 place_of ds k = first (λ i. eqb (entry_at ds i).key k) (length ds)
 
 -- a dependency is added once
-unfoldable pub withDependency : List ℕ → Option ℕ → List ℕ
-withDependency ks none = ks
-withDependency ks (some k) = if among k ks then ks else ks ++ (k ∷ [])
+unfoldable pub with_dependency : List ℕ → Option ℕ → List ℕ
+with_dependency ks none = ks
+with_dependency ks (some k) = if among k ks then ks else ks ++ (k ∷ [])
 
 -- an insert, where the place of the key is known: a key that is there keeps its first target
-unfoldable pub insertedAt : List Dependent → ℕ → Option ℕ → Option ℕ → Option ℕ → List Dependent
-insertedAt ds k target dependency (some i) =
-    set ds i (record { key = (entry_at ds i).key; target = (entry_at ds i).target; dependencies = withDependency (entry_at ds i).dependencies dependency })
-insertedAt ds k target dependency none = ds ++ (record { key = k; target = target; dependencies = withDependency [] dependency } ∷ [])
+unfoldable pub inserted_at : List Dependent → ℕ → Option ℕ → Option ℕ → Option ℕ → List Dependent
+inserted_at ds k target dependency (some i) =
+    set ds i (record { key = (entry_at ds i).key; target = (entry_at ds i).target; dependencies = with_dependency (entry_at ds i).dependencies dependency })
+inserted_at ds k target dependency none = ds ++ (record { key = k; target = target; dependencies = with_dependency [] dependency } ∷ [])
 
 -- an insert of a key with its target and a dependency, if there are such
 unfoldable pub inserted : List Dependent → ℕ → Option ℕ → Option ℕ → List Dependent
-inserted ds k target dependency = insertedAt ds k target dependency (place_of ds k)
+inserted ds k target dependency = inserted_at ds k target dependency (place_of ds k)
 
 -- at most 64 keys with at most 16 dependencies each (else 5)
 unfoldable pub fits : List Dependent → Bool

@@ -2,9 +2,9 @@
 ghost use Rattle.std.specs.Prelude.{Bool, true, not, ◌&&◌, ◌||◌, ◌≡◌, ℕ, ◌≤◌, ◌<◌, ◌+◌, ◌-◌, eqb, ltb, get_or};
 ghost use Rattle.laws.specs.Tests.{each};
 ghost use Rattle.classes.specs.Layout.{fresh};
-ghost use Rattle.orderings.specs.Ordering.{exprOf};
-ghost use Rattle.dependencies.specs.Layout.{place_in, restUnused, lawfulEntry, unusedEntry, freshKey, lawfulMap, entryInside, keysInside};
-ghost use Rattle.dependencies.specs.Calls.{mapNumber};
+ghost use Rattle.orderings.specs.Ordering.{expr_of};
+ghost use Rattle.dependencies.specs.Layout.{place_in, rest_unused, lawful_entry, unused_entry, fresh_key, lawful_map, entry_inside, keys_inside};
+ghost use Rattle.dependencies.specs.Calls.{map_number};
 
 use crate::{DependencyMap, DependencyNode};
 use arena::cells::node_count;
@@ -46,7 +46,7 @@ fn dependencies_fresh(r: DependencyNode) -> bool
 // The places for dependencies after those that are used are 0.
 fn rest_unused(r: DependencyNode) -> bool
     requires { r.size ≤ 16 }
-    ensures { result ≡ restUnused r }
+    ensures { result ≡ rest_unused r }
 {
     let n = r.size;
     let mut k = 0;
@@ -71,7 +71,7 @@ fn target_told(r: DependencyNode) -> bool
 
 // An entry: at most 16 dependencies, none twice, a target number only where there is a target, unused places 0.
 fn lawful_entry(r: DependencyNode) -> bool
-    ensures { result ≡ lawfulEntry r }
+    ensures { result ≡ lawful_entry r }
 {
     if 16 < r.size {
         return false;
@@ -87,7 +87,7 @@ fn lawful_entry(r: DependencyNode) -> bool
 
 // An unused place: everything 0.
 fn unused_entry(r: DependencyNode) -> bool
-    ensures { result ≡ unusedEntry r }
+    ensures { result ≡ unused_entry r }
 {
     if r.key != 0 {
         return false;
@@ -107,7 +107,7 @@ fn unused_entry(r: DependencyNode) -> bool
 // Each entry is lawful.
 fn entries_lawful(m: DependencyMap) -> bool
     requires { m.count ≤ 64 }
-    ensures { result ≡ each (λ i. lawfulEntry (place_in m i)) m.count }
+    ensures { result ≡ each (λ i. lawful_entry (place_in m i)) m.count }
 {
     let n = m.count;
     let mut i = 0;
@@ -123,7 +123,7 @@ fn entries_lawful(m: DependencyMap) -> bool
 // The key at a place does not stand before it.
 fn key_fresh(m: DependencyMap, k: usize) -> bool
     requires { k < 64 }
-    ensures { result ≡ freshKey m k }
+    ensures { result ≡ fresh_key m k }
 {
     let mut i = 0;
     while i < k {
@@ -138,7 +138,7 @@ fn key_fresh(m: DependencyMap, k: usize) -> bool
 // No key stands twice.
 fn keys_fresh(m: DependencyMap) -> bool
     requires { m.count ≤ 64 }
-    ensures { result ≡ each (λ i. freshKey m i) m.count }
+    ensures { result ≡ each (λ i. fresh_key m i) m.count }
 {
     let n = m.count;
     let mut i = 0;
@@ -154,7 +154,7 @@ fn keys_fresh(m: DependencyMap) -> bool
 // Each of the other places is unused.
 fn places_unused(m: DependencyMap) -> bool
     requires { m.count ≤ 64 }
-    ensures { result ≡ each (λ i. unusedEntry (place_in m (m.count + i))) (64 - m.count) }
+    ensures { result ≡ each (λ i. unused_entry (place_in m (m.count + i))) (64 - m.count) }
 {
     let n = m.count;
     let mut i = 0;
@@ -169,7 +169,7 @@ fn places_unused(m: DependencyMap) -> bool
 
 // The struct is a map.
 pub fn lawful_map(m: DependencyMap) -> bool
-    ensures { result ≡ lawfulMap m }
+    ensures { result ≡ lawful_map m }
 {
     if 64 < m.count {
         return false;
@@ -186,7 +186,7 @@ pub fn lawful_map(m: DependencyMap) -> bool
 // The expressions of an entry's dependencies are below n.
 fn dependencies_below(r: DependencyNode, n: usize) -> bool
     requires { r.size ≤ 16 }
-    ensures { result ≡ each (λ k. ltb (exprOf (get_or r.dependencies k 0)) n) r.size }
+    ensures { result ≡ each (λ k. ltb (expr_of (get_or r.dependencies k 0)) n) r.size }
 {
     let size = r.size;
     let mut k = 0;
@@ -202,7 +202,7 @@ fn dependencies_below(r: DependencyNode, n: usize) -> bool
 // The expressions of an entry's key, target and dependencies are below n.
 fn entry_below(r: DependencyNode, n: usize) -> bool
     requires { r.size ≤ 16 }
-    ensures { result ≡ entryInside n r }
+    ensures { result ≡ entry_inside n r }
 {
     if n <= expr_of(r.key) {
         return false;
@@ -215,8 +215,8 @@ fn entry_below(r: DependencyNode, n: usize) -> bool
 
 // The expressions of all entries are below n.
 fn keys_below(m: DependencyMap, n: usize) -> bool
-    requires { lawfulMap m ≡ true }
-    ensures { result ≡ keysInside n m }
+    requires { lawful_map m ≡ true }
+    ensures { result ≡ keys_inside n m }
 {
     let count = m.count;
     let mut i = 0;
@@ -231,7 +231,7 @@ fn keys_below(m: DependencyMap, n: usize) -> bool
 
 // The check of a lent map over a lent arena.
 pub fn check_map(cells: &[u32; 11265], m: DependencyMap) -> u32
-    ensures { result ≡ mapNumber cells.now m }
+    ensures { result ≡ map_number cells.now m }
 {
     if !lawful_arena(cells) {
         return 11;

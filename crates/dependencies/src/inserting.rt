@@ -2,10 +2,10 @@
 ghost use Rattle.std.specs.Prelude.{true, ◌&&◌, List, [], ◌≡◌, ℕ, ◌≤◌, ◌<◌, ◌+◌, ◌*◌, get_or};
 ghost use Rattle.std.proofs.Math.Option.{Option, none, some};
 ghost use Rattle.classes.specs.Group.{among};
-ghost use Rattle.classes.specs.Inner.{place_of as placeAs};
-ghost use Rattle.dependencies.specs.Map.{place_of, insertedAt, inserted};
+ghost use Rattle.classes.specs.Inner.{place_of as place_as};
+ghost use Rattle.dependencies.specs.Map.{place_of, inserted_at, inserted};
 ghost use Rattle.dependencies.specs.Layout.{row, entry_of, unused, decode};
-ghost use Rattle.dependencies.specs.Calls.{optionsKnown, givenBelow, key_of, judged};
+ghost use Rattle.dependencies.specs.Calls.{options_known, given_below, key_of, judged};
 ghost use Rattle.dependencies.specs.Inner.{Coded, Held, extended_by};
 
 use crate::{DependencyMap, DependencyNode, Extended, Given, Inserted};
@@ -37,7 +37,7 @@ pub fn refusal(number: u32, map: DependencyMap) -> Inserted
 
 // A key that is given has options 0 to 3.
 pub fn options_known(given: Given) -> bool
-    ensures { result ≡ optionsKnown given }
+    ensures { result ≡ options_known given }
 {
     match given {
         Given::Key(_, options) => options <= 3,
@@ -47,7 +47,7 @@ pub fn options_known(given: Given) -> bool
 
 // A key that is given has an expression below n.
 pub fn given_below(given: Given, n: usize) -> bool
-    ensures { result ≡ givenBelow n given }
+    ensures { result ≡ given_below n given }
 {
     match given {
         Given::Key(e, _) => wide(e) < n,
@@ -66,7 +66,7 @@ pub fn packed(expr: u32, options: u32) -> u16
 // Where a key stands.
 pub fn find_key(m: DependencyMap, key: u16) -> Place
     requires { m.count ≤ 64 }
-    ensures { result ≡ placeAs (place_of (decode m) key) }
+    ensures { result ≡ place_as (place_of (decode m) key) }
 {
     let n = m.count;
     let mut i = 0;
@@ -124,7 +124,7 @@ fn depend_on(r: DependencyNode, key: u16) -> Extended
 
 // An entry with the dependency that is given, if one is.
 fn extend(r: DependencyNode, dependency: Given) -> Extended
-    requires { Coded r × ((optionsKnown dependency ≡ true) × (givenBelow 1024 dependency ≡ true)) }
+    requires { Coded r × ((options_known dependency ≡ true) × (given_below 1024 dependency ≡ true)) }
     ensures { result ≡ extended_by r (key_of dependency) }
 {
     match dependency {
@@ -138,7 +138,7 @@ fn extend(r: DependencyNode, dependency: Given) -> Extended
 
 // A key with its target, if one is given, and no dependency yet.
 fn fresh_entry(key: u16, target: Given) -> DependencyNode
-    requires { (optionsKnown target ≡ true) × (givenBelow 1024 target ≡ true) }
+    requires { (options_known target ≡ true) × (given_below 1024 target ≡ true) }
     ensures { result ≡ row (record { key = key; target = key_of target; dependencies = [] }) }
 {
     let mut r = nothing();
@@ -155,8 +155,8 @@ fn fresh_entry(key: u16, target: Given) -> DependencyNode
 
 // The map with another entry at a place, or 5 where the entry has no room for a dependency.
 fn replace(m: DependencyMap, i: usize, dependency: Given) -> Inserted
-    requires { (Held m × (i < m.count)) × ((optionsKnown dependency ≡ true) × (givenBelow 1024 dependency ≡ true)) }
-    ensures { result ≡ judged m (insertedAt (decode m) 0 none (key_of dependency) (some i)) }
+    requires { (Held m × (i < m.count)) × ((options_known dependency ≡ true) × (given_below 1024 dependency ≡ true)) }
+    ensures { result ≡ judged m (inserted_at (decode m) 0 none (key_of dependency) (some i)) }
 {
     let entry = extend(m.list[i], dependency);
     if !entry.fits {
@@ -173,8 +173,8 @@ fn replace(m: DependencyMap, i: usize, dependency: Given) -> Inserted
 
 // The map with a key at its end, or 5 where it has 64.
 fn append(m: DependencyMap, key: u16, target: Given, dependency: Given) -> Inserted
-    requires { Held m × (((optionsKnown target ≡ true) × (givenBelow 1024 target ≡ true)) × ((optionsKnown dependency ≡ true) × (givenBelow 1024 dependency ≡ true))) }
-    ensures { result ≡ judged m (insertedAt (decode m) key (key_of target) (key_of dependency) none) }
+    requires { Held m × (((options_known target ≡ true) × (given_below 1024 target ≡ true)) × ((options_known dependency ≡ true) × (given_below 1024 dependency ≡ true))) }
+    ensures { result ≡ judged m (inserted_at (decode m) key (key_of target) (key_of dependency) none) }
 {
     if 64 <= m.count {
         return refusal(5, m);
@@ -199,7 +199,7 @@ pub fn insert_in(
     target: Given,
     dependency: Given,
 ) -> Inserted
-    requires { (Held m × ((expr < 1024) × (options ≤ 3))) × (((optionsKnown target ≡ true) × (givenBelow 1024 target ≡ true)) × ((optionsKnown dependency ≡ true) × (givenBelow 1024 dependency ≡ true))) }
+    requires { (Held m × ((expr < 1024) × (options ≤ 3))) × (((options_known target ≡ true) × (given_below 1024 target ≡ true)) × ((options_known dependency ≡ true) × (given_below 1024 dependency ≡ true))) }
     ensures { result ≡ judged m (inserted (decode m) (expr * 4 + options) (key_of target) (key_of dependency)) }
 {
     let key = packed(expr, options);

@@ -9,7 +9,7 @@ pub mod inserting;
 
 ghost use Rattle.std.specs.Prelude.{[], ◌≡◌};
 ghost use Rattle.dependencies.specs.Layout.{encode};
-ghost use Rattle.dependencies.specs.Calls.{mapNumber, insertAnswer};
+ghost use Rattle.dependencies.specs.Calls.{map_number, insert_answer};
 
 use arena::cells::{node_count, wide};
 use checking::check_map;
@@ -66,7 +66,7 @@ pub fn open_map() -> DependencyMap
 
 // The check of a lent map: 0, or 11 or 1, whichever is first.
 pub fn check(cells: &[u32; 11265], map: DependencyMap) -> u32
-    ensures { result ≡ mapNumber cells.now map }
+    ensures { result ≡ map_number cells.now map }
 {
     check_map(cells, map)
 }
@@ -81,7 +81,7 @@ pub fn insert(
     target: Given,
     dependency: Given,
 ) -> Inserted
-    ensures { result ≡ insertAnswer cells.now map expr options target dependency }
+    ensures { result ≡ insert_answer cells.now map expr options target dependency }
 {
     if 3 < options {
         return inserting::refusal(12, map);

@@ -11,16 +11,16 @@ use lib.Dec.{eqb, ltb, leb}
 use lib.ListN.{length, get_or, set, length-append, length-set, get_or-append}
 use lib.Seq.{get_or_at, get_or-set_same, get_or-set_other, ext_get_or}
 use Rattle.laws.specs.Tests.{if◌then◌else◌, each}
-use Rattle.laws.proofs.Booleans.{true-not-false, and_left, and_right}
+use Rattle.laws.proofs.Booleans.{true_not_false, and_left, and_right}
 use Rattle.laws.proofs.Each.{each_holds}
 use Rattle.arena.specs.Layout.{count, lawful}
 use Rattle.classes.specs.Group.{among}
-use Rattle.classes.proofs.Places.{getD-among, among-right, one-among}
-use Rattle.orderings.specs.Ordering.{exprOf}
+use Rattle.classes.proofs.Places.{get_or-among, among-right, one-among}
+use Rattle.orderings.specs.Ordering.{expr_of}
 use Rattle.orderings.proofs.ListChecks.{three}
-use Rattle.dependencies.specs.Map.{Dependent, entry_at, place_of, withDependency, inserted, fits}
-use Rattle.dependencies.specs.Layout.{numberOr0, encode, decode}
-use Rattle.dependencies.specs.Calls.{mapNumber, optionsKnown, givenBelow, key_of, insertNumber, judged, insertAnswer}
+use Rattle.dependencies.specs.Map.{Dependent, entry_at, place_of, with_dependency, inserted, fits}
+use Rattle.dependencies.specs.Layout.{number_or0, encode, decode}
+use Rattle.dependencies.specs.Calls.{map_number, options_known, given_below, key_of, insert_number, judged, insert_answer}
 use Rattle.dependencies.specs.declared.DependencyMap.{DependencyMap}
 use Rattle.dependencies.specs.declared.Given.{Given}
 use Rattle.dependencies.specs.declared.Given.TheVariants.{Key, Nothing}
@@ -32,11 +32,11 @@ use Rattle.dependency_laws.proofs.GoodMaps.{GoodEntry, GoodMap, number-good, goo
 -- ---- what passes the check
 
 -- the empty map passes beside every arena
-pub open-valid : (cells : List ℕ) → lawful cells ≡ true → mapNumber cells (encode []) ≡ 0
-open-valid cells w = good-number cells [] w (record { few = omega arith; entries = λ i l. absurd (omega arith); apart = λ i k l b. absurd (omega arith) })
+pub open_valid : (cells : List ℕ) → lawful cells ≡ true → map_number cells (encode []) ≡ 0
+open_valid cells w = good-number cells [] w (record { few = omega arith; entries = λ i l. absurd (omega arith); apart = λ i k l b. absurd (omega arith) })
 
 -- a good entry with one dependency more that it didn't have
-module _ (n : ℕ) (x : Dependent) (g : GoodEntry n x) (d : ℕ) (f : among d x.dependencies ≡ false) (b : exprOf d < n) where
+module _ (n : ℕ) (x : Dependent) (g : GoodEntry n x) (d : ℕ) (f : among d x.dependencies ≡ false) (b : expr_of d < n) where
   abbrev ks : List ℕ
   ks = x.dependencies
 
@@ -62,16 +62,16 @@ module _ (n : ℕ) (x : Dependent) (g : GoodEntry n x) (d : ℕ) (f : among d x.
       apart i k l c q (yes e) =
           let a : i < length ks = omega arith in
           let same : get_or ks i 0 ≡ d = sym (old i a) ∙ q ∙ new k e in
-          true-not-false (subst (λ (y : ℕ). among y ks ≡ true) same (getD-among ks i a)) f
+          true_not_false (subst (λ (y : ℕ). among y ks ≡ true) same (get_or-among ks i a)) f
       apart i k l c q (no e) = let a : k < length ks = omega (arith, z) in g.apart i k l a (sym (old i (omega arith)) ∙ q ∙ old k a)
 
-      below : (k : ℕ) → k < length (ks ++ (d ∷ [])) → Dec (k ≡ length ks) → exprOf (get_or (ks ++ (d ∷ [])) k 0) < n
-      below k c (yes e) = subst (λ (y : ℕ). exprOf y < n) (sym (new k e)) b
-      below k c (no e) = let a : k < length ks = omega (arith, z) in subst (λ (y : ℕ). exprOf y < n) (sym (old k a)) (g.dependencies-below k a)
+      below : (k : ℕ) → k < length (ks ++ (d ∷ [])) → Dec (k ≡ length ks) → expr_of (get_or (ks ++ (d ∷ [])) k 0) < n
+      below k c (yes e) = subst (λ (y : ℕ). expr_of y < n) (sym (new k e)) b
+      below k c (no e) = let a : k < length ks = omega (arith, z) in subst (λ (y : ℕ). expr_of y < n) (sym (old k a)) (g.dependencies-below k a)
 
 -- a good entry with the dependency that is given
-more-good : (n : ℕ) (x : Dependent) (d : Option ℕ) → GoodEntry n x → exprOf (numberOr0 d) < n → length (withDependency x.dependencies d) ≤ 16 → GoodEntry n (more x d)
-unfolding withDependency numberOr0
+more-good : (n : ℕ) (x : Dependent) (d : Option ℕ) → GoodEntry n x → expr_of (number_or0 d) < n → length (with_dependency x.dependencies d) ≤ 16 → GoodEntry n (more x d)
+unfolding with_dependency number_or0
 more-good n x none g b s = g
 more-good n x (some d) g b s = go (among d x.dependencies) refl s
   where
@@ -83,7 +83,7 @@ more-good n x (some d) g b s = go (among d x.dependencies) refl s
     go false q l = longer-good n x g d q b l
 
 -- an insert into a good map, of known expressions, that fits
-module _ (n : ℕ) (ds : List Dependent) (k : ℕ) (t d : Option ℕ) (g : GoodMap n ds) (a : exprOf k < n) (b : exprOf (numberOr0 t) < n) (c : exprOf (numberOr0 d) < n) (f : fits (inserted ds k t d) ≡ true) where
+module _ (n : ℕ) (ds : List Dependent) (k : ℕ) (t d : Option ℕ) (g : GoodMap n ds) (a : expr_of k < n) (b : expr_of (number_or0 t) < n) (c : expr_of (number_or0 d) < n) (f : fits (inserted ds k t d) ≡ true) where
   abbrev made : List Dependent
   made = inserted ds k t d
 
@@ -152,39 +152,39 @@ module _ (n : ℕ) (ds : List Dependent) (k : ℕ) (t d : Option ℕ) (g : GoodM
               g.apart j h l w (sym (keys_kept ds k t d j (omega arith)) ∙ q ∙ keys_kept ds k t d h w)
 
 -- the expression of a key
-expr-key : (e options : ℕ) → options ≤ 3 → exprOf (e * 4 + options) ≡ e
-unfolding exprOf
+expr-key : (e options : ℕ) → options ≤ 3 → expr_of (e * 4 + options) ≡ e
+unfolding expr_of
 expr-key e options l = omega arith
 
 -- a key that is given, if one is, is known
-given-known : (n : ℕ) (g : Given) → 0 < n → optionsKnown g ≡ true → givenBelow n g ≡ true → exprOf (numberOr0 (key_of g)) < n
-unfolding optionsKnown givenBelow key_of numberOr0 exprOf
+given-known : (n : ℕ) (g : Given) → 0 < n → options_known g ≡ true → given_below n g ≡ true → expr_of (number_or0 (key_of g)) < n
+unfolding options_known given_below key_of number_or0 expr_of
 given-known n (Key e options) z o b = let l = leb-true options 3 o in let w = ltb-true e n b in omega arith
 given-known n Nothing z o b = omega arith
 
 -- what a number 0 says of what is lent and given
 record Lent (cells : List ℕ) (m : DependencyMap) (e options : ℕ) (target dependency : Given) : Type 0 where
-  checked : mapNumber cells m ≡ 0
-  key : exprOf (e * 4 + options) < count cells
-  target-known : exprOf (numberOr0 (key_of target)) < count cells
-  dependency-known : exprOf (numberOr0 (key_of dependency)) < count cells
+  checked : map_number cells m ≡ 0
+  key : expr_of (e * 4 + options) < count cells
+  target-known : expr_of (number_or0 (key_of target)) < count cells
+  dependency-known : expr_of (number_or0 (key_of dependency)) < count cells
 
 -- the parts of a number that is 0
 number-parts : (a b c : Bool) (x : ℕ) → eqb x 0 ≡ b → ◌≡◌ {A = ℕ} (if a then (if b then (if c then 0 else 1) else x) else 12) 0 → (a ≡ true) × (x ≡ 0) × (c ≡ true)
 number-parts true true true x e q = (refl, eqb-true x 0 e, refl)
 number-parts true true false x e q = absurd (omega arith)
-number-parts true false c x e q = absurd (true-not-false (ap (λ (y : ℕ). eqb y 0) q) e)
+number-parts true false c x e q = absurd (true_not_false (ap (λ (y : ℕ). eqb y 0) q) e)
 number-parts false b c x e q = absurd (omega arith)
 
 module _ (cells : List ℕ) (m : DependencyMap) (e options : ℕ) (target dependency : Given) where
-  lent-known : insertNumber cells m e options target dependency ≡ 0 → Lent cells m e options target dependency
-  unfolding insertNumber
+  lent-known : insert_number cells m e options target dependency ≡ 0 → Lent cells m e options target dependency
+  unfolding insert_number
   lent-known q =
       let p =
-      number-parts (leb options 3 && optionsKnown target && optionsKnown dependency) (eqb (mapNumber cells m) 0)
-      (ltb e (count cells) && givenBelow (count cells) target && givenBelow (count cells) dependency) (mapNumber cells m) refl q in
-      let o = three (leb options 3) (optionsKnown target) (optionsKnown dependency) p.0 in
-      let b = three (ltb e (count cells)) (givenBelow (count cells) target) (givenBelow (count cells) dependency) p.2 in
+      number-parts (leb options 3 && options_known target && options_known dependency) (eqb (map_number cells m) 0)
+      (ltb e (count cells) && given_below (count cells) target && given_below (count cells) dependency) (map_number cells m) refl q in
+      let o = three (leb options 3) (options_known target) (options_known dependency) p.0 in
+      let b = three (ltb e (count cells)) (given_below (count cells) target) (given_below (count cells) dependency) p.2 in
       let l = ltb-true e (count cells) b.0 in
       record {
         checked = p.1;
@@ -197,29 +197,29 @@ module _ (cells : List ℕ) (m : DependencyMap) (e options : ℕ) (target depend
   after = inserted (decode m) (e * 4 + options) (key_of target) (key_of dependency)
 
   -- the answer, by the check and by whether the map fits
-  abbrev answerBy : Bool → Bool → Inserted
-  answerBy p q =
-      if p then (if q then record { number = 0; map = encode after } else record { number = 5; map = m }) else record { number = insertNumber cells m e options target dependency; map = m }
+  abbrev answer_by : Bool → Bool → Inserted
+  answer_by p q =
+      if p then (if q then record { number = 0; map = encode after } else record { number = 5; map = m }) else record { number = insert_number cells m e options target dependency; map = m }
 
   -- a map that an insert made passes the check
-  pub insert-valid : (insertAnswer cells m e options target dependency).number ≡ 0 → mapNumber cells (insertAnswer cells m e options target dependency).map ≡ 0
-  unfolding insertAnswer judged
-  insert-valid = go (eqb (insertNumber cells m e options target dependency) 0) (fits after) refl refl
+  pub insert_valid : (insert_answer cells m e options target dependency).number ≡ 0 → map_number cells (insert_answer cells m e options target dependency).map ≡ 0
+  unfolding insert_answer judged
+  insert_valid = go (eqb (insert_number cells m e options target dependency) 0) (fits after) refl refl
     where
-      go : (p q : Bool) → eqb (insertNumber cells m e options target dependency) 0 ≡ p → fits after ≡ q → (answerBy p q).number ≡ 0 → mapNumber cells (answerBy p q).map ≡ 0
+      go : (p q : Bool) → eqb (insert_number cells m e options target dependency) 0 ≡ p → fits after ≡ q → (answer_by p q).number ≡ 0 → map_number cells (answer_by p q).map ≡ 0
       go true true s f z =
-          let l = lent-known (eqb-true (insertNumber cells m e options target dependency) 0 s) in
+          let l = lent-known (eqb-true (insert_number cells m e options target dependency) 0 s) in
           good-number cells after (number-arena cells m l.checked)
           (inserted-good (count cells) (decode m) (e * 4 + options) (key_of target) (key_of dependency) (number-good cells m l.checked) l.key l.target-known l.dependency-known f)
       go true false s f z = absurd (omega arith)
-      go false q s f z = absurd (true-not-false (ap (λ (y : ℕ). eqb y 0) z) s)
+      go false q s f z = absurd (true_not_false (ap (λ (y : ℕ). eqb y 0) z) s)
 
   -- a refusal hands the map back as it was
-  pub refusal-keeps-map : ((insertAnswer cells m e options target dependency).number ≡ 0 → ⊥) → (insertAnswer cells m e options target dependency).map ≡ m
-  unfolding insertAnswer judged
-  refusal-keeps-map = go (eqb (insertNumber cells m e options target dependency) 0) (fits after)
+  pub refusal-keeps-map : ((insert_answer cells m e options target dependency).number ≡ 0 → ⊥) → (insert_answer cells m e options target dependency).map ≡ m
+  unfolding insert_answer judged
+  refusal-keeps-map = go (eqb (insert_number cells m e options target dependency) 0) (fits after)
     where
-      go : (p q : Bool) → ((answerBy p q).number ≡ 0 → ⊥) → (answerBy p q).map ≡ m
+      go : (p q : Bool) → ((answer_by p q).number ≡ 0 → ⊥) → (answer_by p q).map ≡ m
       go true true n = absurd (n refl)
       go true false n = refl
       go false q n = refl
@@ -236,8 +236,8 @@ module _ (ds : List Dependent) (k : ℕ) (t d : Option ℕ) where
       go (some i) e = (i, place_kept ds k t d i e)
 
   -- a key that is there keeps its first target
-  pub first-target-kept : (i : ℕ) → place_of ds k ≡ some i → (entry_at (inserted ds k t d) i).target ≡ (entry_at ds i).target
-  first-target-kept i e = ap (λ (x : Dependent). x.target) (there-entry ds k t d i e)
+  pub first_target-kept : (i : ℕ) → place_of ds k ≡ some i → (entry_at (inserted ds k t d) i).target ≡ (entry_at ds i).target
+  first_target-kept i e = ap (λ (x : Dependent). x.target) (there-entry ds k t d i e)
 
   -- a new key comes to the end with the target that is given
   pub target-taken : place_of ds k ≡ none → (entry_at (inserted ds k t d) (length ds)).target ≡ t
@@ -252,8 +252,8 @@ module _ (ds : List Dependent) (k : ℕ) (t d : Option ℕ) where
       go (some i) e = there-other ds k t d i e j (λ q. n (e ∙ ap {B = Option ℕ} some (sym q)))
 
 -- a dependency that is given is there then
-with-among : (ks : List ℕ) (d : ℕ) → among d (withDependency ks (some d)) ≡ true
-unfolding withDependency
+with-among : (ks : List ℕ) (d : ℕ) → among d (with_dependency ks (some d)) ≡ true
+unfolding with_dependency
 with-among ks d = go (among d ks) refl
   where
     go : (b : Bool) → among d ks ≡ b → among d (if b then ks else ks ++ (d ∷ [])) ≡ true
@@ -277,7 +277,7 @@ module _ (ds : List Dependent) (k : ℕ) (t : Option ℕ) (d : ℕ) where
 
   -- a dependency that the key has already changes nothing
   pub dependency-once : (i : ℕ) → place_of ds k ≡ some i → among d (entry_at ds i).dependencies ≡ true → depending ≡ ds
-  unfolding withDependency
+  unfolding with_dependency
   dependency-once i e h = there-is ds k t (some d) i e ∙ ap (λ (x : Dependent). set ds i x) same ∙ ext_get_or nothing (set ds i (entry_at ds i)) ds (length-set ds i (entry_at ds i)) (λ j l. at j (ℕ_discrete j i))
     where
       same : more (entry_at ds i) (some d) ≡ entry_at ds i

@@ -10,9 +10,9 @@ use borrow.Author.Tests.{eqb-true, eq-eqb}
 use lib.Dec.{eqb}
 use lib.ListN.{length, set, length-append, length-set, get_or-append}
 use lib.Seq.{get_or_at, get_or-set_same, get_or-set_other}
-use Rattle.laws.proofs.Booleans.{true-not-false}
+use Rattle.laws.proofs.Booleans.{true_not_false}
 use Rattle.laws.proofs.First.{first_some, first-none}
-use Rattle.dependencies.specs.Map.{Dependent, entry_at, place_of, withDependency, insertedAt, inserted}
+use Rattle.dependencies.specs.Map.{Dependent, entry_at, place_of, with_dependency, inserted_at, inserted}
 
 -- what stands past the end
 abbrev pub nothing : Dependent
@@ -20,7 +20,7 @@ nothing = record { key = 0; target = none; dependencies = [] }
 
 -- an entry with the dependency that is given
 abbrev pub more : Dependent → Option ℕ → Dependent
-more x d = record { key = x.key; target = x.target; dependencies = withDependency x.dependencies d }
+more x d = record { key = x.key; target = x.target; dependencies = with_dependency x.dependencies d }
 
 -- the place of a key
 module _ (ds : List Dependent) (k : ℕ) where
@@ -40,12 +40,12 @@ module _ (ds : List Dependent) (k : ℕ) where
   -- and not before
   pub place-first : (i : ℕ) → place_of ds k ≡ some i → (j : ℕ) → j < i → (entry_at ds j).key ≡ k → ⊥
   unfolding place_of
-  place-first i e j l q = true-not-false (eq-eqb (entry_at ds j).key k q) ((first_some Hit (length ds) i e).fresh j l)
+  place-first i e j l q = true_not_false (eq-eqb (entry_at ds j).key k q) ((first_some Hit (length ds) i e).fresh j l)
 
   -- a key without a place stands nowhere
   pub place_none : place_of ds k ≡ none → (j : ℕ) → j < length ds → (entry_at ds j).key ≡ k → ⊥
   unfolding place_of
-  place_none e j l q = true-not-false (eq-eqb (entry_at ds j).key k q) (first-none Hit (length ds) e j l)
+  place_none e j l q = true_not_false (eq-eqb (entry_at ds j).key k q) (first-none Hit (length ds) e j l)
 
   -- where a key stands and not before, there is its place
   pub place_is : (i : ℕ) → i < length ds → (entry_at ds i).key ≡ k → ((j : ℕ) → j < i → (entry_at ds j).key ≡ k → ⊥) → place_of ds k ≡ some i
@@ -63,12 +63,12 @@ module _ (ds : List Dependent) (k : ℕ) where
 module _ (ds : List Dependent) (k : ℕ) (t d : Option ℕ) where
   -- the entry of a new key
   abbrev pub last : Dependent
-  last = record { key = k; target = t; dependencies = withDependency [] d }
+  last = record { key = k; target = t; dependencies = with_dependency [] d }
 
   -- a key that is there
   module _ (i : ℕ) (e : place_of ds k ≡ some i) where
     pub there-is : inserted ds k t d ≡ set ds i (more (entry_at ds i) d)
-    unfolding inserted insertedAt
+    unfolding inserted inserted_at
     there-is = rw e
 
     pub there-length : length (inserted ds k t d) ≡ length ds
@@ -83,7 +83,7 @@ module _ (ds : List Dependent) (k : ℕ) (t d : Option ℕ) where
   -- a key that is new
   module _ (e : place_of ds k ≡ none) where
     pub new_is : inserted ds k t d ≡ ds ++ (last ∷ [])
-    unfolding inserted insertedAt
+    unfolding inserted inserted_at
     new_is = rw e
 
     pub new-length : length (inserted ds k t d) ≡ length ds + 1

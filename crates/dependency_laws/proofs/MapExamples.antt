@@ -3,9 +3,9 @@ use Prim.Native.Nat.{ℕ}
 use mathlib.Core.List.{List, [], ◌∷◌}
 use mathlib.Core.Option.{Option, none, some}
 use mathlib.Core.Path.{◌≡◌, refl}
-use Rattle.laws.specs.Tests.{first, firstFrom}
+use Rattle.laws.specs.Tests.{first, first_from}
 use Rattle.classes.specs.Group.{among}
-use Rattle.dependencies.specs.Map.{Dependent, place_of, withDependency, insertedAt, inserted}
+use Rattle.dependencies.specs.Map.{Dependent, place_of, with_dependency, inserted_at, inserted}
 
 -- an entry
 abbrev entry : ℕ → Option ℕ → List ℕ → Dependent
@@ -16,31 +16,31 @@ abbrev two : List Dependent
 two = entry 4 (some 8) (12 ∷ []) ∷ entry 12 none [] ∷ []
 
 -- into the empty map
-into-empty : inserted [] 4 (some 8) (some 12) ≡ entry 4 (some 8) (12 ∷ []) ∷ []
-unfolding inserted insertedAt place_of first firstFrom withDependency among
-into-empty = refl
+into_empty : inserted [] 4 (some 8) (some 12) ≡ entry 4 (some 8) (12 ∷ []) ∷ []
+unfolding inserted inserted_at place_of first first_from with_dependency among
+into_empty = refl
 
 -- a key without a target and without a dependency comes to the end
 bare-key : inserted (entry 4 (some 8) (12 ∷ []) ∷ []) 12 none none ≡ two
-unfolding inserted insertedAt place_of first firstFrom withDependency
+unfolding inserted inserted_at place_of first first_from with_dependency
 bare-key = refl
 
 -- the same key again with another target: the first is kept, and the dependency stands once
 repeated : inserted two 4 (some 16) (some 12) ≡ two
-unfolding inserted insertedAt place_of first firstFrom withDependency among
+unfolding inserted inserted_at place_of first first_from with_dependency among
 repeated = refl
 
 -- a key that came without a target stays without one
 none_kept : inserted two 12 (some 16) none ≡ two
-unfolding inserted insertedAt place_of first firstFrom withDependency
+unfolding inserted inserted_at place_of first first_from with_dependency
 none_kept = refl
 
 -- a second dependency comes after the first, whichever number is lower
-in_order : inserted two 4 none (some 2) ≡ entry 4 (some 8) (12 ∷ 2 ∷ []) ∷ entry 12 none [] ∷ []
-unfolding inserted insertedAt place_of first firstFrom withDependency among
-in_order = refl
+in_order_lem : inserted two 4 none (some 2) ≡ entry 4 (some 8) (12 ∷ 2 ∷ []) ∷ entry 12 none [] ∷ []
+unfolding inserted inserted_at place_of first first_from with_dependency among
+in_order_lem = refl
 
 -- the same expression with other options is another key
 other-options : inserted (entry 4 (some 8) [] ∷ []) 5 (some 9) none ≡ entry 4 (some 8) [] ∷ entry 5 (some 9) [] ∷ []
-unfolding inserted insertedAt place_of first firstFrom withDependency
+unfolding inserted inserted_at place_of first first_from with_dependency
 other-options = refl

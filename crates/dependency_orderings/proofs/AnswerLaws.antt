@@ -12,43 +12,43 @@ use lib.Dec.{eqb, ltb, leb}
 use lib.ListN.{length, get_or, take, drop, set, replicate, length-append, get_or-append}
 use lib.Seq.{take_all, get_or-append-add}
 use Rattle.laws.specs.Tests.{if◌then◌else◌, each}
-use Rattle.laws.proofs.Booleans.{true-not-false, and_both, and-fails-left, and-fails-right}
+use Rattle.laws.proofs.Booleans.{true_not_false, and_both, and_fails_left, and_fails_right}
 use Rattle.laws.proofs.Table.{table_is}
 use Rattle.arena.specs.Layout.{count}
 use Rattle.arena.proofs.Layouts.{lawful-holds}
-use Rattle.sort_keys.specs.Layout.{optionsKnown, noneCut}
+use Rattle.sort_keys.specs.Layout.{options_known, none_cut}
 use Rattle.sort_keys.proofs.KeyCalls.{Below, keys-known}
-use Rattle.orderings.specs.Lists.{orderingAt}
+use Rattle.orderings.specs.Lists.{ordering_at}
 use Rattle.orderings.specs.Layout.{row, keys_of}
-use Rattle.orderings.specs.Inner.{ShortOrdering, allShort}
+use Rattle.orderings.specs.Inner.{ShortOrdering, all_short}
 use Rattle.orderings.proofs.Codec.{keys-row}
 use Rattle.orderings.proofs.Extending.{row-short}
 use Rattle.dependencies.specs.Map.{Dependent, place_of}
 use Rattle.dependencies.specs.Layout.{decode}
-use Rattle.dependencies.specs.Calls.{mapNumber}
+use Rattle.dependencies.specs.Calls.{map_number}
 use Rattle.dependencies.specs.Inner.{Held}
 use Rattle.dependencies.specs.declared.DependencyMap.{DependencyMap}
 use Rattle.dependencies.proofs.MapChecks.{number-lawful, number-arena}
 use Rattle.dependencies.proofs.MapCodec.{Sized, held-lawful}
-use Rattle.enumeration.specs.Walk.{Walk, found, stopped, prefixOrderings}
+use Rattle.enumeration.specs.Walk.{Walk, found, stopped, prefix_orderings}
 use Rattle.enumeration.specs.Bounds.{fitting}
 use Rattle.enumeration.specs.Inner.{Rows, Came}
 use Rattle.enumeration.specs.declared.Found.{Found}
 use Rattle.enumeration.proofs.Keeps.{fitting-few, fitting-short}
 use Rattle.enumeration.proofs.WalkLaws.{prefix-missing}
-use Rattle.products.proofs.BoundLaws.{Full, lists-full, prefix-bounds-follow}
+use Rattle.products.proofs.BoundLaws.{Full, lists-full, prefix_bounds_follow}
 use Rattle.products.specs.Orders.{product}
-use Rattle.products.specs.Generate.{onceEach, lists, stops, contributing, allOrders, generated}
-use Rattle.products.specs.Inner.{joined, start_of, length_of, lengthsOf, list_of, lists_of, Laid, factorial, timesAll, choices, counted}
+use Rattle.products.specs.Generate.{once_each, lists, stops, contributing, all_orders, generated}
+use Rattle.products.specs.Inner.{joined, start_of, length_of, lengths_of, list_of, lists_of, Laid, factorial, times_all, choices, counted}
 use Rattle.products.specs.declared.Shape.{Shape}
 use Rattle.products.specs.declared.Lists.{Lists}
 use Rattle.products.specs.declared.Counted.{Counted}
 use Rattle.products.proofs.ProductLaws.{generated-one, generated-length}
-use Rattle.products.proofs.ListLaws.{lists_length, lists-lengths}
-use Rattle.products.proofs.Choices.{lengths-count}
-use Rattle.dependency_orderings.specs.Output.{writtenAll}
-use Rattle.dependency_orderings.specs.Calls.{refusedWith, writes, answered, walkAnswer, prefixNumber, prefixAnswer, generateNumber, gatheredAnswer, different, generateAnswer}
-use Rattle.dependency_orderings.specs.Inner.{measured, Ready, oneList, upTo17, Shapes, Gathering, Gathers, GatheredBy, overBound, KeysFit}
+use Rattle.products.proofs.ListLaws.{lists_length, lists_lengths}
+use Rattle.products.proofs.Choices.{lengths_count}
+use Rattle.dependency_orderings.specs.Output.{written_all}
+use Rattle.dependency_orderings.specs.Calls.{refused_with, writes, answered, walk_answer, prefix_number, prefix_answer, generate_number, gathered_answer, different, generate_answer}
+use Rattle.dependency_orderings.specs.Inner.{measured, Ready, one_list, up_to17, Shapes, Gathering, Gathers, GatheredBy, over_bound, KeysFit}
 use Rattle.dependency_orderings.specs.declared.Enumerated.{Enumerated}
 use Rattle.dependency_orderings.specs.declared.Gathered.{Gathered}
 
@@ -59,41 +59,41 @@ abbrev pub Answer : Type 0
 Answer = Enumerated × List ℕ
 
 -- no orderings: nothing is written
-answered-none : (out : List ℕ) → ◌≡◌ {A = Answer} (refusedWith 0, out) (answered [] out)
-unfolding answered writes writtenAll fitting each
+answered-none : (out : List ℕ) → ◌≡◌ {A = Answer} (refused_with 0, out) (answered [] out)
+unfolding answered writes written_all fitting each
 answered-none out = rw (le-leb 0 (length out) (omega arith))
 
 module _ (os : List (List ℕ)) (out : List ℕ) where
   -- orderings over a bound
-  pub answered-over : fitting os ≡ false → ◌≡◌ {A = Answer} (refusedWith 5, out) (answered os out)
+  pub answered-over : fitting os ≡ false → ◌≡◌ {A = Answer} (refused_with 5, out) (answered os out)
   unfolding answered
   answered-over f = rw f
 
   -- orderings within the bounds
   module _ (f : fitting os ≡ true) where
     -- that the output is too short for
-    answered-short : length out < length (writtenAll os) → ◌≡◌ {A = Answer} (refusedWith 8, out) (answered os out)
+    answered-short : length out < length (written_all os) → ◌≡◌ {A = Answer} (refused_with 8, out) (answered os out)
     unfolding answered
-    answered-short l = rw (f, lt-leb (length (writtenAll os)) (length out) l)
+    answered-short l = rw (f, lt-leb (length (written_all os)) (length out) l)
 
     -- that are written
-    answered-written : length (writtenAll os) ≤ length out → writes os out ≡ answered os out
+    answered-written : length (written_all os) ≤ length out → writes os out ≡ answered os out
     unfolding answered
-    answered-written l = rw (f, le-leb (length (writtenAll os)) (length out) l)
+    answered-written l = rw (f, le-leb (length (written_all os)) (length out) l)
 
 -- more than 1,024 orderings are over a bound
 many-over : (os : List (List ℕ)) → 1024 < length os → fitting os ≡ false
-unfolding fitting allShort
-many-over os l = and-fails-left (leb (length os) 1024) (allShort os) (lt-leb (length os) 1024 l)
+unfolding fitting all_short
+many-over os l = and_fails_left (leb (length os) 1024) (all_short os) (lt-leb (length os) 1024 l)
 
 -- so are orderings of which one is too long
-long-over : (os : List (List ℕ)) → allShort os ≡ false → fitting os ≡ false
-unfolding fitting allShort
-long-over os f = and-fails-right (leb (length os) 1024) (allShort os) f
+long-over : (os : List (List ℕ)) → all_short os ≡ false → fitting os ≡ false
+unfolding fitting all_short
+long-over os f = and_fails_right (leb (length os) 1024) (all_short os) f
 
 -- others are within them
-few-fitting : (os : List (List ℕ)) → length os ≤ 1024 → allShort os ≡ true → fitting os ≡ true
-unfolding fitting allShort
+few-fitting : (os : List (List ℕ)) → length os ≤ 1024 → all_short os ≡ true → fitting os ≡ true
+unfolding fitting all_short
 few-fitting os l h = and_both (le-leb (length os) 1024 l) h
 
 -- How many orderings lists give, and how many places they take
@@ -110,43 +110,43 @@ told-test false n r q = ap (λ (x : Counted). x.fits) q
 -- and where it did, the number
 told-number : (b : Bool) (n : ℕ) (r : Counted) → r ≡ told b n → r.fits ≡ true → r.count ≡ n
 told-number true n r q t = ap (λ (x : Counted). x.count) q
-told-number false n r q t = absurd (true-not-false t (ap (λ (x : Counted). x.fits) q))
+told-number false n r q t = absurd (true_not_false t (ap (λ (x : Counted). x.fits) q))
 
 -- how many choices lists of some lengths give
 module _ (ns : List ℕ) (r : Counted) (q : r ≡ counted ns) where
   -- how many orders they have
   abbrev ways : ℕ
-  ways = factorial (length ns) * timesAll ns
+  ways = factorial (length ns) * times_all ns
 
   -- where the number is told, at most 1,024
   counted-few : r.fits ≡ true → ways ≤ 1024
   unfolding counted
-  counted-few t = leb-true ways 1024 (sym (told-test (leb ways 1024) (timesAll ns) r q) ∙ t)
+  counted-few t = leb-true ways 1024 (sym (told-test (leb ways 1024) (times_all ns) r q) ∙ t)
 
   -- where it is not, more
   counted-over : r.fits ≡ false → 1024 < ways
   unfolding counted
-  counted-over t = leb-false ways 1024 (sym (told-test (leb ways 1024) (timesAll ns) r q) ∙ t)
+  counted-over t = leb-false ways 1024 (sym (told-test (leb ways 1024) (times_all ns) r q) ∙ t)
 
   -- the number that is told
-  counted_is : r.fits ≡ true → r.count ≡ timesAll ns
+  counted_is : r.fits ≡ true → r.count ≡ times_all ns
   unfolding counted
-  counted_is t = told-number (leb ways 1024) (timesAll ns) r q t
+  counted_is t = told-number (leb ways 1024) (times_all ns) r q t
 
 -- how many places orderings take
 module _ (os : List (List ℕ)) (r : Counted) (q : r ≡ measured os) where
   -- where the number is told, none is too long; where it is not, one is
-  measured-test : r.fits ≡ allShort os
+  measured-test : r.fits ≡ all_short os
   unfolding measured
-  measured-test = told-test (allShort os) (length (writtenAll os)) r q
+  measured-test = told-test (all_short os) (length (written_all os)) r q
 
   -- the number that is told
-  measured-is : r.fits ≡ true → r.count ≡ length (writtenAll os)
+  measured-is : r.fits ≡ true → r.count ≡ length (written_all os)
   unfolding measured
-  measured-is t = told-number (allShort os) (length (writtenAll os)) r q t
+  measured-is t = told-number (all_short os) (length (written_all os)) r q t
 
 -- where there are lists, their orderings are those of the choices
-generated-some : (ls : List (List (List ℕ))) → 0 < length ls → generated ls ≡ allOrders (product ls)
+generated-some : (ls : List (List (List ℕ))) → 0 < length ls → generated ls ≡ all_orders (product ls)
 unfolding generated
 generated-some [] l = absurd (omega arith)
 generated-some (x ∷ ls) l = refl
@@ -157,56 +157,56 @@ generated-count [] l = absurd (omega arith)
 generated-count (x ∷ ls) l = generated-length x ls
 
 -- no lists have no orderings
-pub answer-none : (l : Lists) (out : List ℕ) → l.shape.size ≡ 0 → ◌≡◌ {A = Answer} (refusedWith 0, out) (answered (generated (lists_of l)) out)
+pub answer-none : (l : Lists) (out : List ℕ) → l.shape.size ≡ 0 → ◌≡◌ {A = Answer} (refused_with 0, out) (answered (generated (lists_of l)) out)
 unfolding generated
 answer-none l out z = go (lists_of l) (lists_length l ∙ z)
   where
-    go : (ls : List (List (List ℕ))) → length ls ≡ 0 → ◌≡◌ {A = Answer} (refusedWith 0, out) (answered (generated ls) out)
+    go : (ls : List (List (List ℕ))) → length ls ≡ 0 → ◌≡◌ {A = Answer} (refused_with 0, out) (answered (generated ls) out)
     go [] e = answered-none out
     go (x ∷ ls) e = absurd (omega arith)
 
 -- the answer with lists of which at least one is there, by the number of choices
-module _ (l : Lists) (v : Laid l) (z : l.shape.size ≡ 0 → ⊥) (r : Counted) (q : r ≡ counted (lengthsOf l.shape)) where
+module _ (l : Lists) (v : Laid l) (z : l.shape.size ≡ 0 → ⊥) (r : Counted) (q : r ≡ counted (lengths_of l.shape)) where
   -- at least one is there
   there : 0 < length (lists_of l)
   there = omega (arith, lists_length l)
 
   -- the orderings of all choices
   abbrev all : List (List ℕ)
-  all = allOrders (product (lists_of l))
+  all = all_orders (product (lists_of l))
 
   -- they are what the lists give
   all-is : generated (lists_of l) ≡ all
   all-is = generated-some (lists_of l) there
 
   -- how many they are
-  all-count : length (generated (lists_of l)) ≡ timesAll (lengthsOf l.shape) * factorial l.shape.size
+  all-count : length (generated (lists_of l)) ≡ times_all (lengths_of l.shape) * factorial l.shape.size
   all-count =
       generated-count (lists_of l) there
-      ∙ ap₂ {C = ℕ} (λ a b. timesAll a * factorial b) (lists-lengths l) (lists_length l)
+      ∙ ap₂ {C = ℕ} (λ a b. times_all a * factorial b) (lists_lengths l) (lists_length l)
 
   -- too many
-  pub answer-many : r.fits ≡ false → (out : List ℕ) → ◌≡◌ {A = Answer} (refusedWith 5, out) (answered (generated (lists_of l)) out)
+  pub answer-many : r.fits ≡ false → (out : List ℕ) → ◌≡◌ {A = Answer} (refused_with 5, out) (answered (generated (lists_of l)) out)
   answer-many f out =
-      let over = counted-over (lengthsOf l.shape) r q f in
-      let same = ap (λ (n : ℕ). factorial n * timesAll (lengthsOf l.shape)) (lengths-count l.shape) in
+      let over = counted-over (lengths_of l.shape) r q f in
+      let same = ap (λ (n : ℕ). factorial n * times_all (lengths_of l.shape)) (lengths_count l.shape) in
       answered-over (generated (lists_of l)) out (many-over (generated (lists_of l))
-      (omega (arith, over, same, all-count, mul_comm (factorial l.shape.size) (timesAll (lengthsOf l.shape)))))
+      (omega (arith, over, same, all-count, mul_comm (factorial l.shape.size) (times_all (lengths_of l.shape)))))
 
   -- not too many
   module _ (f : r.fits ≡ true) where
     -- their orders are at most 1,024
     few-orders : factorial l.shape.size * r.count ≤ 1024
     few-orders =
-        let same = ap₂ {C = ℕ} (λ a b. factorial a * b) (lengths-count l.shape) (sym (counted_is (lengthsOf l.shape) r q f)) in
-        omega (arith, counted-few (lengthsOf l.shape) r q f, same)
+        let same = ap₂ {C = ℕ} (λ a b. factorial a * b) (lengths_count l.shape) (sym (counted_is (lengths_of l.shape) r q f)) in
+        omega (arith, counted-few (lengths_of l.shape) r q f, same)
 
     -- what the functions that measure and write ask
     pub answer-ready : Ready l r.count
     answer-ready = record {
       laid = v;
       some = omega arith;
-      number = counted_is (lengthsOf l.shape) r q f ∙ ap timesAll (sym (lists-lengths l));
+      number = counted_is (lengths_of l.shape) r q f ∙ ap times_all (sym (lists_lengths l));
       few = few-orders;
     }
 
@@ -216,7 +216,7 @@ module _ (l : Lists) (v : Laid l) (z : l.shape.size ≡ 0 → ⊥) (r : Counted)
 
     -- and it is how many orderings there are
     count-is : (n : ℕ) → n ≡ factorial l.shape.size → r.count * n ≡ length (generated (lists_of l))
-    count-is n e = ap₂ {C = ℕ} (λ a b. a * b) (counted_is (lengthsOf l.shape) r q f) e ∙ sym all-count
+    count-is n e = ap₂ {C = ℕ} (λ a b. a * b) (counted_is (lengths_of l.shape) r q f) e ∙ sym all-count
 
     -- so there are at most 1,024
     all-few : length (generated (lists_of l)) ≤ 1024
@@ -225,7 +225,7 @@ module _ (l : Lists) (v : Laid l) (z : l.shape.size ≡ 0 → ⊥) (r : Counted)
     -- by how many places they take
     module _ (p : Counted) (w : p ≡ measured all) (out : List ℕ) where
       -- one is too long
-      pub answer-long : p.fits ≡ false → ◌≡◌ {A = Answer} (refusedWith 5, out) (answered (generated (lists_of l)) out)
+      pub answer-long : p.fits ≡ false → ◌≡◌ {A = Answer} (refused_with 5, out) (answered (generated (lists_of l)) out)
       answer-long g = answered-over (generated (lists_of l)) out (rw all-is (long-over all (sym (measured-test all p w) ∙ g)))
 
       -- none is
@@ -235,17 +235,17 @@ module _ (l : Lists) (v : Laid l) (z : l.shape.size ≡ 0 → ⊥) (r : Counted)
         all-fitting = few-fitting all (omega (arith, all-few, ap (λ (x : List (List ℕ)). length x) all-is)) (sym (measured-test all p w) ∙ g)
 
         -- the output is too short
-        pub answer-short : length out < p.count → ◌≡◌ {A = Answer} (refusedWith 8, out) (answered (generated (lists_of l)) out)
+        pub answer-short : length out < p.count → ◌≡◌ {A = Answer} (refused_with 8, out) (answered (generated (lists_of l)) out)
         answer-short b = rw all-is (answered-short all out all-fitting (omega (arith, measured-is all p w g)))
 
         -- it has room
         module _ (b : p.count ≤ length out) where
           -- as the function that writes asks
-          pub answer-room : (allShort all ≡ true) × (length (writtenAll all) ≤ length out)
+          pub answer-room : (all_short all ≡ true) × (length (written_all all) ≤ length out)
           answer-room = (sym (measured-test all p w) ∙ g, omega (arith, measured-is all p w g))
 
           -- they are written
-          pub answer-written : (n used : ℕ) (e : List ℕ) → n ≡ factorial l.shape.size → (used ≡ length (writtenAll all)) × (e ≡ writtenAll all ++ drop (length (writtenAll all)) out)
+          pub answer-written : (n used : ℕ) (e : List ℕ) → n ≡ factorial l.shape.size → (used ≡ length (written_all all)) × (e ≡ written_all all ++ drop (length (written_all all)) out)
               → ◌≡◌ {A = Answer} (record { number = 0; count = r.count * n; used = used }, e) (answered (generated (lists_of l)) out)
           unfolding writes
           answer-written n used e a h =
@@ -290,7 +290,7 @@ module _ (l : Lists) (ls : List (List (List ℕ))) (shapes : Shapes l.shape ls) 
   end_is j b = shapes.ends j b ∙ ap (λ (n : ℕ). length (joined (take n ls))) (add-one j) ∙ joined-more ls j b
 
   -- an ordering as it lies in the struct
-  row_is : (i : ℕ) → i < length (joined ls) → get_or l.found.rows i (row []) ≡ row (orderingAt (joined ls) i)
+  row_is : (i : ℕ) → i < length (joined ls) → get_or l.found.rows i (row []) ≡ row (ordering_at (joined ls) i)
   row_is i b = rows.rows f i b
 
   -- the struct has them within its bounds
@@ -305,7 +305,7 @@ module _ (l : Lists) (ls : List (List (List ℕ))) (shapes : Shapes l.shape ls) 
         let e : start_of l.shape l.shape.size ≡ length (joined ls) =
         ap (start_of l.shape) shapes.size ∙ start_is (length ls) (omega arith) ∙ ap (λ (x : List (List (List ℕ))). length (joined x)) (take_all (length ls) ls (omega arith)) in
         let k : i < length (joined ls) = omega arith in
-        subst ShortOrdering (sym (row_is i k)) (row-short (orderingAt (joined ls) i) (fitting-short (joined ls) f i k));
+        subst ShortOrdering (sym (row_is i k)) (row-short (ordering_at (joined ls) i) (fitting-short (joined ls) f i k));
   }
 
   -- each list is the one in the struct
@@ -319,7 +319,7 @@ module _ (l : Lists) (ls : List (List (List ℕ))) (shapes : Shapes l.shape ls) 
       let inside : i < length (get_or ls j []) = omega arith in
       let place : length (joined (take j ls)) + i < length (joined ls) = omega (arith, joined-more ls j b, joined-few ls (suc j)) in
       sym (ap (λ (s : ℕ). keys_of (get_or l.found.rows (s + i) (row []))) start
-      ∙ ap keys_of (row_is (length (joined (take j ls)) + i) place) ∙ keys-row (orderingAt (joined ls) (length (joined (take j ls)) + i))
+      ∙ ap keys_of (row_is (length (joined (take j ls)) + i) place) ∙ keys-row (ordering_at (joined ls) (length (joined (take j ls)) + i))
       ∙ joined_at ls j i b inside))
 
   -- and they are the lists in it
@@ -342,13 +342,13 @@ module _ (f : Found) (os : List (List ℕ)) (rows : Rows f os) where
 -- the struct of one list, by the tests of the code
 module _ (f : Found) where
   -- nothing was found: none
-  pub one_none : f.count ≡ 0 → ◌≡◌ {A = Lists} (record { shape = record { size = 0; ends = replicate {A = ℕ} 6 0 }; found = f }) (oneList f)
-  unfolding oneList
+  pub one_none : f.count ≡ 0 → ◌≡◌ {A = Lists} (record { shape = record { size = 0; ends = replicate {A = ℕ} 6 0 }; found = f }) (one_list f)
+  unfolding one_list
   one_none z = rw (eq-eqb f.count 0 z)
 
   -- something was: one
-  pub one-some : (f.count ≡ 0 → ⊥) → ◌≡◌ {A = Lists} (record { shape = record { size = 1; ends = set (replicate {A = ℕ} 6 0) 0 f.count }; found = f }) (oneList f)
-  unfolding oneList
+  pub one-some : (f.count ≡ 0 → ⊥) → ◌≡◌ {A = Lists} (record { shape = record { size = 1; ends = set (replicate {A = ℕ} 6 0) 0 f.count }; found = f }) (one_list f)
+  unfolding one_list
   one-some z = rw (ne_eqb f.count 0 z)
 
 -- a list without elements
@@ -371,8 +371,8 @@ module _ (f : Found) (os : List (List ℕ)) (rows : Rows f os) (fits : fitting o
       (lists-laid l ls shapes inside within few full, ap generated (lists-are l ls shapes inside within few full) ∙ g)
 
   -- none, or one
-  one-gives : Gives (oneList f)
-  unfolding oneList joined generated
+  one-gives : Gives (one_list f)
+  unfolding one_list joined generated
   one-gives = go (eqb f.count 0) refl
     where
       go : (b : Bool) → eqb f.count 0 ≡ b
@@ -388,48 +388,48 @@ module _ (f : Found) (os : List (List ℕ)) (rows : Rows f os) (fits : fitting o
           at (suc j) l = absurd (omega arith)
 
           full : Full (os ∷ [])
-          full zero l = let z : f.count ≡ 0 → ⊥ = λ q. true-not-false (eq-eqb f.count 0 q) e in omega (arith, rows.count fits)
+          full zero l = let z : f.count ≡ 0 → ⊥ = λ q. true_not_false (eq-eqb f.count 0 q) e in omega (arith, rows.count fits)
           full (suc j) l = absurd (omega arith)
 
   -- the struct has it within its bounds
-  pub one-laid : Laid (oneList f)
+  pub one-laid : Laid (one_list f)
   one-laid = one-gives.0
 
   -- and it gives these orderings
-  pub one-generated : generated (lists_of (oneList f)) ≡ os
+  pub one-generated : generated (lists_of (one_list f)) ≡ os
   one-generated = one-gives.1
 
 -- what the walk of a key came to
 module _ (w : Walk) (k : ℕ) (f : Found) (c : Came w k [] f (λ u. Unit {0})) (out : List ℕ) where
   -- it stopped
-  pub walk-stopped : (k ≡ 0 → ⊥) → ◌≡◌ {A = Answer} (refusedWith k, out) (walkAnswer w out)
-  unfolding walkAnswer
-  walk-stopped z = sym (ap (λ (x : Walk). walkAnswer x out) (c.stops z))
+  pub walk-stopped : (k ≡ 0 → ⊥) → ◌≡◌ {A = Answer} (refused_with k, out) (walk_answer w out)
+  unfolding walk_answer
+  walk-stopped z = sym (ap (λ (x : Walk). walk_answer x out) (c.stops z))
 
   -- the struct holds its orderings
   pub walk_rows : k ≡ 0 → (os : List (List ℕ)) × Rows f os
   walk_rows z = let g = c.goes z in (g.0, g.3.0)
 
   -- the answer with them
-  pub walk-answered : k ≡ 0 → (a : Answer) → ((os : List (List ℕ)) → Rows f os → a ≡ answered os out) → a ≡ walkAnswer w out
-  unfolding walkAnswer
-  walk-answered z a h = let g = c.goes z in h g.0 g.3.0 ∙ sym (ap (λ (x : Walk). walkAnswer x out) g.2)
+  pub walk-answered : k ≡ 0 → (a : Answer) → ((os : List (List ℕ)) → Rows f os → a ≡ answered os out) → a ≡ walk_answer w out
+  unfolding walk_answer
+  walk-answered z a h = let g = c.goes z in h g.0 g.3.0 ∙ sym (ap (λ (x : Walk). walk_answer x out) g.2)
 
 -- the answer for a key that is not in the map
-pub nowhere-answered : (ds : List Dependent) (k : ℕ) (out : List ℕ) → place_of ds k ≡ none → ◌≡◌ {A = Answer} (refusedWith 6, out) (walkAnswer (prefixOrderings ds k) out)
-unfolding walkAnswer
-nowhere-answered ds k out e = sym (ap (λ (x : Walk). walkAnswer x out) (prefix-missing ds k e))
+pub nowhere-answered : (ds : List Dependent) (k : ℕ) (out : List ℕ) → place_of ds k ≡ none → ◌≡◌ {A = Answer} (refused_with 6, out) (walk_answer (prefix_orderings ds k) out)
+unfolding walk_answer
+nowhere-answered ds k out e = sym (ap (λ (x : Walk). walk_answer x out) (prefix-missing ds k e))
 
 -- What was gathered
 
 -- up to 16 a number stands for itself; 17 stands for more
-up-low : (n : ℕ) → n ≤ 16 → upTo17 n ≤ 16
-unfolding upTo17
+up-low : (n : ℕ) → n ≤ 16 → up_to17 n ≤ 16
+unfolding up_to17
 up-low n l = rw (lt-leb 17 n (omega arith)) l
 
 -- so a number up to 16 stands for one up to 16
-up-within : (n : ℕ) → upTo17 n ≤ 16 → n ≤ 16
-unfolding upTo17
+up-within : (n : ℕ) → up_to17 n ≤ 16 → n ≤ 16
+unfolding up_to17
 up-within n l = go (leb 17 n) refl l
   where
     go : (b : Bool) → leb 17 n ≡ b → (if b then 17 else n) ≤ 16 → n ≤ 16
@@ -439,19 +439,19 @@ up-within n l = go (leb 17 n) refl l
 -- the tests of what was gathered, one after the other
 module _ (g : Gathered) where
   -- more than 16 different keys
-  pub over-different : 16 < g.different → true ≡ overBound g
-  unfolding overBound
+  pub over-different : 16 < g.different → true ≡ over_bound g
+  unfolding over_bound
   over-different l = rw (lt-ltb 16 g.different l)
 
   module _ (l : g.different ≤ 16) where
     -- more than 6 that contribute
-    pub over-many : g.many ≡ true → true ≡ overBound g
-    unfolding overBound
+    pub over-many : g.many ≡ true → true ≡ over_bound g
+    unfolding over_bound
     over-many e = rw (le-ltb 16 g.different l, e)
 
     -- orderings over their bounds
-    pub over-found : g.many ≡ false → g.lists.found.over ≡ overBound g
-    unfolding overBound
+    pub over-found : g.many ≡ false → g.lists.found.over ≡ over_bound g
+    unfolding over_bound
     over-found e = rw (le-ltb 16 g.different l, e)
 
 -- where an "or" fails, so does its first half
@@ -461,15 +461,15 @@ or_left false b e = refl
 
 -- and its second half
 or_right : (a b : Bool) → (a || b) ≡ false → b ≡ false
-or_right true b e = absurd (true-not-false refl e)
+or_right true b e = absurd (true_not_false refl e)
 or_right false b e = e
 
 -- what is gathered of some different keys
 module _ (m : DependencyMap) (ks : List ℕ) (ls : List (List (List ℕ))) (g : Gathered) (h : Gathering m ks ls g) where
   -- what is over no bound: at most 16 keys, at most 6 lists, and orderings within the bounds
-  gathered-passes : overBound g ≡ false → (length ks ≤ 16) × ((leb (length ls) 6 ≡ true) × (fitting (joined ls) ≡ true))
-  unfolding overBound
-  gathered-passes e =
+  gathered_passes : over_bound g ≡ false → (length ks ≤ 16) × ((leb (length ls) 6 ≡ true) × (fitting (joined ls) ≡ true))
+  unfolding over_bound
+  gathered_passes e =
       let a : (ltb 16 g.different || g.many) ≡ false = or_left (ltb 16 g.different || g.many) g.lists.found.over e in
       let f : fitting (joined ls) ≡ true = found-fits g.lists.found (joined ls) h.rows (or_right (ltb 16 g.different || g.many) g.lists.found.over e) in
       let d : g.different ≤ 16 = ltb-false 16 g.different (or_left (ltb 16 g.different) g.many a) in
@@ -477,70 +477,70 @@ module _ (m : DependencyMap) (ks : List ℕ) (ls : List (List (List ℕ))) (g : 
       (up-within (length ks) (subst (λ (n : ℕ). n ≤ 16) h.different d), (t, f))
 
   -- what is over a bound, with at most 16 keys and at most 6 lists: their orderings
-  gathered-over : overBound g ≡ true → leb (length ks) 16 ≡ true → leb (length ls) 6 ≡ true → fitting (generated ls) ≡ false
-  unfolding overBound
-  gathered-over e p q = go (fitting (generated ls)) refl
+  gathered_over : over_bound g ≡ true → leb (length ks) 16 ≡ true → leb (length ls) 6 ≡ true → fitting (generated ls) ≡ false
+  unfolding over_bound
+  gathered_over e p q = go (fitting (generated ls)) refl
     where
       go : (c : Bool) → fitting (generated ls) ≡ c → fitting (generated ls) ≡ false
       go false r = r
       go true r =
           let d : g.different ≤ 16 = rw h.different (up-low (length ks) (leb-true (length ks) 16 p)) in
-          let f : fitting (joined ls) ≡ true = prefix-bounds-follow ls (lists-full (decode m) ks ls h.is) r in
-          absurd (true-not-false e (rw (le-ltb 16 g.different d, h.many f, q, h.rows.over, f)))
+          let f : fitting (joined ls) ≡ true = prefix_bounds_follow ls (lists-full (decode m) ks ls h.is) r in
+          absurd (true_not_false e (rw (le-ltb 16 g.different d, h.many f, q, h.rows.over, f)))
 
   -- within the bounds of a list, and at most 6
   module _ (f : fitting (joined ls) ≡ true) (few : leb (length ls) 6 ≡ true) where
     -- the struct has the lists within its bounds
-    pub gathered-laid : Laid g.lists
-    gathered-laid = lists-laid g.lists ls (h.shapes f few) h.rows f (leb-true (length ls) 6 few) (lists-full (decode m) ks ls h.is)
+    pub gathered_laid : Laid g.lists
+    gathered_laid = lists-laid g.lists ls (h.shapes f few) h.rows f (leb-true (length ls) 6 few) (lists-full (decode m) ks ls h.is)
 
     -- and they are the lists in it
-    pub gathered-lists : lists_of g.lists ≡ ls
-    gathered-lists = lists-are g.lists ls (h.shapes f few) h.rows f (leb-true (length ls) 6 few) (lists-full (decode m) ks ls h.is)
+    pub gathered_lists : lists_of g.lists ≡ ls
+    gathered_lists = lists-are g.lists ls (h.shapes f few) h.rows f (leb-true (length ls) 6 few) (lists-full (decode m) ks ls h.is)
 
   -- what is over no bound is answered with them
-  gathered-done : (out : List ℕ) → overBound g ≡ false → answered (generated (lists_of g.lists)) out ≡ gatheredAnswer (contributing (decode m) ks) (length ks) out
-  unfolding gatheredAnswer
-  gathered-done out e =
-      let p = gathered-passes e in
-      ap (λ (x : List (List (List ℕ))). answered (generated x) out) (gathered-lists p.1.1 p.1.0)
+  gathered_done : (out : List ℕ) → over_bound g ≡ false → answered (generated (lists_of g.lists)) out ≡ gathered_answer (contributing (decode m) ks) (length ks) out
+  unfolding gathered_answer
+  gathered_done out e =
+      let p = gathered_passes e in
+      ap (λ (x : List (List (List ℕ))). answered (generated x) out) (gathered_lists p.1.1 p.1.0)
       ∙ rw (h.is, le-leb (length ks) 16 p.0, p.1.0)
 
   -- what is over a bound is refused
-  gathered-refused : (out : List ℕ) → overBound g ≡ true → ◌≡◌ {A = Answer} (refusedWith 5, out) (gatheredAnswer (contributing (decode m) ks) (length ks) out)
-  unfolding gatheredAnswer
-  gathered-refused out e = go (leb (length ks) 16) refl (leb (length ls) 6) refl
+  gathered_refused : (out : List ℕ) → over_bound g ≡ true → ◌≡◌ {A = Answer} (refused_with 5, out) (gathered_answer (contributing (decode m) ks) (length ks) out)
+  unfolding gathered_answer
+  gathered_refused out e = go (leb (length ks) 16) refl (leb (length ls) 6) refl
     where
-      go : (a : Bool) → leb (length ks) 16 ≡ a → (b : Bool) → leb (length ls) 6 ≡ b → ◌≡◌ {A = Answer} (refusedWith 5, out) (gatheredAnswer (contributing (decode m) ks) (length ks) out)
+      go : (a : Bool) → leb (length ks) 16 ≡ a → (b : Bool) → leb (length ls) 6 ≡ b → ◌≡◌ {A = Answer} (refused_with 5, out) (gathered_answer (contributing (decode m) ks) (length ks) out)
       go false p b q = rw (h.is, p)
       go true p false q = rw (h.is, p, q)
-      go true p true q = rw (h.is, p, q) (answered-over (generated ls) out (gathered-over e p q))
+      go true p true q = rw (h.is, p, q) (answered-over (generated ls) out (gathered_over e p q))
 
 -- what was gathered of all given keys
 module _ (m : DependencyMap) (ks : List ℕ) (g : Gathered) (h : Gathers m ks g) (out : List ℕ) where
   -- the answer that is due
   abbrev due : Answer
-  due = gatheredAnswer (contributing (decode m) (onceEach [] ks)) (length (onceEach [] ks)) out
+  due = gathered_answer (contributing (decode m) (once_each [] ks)) (length (once_each [] ks)) out
 
   -- a walk stopped
-  pub gathers-stopped : (g.number ≡ 0 → ⊥) → ◌≡◌ {A = Answer} (refusedWith g.number, out) due
-  unfolding gatheredAnswer
+  pub gathers-stopped : (g.number ≡ 0 → ⊥) → ◌≡◌ {A = Answer} (refused_with g.number, out) due
+  unfolding gathered_answer
   gathers-stopped z = rw (h.stops_at z)
 
   -- it is over a bound
-  pub gathers-over : g.number ≡ 0 → overBound g ≡ true → ◌≡◌ {A = Answer} (refusedWith 5, out) due
-  gathers-over z e = let w = h.goes z in gathered-refused m (onceEach [] ks) w.0 g w.1 out e
+  pub gathers-over : g.number ≡ 0 → over_bound g ≡ true → ◌≡◌ {A = Answer} (refused_with 5, out) due
+  gathers-over z e = let w = h.goes z in gathered_refused m (once_each [] ks) w.0 g w.1 out e
 
   -- it is not
-  pub gathers-done : g.number ≡ 0 → overBound g ≡ false → answered (generated (lists_of g.lists)) out ≡ due
-  gathers-done z e = let w = h.goes z in gathered-done m (onceEach [] ks) w.0 g w.1 out e
+  pub gathers-done : g.number ≡ 0 → over_bound g ≡ false → answered (generated (lists_of g.lists)) out ≡ due
+  gathers-done z e = let w = h.goes z in gathered_done m (once_each [] ks) w.0 g w.1 out e
 
 -- then the lists lie in their struct
-pub gathers-laid : (g : Gathered) → GatheredBy g → g.number ≡ 0 → overBound g ≡ false → Laid g.lists
+pub gathers-laid : (g : Gathered) → GatheredBy g → g.number ≡ 0 → over_bound g ≡ false → Laid g.lists
 gathers-laid g h z e =
     let w = h.gathers.goes z in
-    let p = gathered-passes h.map (onceEach [] h.keys) w.0 g w.1 e in
-    gathered-laid h.map (onceEach [] h.keys) w.0 g w.1 p.1.1 p.1.0
+    let p = gathered_passes h.map (once_each [] h.keys) w.0 g w.1 e in
+    gathered_laid h.map (once_each [] h.keys) w.0 g w.1 p.1.1 p.1.0
 
 -- The checks of what is given
 
@@ -551,7 +551,7 @@ last-zero n c e = go (eqb n 0) refl c e
     go : (b : Bool) → eqb n 0 ≡ b → (c : Bool) → (if b then (if c then 0 else 1) else n) ≡ 0 → (n ≡ 0) × (c ≡ true)
     go true q true w = (eqb-true n 0 q, refl)
     go true q false w = absurd (omega arith)
-    go false q c w = absurd (true-not-false (eq-eqb n 0 w) q)
+    go false q c w = absurd (true_not_false (eq-eqb n 0 w) q)
 
 -- a test before them
 test_zero : (a : Bool) (n k : ℕ) → (k ≡ 0 → ⊥) → (if a then n else k) ≡ 0 → (a ≡ true) × (n ≡ 0)
@@ -561,109 +561,109 @@ test_zero false n k z e = absurd (z e)
 -- a map and a key
 module _ (cells : List ℕ) (m : DependencyMap) (e options : ℕ) where
   -- 12 for the options
-  pub prefix-options : 3 < options → 12 ≡ prefixNumber cells m e options
-  unfolding prefixNumber
+  pub prefix-options : 3 < options → 12 ≡ prefix_number cells m e options
+  unfolding prefix_number
   prefix-options l = rw (lt-leb options 3 l)
 
   module _ (o : options ≤ 3) where
     -- 11 or 1 for the arena or the map
-    pub prefix-map : (k : ℕ) → k ≡ mapNumber cells m → (k ≡ 0 → ⊥) → k ≡ prefixNumber cells m e options
-    unfolding prefixNumber
+    pub prefix-map : (k : ℕ) → k ≡ map_number cells m → (k ≡ 0 → ⊥) → k ≡ prefix_number cells m e options
+    unfolding prefix_number
     prefix-map k q z = rw (le-leb options 3 o, sym q, ne_eqb k 0 z)
 
-    module _ (z : mapNumber cells m ≡ 0) where
+    module _ (z : map_number cells m ≡ 0) where
       -- 1 for the expression
-      pub prefix-unknown : count cells ≤ e → 1 ≡ prefixNumber cells m e options
-      unfolding prefixNumber
+      pub prefix-unknown : count cells ≤ e → 1 ≡ prefix_number cells m e options
+      unfolding prefix_number
       prefix-unknown l = rw (le-leb options 3 o, z, le-ltb e (count cells) l)
 
       -- else 0
-      pub prefix-known : e < count cells → 0 ≡ prefixNumber cells m e options
-      unfolding prefixNumber
+      pub prefix-known : e < count cells → 0 ≡ prefix_number cells m e options
+      unfolding prefix_number
       prefix-known l = rw (le-leb options 3 o, z, lt-ltb e (count cells) l)
 
   -- a map and a key that pass
   pub record PrefixPasses : Type 0 where
     pub known : options ≤ 3
-    pub map : mapNumber cells m ≡ 0
+    pub map : map_number cells m ≡ 0
     pub below : e < count cells
 
   -- 0 is the number of such alone
-  pub prefix-passes : prefixNumber cells m e options ≡ 0 → PrefixPasses
-  unfolding prefixNumber
+  pub prefix-passes : prefix_number cells m e options ≡ 0 → PrefixPasses
+  unfolding prefix_number
   prefix-passes q =
-      let a = test_zero (leb options 3) (if eqb (mapNumber cells m) 0 then (if ltb e (count cells) then 0 else 1) else mapNumber cells m) 12 (λ x. omega arith) q in
-      let b = last-zero (mapNumber cells m) (ltb e (count cells)) a.1 in
+      let a = test_zero (leb options 3) (if eqb (map_number cells m) 0 then (if ltb e (count cells) then 0 else 1) else map_number cells m) 12 (λ x. omega arith) q in
+      let b = last-zero (map_number cells m) (ltb e (count cells)) a.1 in
       record { known = leb-true options 3 a.0; map = b.0; below = ltb-true e (count cells) b.1 }
 
   -- the call refuses with another number
-  pub prefix-refused : (k : ℕ) → k ≡ prefixNumber cells m e options → (k ≡ 0 → ⊥) → (out : List ℕ) → ◌≡◌ {A = Answer} (refusedWith k, out) (prefixAnswer cells m e options out)
-  unfolding prefixAnswer
+  pub prefix-refused : (k : ℕ) → k ≡ prefix_number cells m e options → (k ≡ 0 → ⊥) → (out : List ℕ) → ◌≡◌ {A = Answer} (refused_with k, out) (prefix_answer cells m e options out)
+  unfolding prefix_answer
   prefix-refused k q z out = rw (sym q, ne_eqb k 0 z)
 
   -- and answers where it is 0
-  pub prefix-answered : prefixNumber cells m e options ≡ 0 → (out : List ℕ) → walkAnswer (prefixOrderings (decode m) (e * 4 + options)) out ≡ prefixAnswer cells m e options out
-  unfolding prefixAnswer
+  pub prefix-answered : prefix_number cells m e options ≡ 0 → (out : List ℕ) → walk_answer (prefix_orderings (decode m) (e * 4 + options)) out ≡ prefix_answer cells m e options out
+  unfolding prefix_answer
   prefix-answered q out = rw q
 
 -- a map and keys
 module _ (cells : List ℕ) (m : DependencyMap) (numbers : List ℕ) where
   -- 12 for the options
-  pub generate-options : optionsKnown numbers ≡ false → 12 ≡ generateNumber cells m numbers
-  unfolding generateNumber
-  generate-options f = rw f
+  pub generate_options : options_known numbers ≡ false → 12 ≡ generate_number cells m numbers
+  unfolding generate_number
+  generate_options f = rw f
 
-  module _ (o : optionsKnown numbers ≡ true) where
+  module _ (o : options_known numbers ≡ true) where
     -- 11 for a key that is cut
-    pub generate-cut : (length numbers % 2 ≡ 0 → ⊥) → 11 ≡ generateNumber cells m numbers
-    unfolding generateNumber
-    generate-cut z = rw (o, ne_eqb (length numbers % 2) 0 z)
+    pub generate_cut : (length numbers % 2 ≡ 0 → ⊥) → 11 ≡ generate_number cells m numbers
+    unfolding generate_number
+    generate_cut z = rw (o, ne_eqb (length numbers % 2) 0 z)
 
     module _ (p : length numbers % 2 ≡ 0) where
       -- 11 or 1 for the arena or the map
-      pub generate-map : (k : ℕ) → k ≡ mapNumber cells m → (k ≡ 0 → ⊥) → k ≡ generateNumber cells m numbers
-      unfolding generateNumber
-      generate-map k q z = rw (o, p, sym q, ne_eqb k 0 z)
+      pub generate_map : (k : ℕ) → k ≡ map_number cells m → (k ≡ 0 → ⊥) → k ≡ generate_number cells m numbers
+      unfolding generate_number
+      generate_map k q z = rw (o, p, sym q, ne_eqb k 0 z)
 
-      module _ (z : mapNumber cells m ≡ 0) where
+      module _ (z : map_number cells m ≡ 0) where
         -- 1 for an expression
-        pub generate-unknown : Below numbers (count cells) ≡ false → 1 ≡ generateNumber cells m numbers
-        unfolding generateNumber
-        generate-unknown f = rw (o, p, z, f)
+        pub generate_unknown : Below numbers (count cells) ≡ false → 1 ≡ generate_number cells m numbers
+        unfolding generate_number
+        generate_unknown f = rw (o, p, z, f)
 
         -- else 0
-        pub generate-known : Below numbers (count cells) ≡ true → 0 ≡ generateNumber cells m numbers
-        unfolding generateNumber
-        generate-known f = rw (o, p, z, f)
+        pub generate_known : Below numbers (count cells) ≡ true → 0 ≡ generate_number cells m numbers
+        unfolding generate_number
+        generate_known f = rw (o, p, z, f)
 
   -- a map and keys that pass
   pub record GeneratePasses : Type 0 where
-    pub known : optionsKnown numbers ≡ true
-    pub map : mapNumber cells m ≡ 0
+    pub known : options_known numbers ≡ true
+    pub map : map_number cells m ≡ 0
     pub below : Below numbers (count cells) ≡ true
 
   -- 0 is the number of such alone
-  pub generate-passes : generateNumber cells m numbers ≡ 0 → GeneratePasses
-  unfolding generateNumber
-  generate-passes q =
-      let tail : ℕ = if eqb (mapNumber cells m) 0 then (if Below numbers (count cells) then 0 else 1) else mapNumber cells m in
-      let a = test_zero (optionsKnown numbers) (if noneCut numbers then tail else 11) 12 (λ x. omega arith) q in
-      let b = test_zero (noneCut numbers) tail 11 (λ x. omega arith) a.1 in
-      let c = last-zero (mapNumber cells m) (Below numbers (count cells)) b.1 in
+  pub generate_passes : generate_number cells m numbers ≡ 0 → GeneratePasses
+  unfolding generate_number
+  generate_passes q =
+      let tail : ℕ = if eqb (map_number cells m) 0 then (if Below numbers (count cells) then 0 else 1) else map_number cells m in
+      let a = test_zero (options_known numbers) (if none_cut numbers then tail else 11) 12 (λ x. omega arith) q in
+      let b = test_zero (none_cut numbers) tail 11 (λ x. omega arith) a.1 in
+      let c = last-zero (map_number cells m) (Below numbers (count cells)) b.1 in
       record { known = a.0; map = c.0; below = c.1 }
 
   -- the call refuses with another number
-  pub generate-refused : (k : ℕ) → k ≡ generateNumber cells m numbers → (k ≡ 0 → ⊥) → (out : List ℕ) → ◌≡◌ {A = Answer} (refusedWith k, out) (generateAnswer cells m numbers out)
-  unfolding generateAnswer
-  generate-refused k q z out = rw (sym q, ne_eqb k 0 z)
+  pub generate_refused : (k : ℕ) → k ≡ generate_number cells m numbers → (k ≡ 0 → ⊥) → (out : List ℕ) → ◌≡◌ {A = Answer} (refused_with k, out) (generate_answer cells m numbers out)
+  unfolding generate_answer
+  generate_refused k q z out = rw (sym q, ne_eqb k 0 z)
 
   -- and answers where it is 0
-  pub generate-answered : generateNumber cells m numbers ≡ 0 → (out : List ℕ) → gatheredAnswer (contributing (decode m) (different numbers)) (length (different numbers)) out ≡ generateAnswer cells m numbers out
-  unfolding generateAnswer
-  generate-answered q out = rw q
+  pub generate_answered : generate_number cells m numbers ≡ 0 → (out : List ℕ) → gathered_answer (contributing (decode m) (different numbers)) (length (different numbers)) out ≡ generate_answer cells m numbers out
+  unfolding generate_answer
+  generate_answered q out = rw q
 
 -- a map and an arena that pass
-module _ (cells : List ℕ) (m : DependencyMap) (z : mapNumber cells m ≡ 0) where
+module _ (cells : List ℕ) (m : DependencyMap) (z : map_number cells m ≡ 0) where
   -- the map is held
   pub map-held : Sized m → Held m
   map-held s = held-lawful m s (number-lawful cells m z)

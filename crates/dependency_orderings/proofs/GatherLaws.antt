@@ -13,29 +13,29 @@ use lib.Dec.{eqb, leb}
 use lib.ListN.{length, get_or, set, take, drop, length-append, length-set, length-map, length-replicate, take-append-drop, get_or-map}
 use lib.Seq.{take_all, take-suc, take-append-le, get_or-set_same, get_or-set_other}
 use Rattle.laws.specs.Tests.{if◌then◌else◌}
-use Rattle.laws.proofs.Booleans.{true-not-false, and_left, and_right, and_both, same_test}
+use Rattle.laws.proofs.Booleans.{true_not_false, and_left, and_right, and_both, same_test}
 use Rattle.laws.proofs.First.{first_some}
 use Rattle.classes.specs.Group.{among}
 use Rattle.classes.proofs.Places.{among-left, among-right, among-either, among_one, one-among}
 use Rattle.sort_keys.specs.Layout.{keys_of, packed}
 use Rattle.sort_keys.proofs.KeyLaws.{keys-count, key-at}
-use Rattle.orderings.specs.Inner.{allShort}
+use Rattle.orderings.specs.Inner.{all_short}
 use Rattle.orderings.proofs.Appending.{long-append}
-use Rattle.orderings.proofs.Codec.{fill-after}
-use Rattle.dependencies.specs.Map.{Dependent, entry_at, place_of, withDependency}
+use Rattle.orderings.proofs.Codec.{fill_after}
+use Rattle.dependencies.specs.Map.{Dependent, entry_at, place_of, with_dependency}
 use Rattle.dependencies.specs.Layout.{decode}
 use Rattle.dependencies.specs.declared.DependencyMap.{DependencyMap}
-use Rattle.enumeration.specs.Walk.{Walk, found, stopped, overStart, prefixOrderings}
+use Rattle.enumeration.specs.Walk.{Walk, found, stopped, over_start, prefix_orderings}
 use Rattle.enumeration.specs.Bounds.{fitting}
 use Rattle.enumeration.specs.Inner.{Room, Rows, Began}
 use Rattle.enumeration.specs.declared.Found.{Found}
 use Rattle.enumeration.specs.declared.Prefixed.{Prefixed}
 use Rattle.enumeration.proofs.WalkLaws.{prefix-there, prefix-missing}
 use Rattle.enumeration.proofs.Keeps.{room-none, rows_none}
-use Rattle.products.specs.Generate.{onceEach, Lists, lists, stops, with_list, contributing}
+use Rattle.products.specs.Generate.{once_each, Lists, lists, stops, with_list, contributing}
 use Rattle.products.specs.Inner.{joined, start_of}
 use Rattle.products.specs.declared.Shape.{Shape}
-use Rattle.dependency_orderings.specs.Inner.{ungathered, counting, upTo17, end_of, withFound, withKey, Standing, Shapes, Gathering, Steps, Gathers, key_at}
+use Rattle.dependency_orderings.specs.Inner.{ungathered, counting, up_to17, end_of, with_found, with_key, Standing, Shapes, Gathering, Steps, Gathers, key_at}
 use Rattle.dependency_orderings.specs.declared.Gathered.{Gathered}
 
 -- the key at the place of a key is that key
@@ -57,9 +57,9 @@ listed [] = []
 listed (o ∷ os) = (o ∷ os) ∷ []
 
 -- a walk stopped
-isStop : Lists → Bool
-isStop (stops k) = true
-isStop (lists ls) = false
+is_stop : Lists → Bool
+is_stop (stops k) = true
+is_stop (lists ls) = false
 
 -- nothing before some lists
 behind-none : (c : Lists) → behind (lists []) c ≡ c
@@ -77,8 +77,8 @@ behind-list (found (o ∷ os) s) (lists ls) (stops k) = refl
 behind-list (found (o ∷ os) s) (lists ls) (lists qs) = refl
 
 -- a stop stays one with a list more at the front
-stop-list : (w : Walk) (c : Lists) → isStop c ≡ true → isStop (with_list w c) ≡ true
-unfolding with_list isStop
+stop-list : (w : Walk) (c : Lists) → is_stop c ≡ true → is_stop (with_list w c) ≡ true
+unfolding with_list is_stop
 stop-list (stopped k) c e = refl
 stop-list (found [] s) c e = e
 stop-list (found (o ∷ os) s) (stops k) e = refl
@@ -89,7 +89,7 @@ module _ (m : List Dependent) where
   contributing-append : (ks qs : List ℕ) → contributing m (ks ++ qs) ≡ behind (contributing m ks) (contributing m qs)
   unfolding contributing
   contributing-append [] qs = sym (behind-none (contributing m qs))
-  contributing-append (k ∷ ks) qs = ap (with_list (prefixOrderings m k)) (contributing-append ks qs) ∙ behind-list (prefixOrderings m k) (contributing m ks) (contributing m qs)
+  contributing-append (k ∷ ks) qs = ap (with_list (prefix_orderings m k)) (contributing-append ks qs) ∙ behind-list (prefix_orderings m k) (contributing m ks) (contributing m qs)
 
   -- a stop stays one when more keys follow
   stops-append : (ks qs : List ℕ) (n : ℕ) → contributing m ks ≡ stops n → contributing m (ks ++ qs) ≡ stops n
@@ -97,38 +97,38 @@ module _ (m : List Dependent) where
   stops-append ks qs n e = contributing-append ks qs ∙ ap (λ (c : Lists). behind c (contributing m qs)) e
 
   -- one key whose walk stops
-  one-stops : (k n : ℕ) → prefixOrderings m k ≡ stopped n → contributing m (k ∷ []) ≡ stops n
+  one-stops : (k n : ℕ) → prefix_orderings m k ≡ stopped n → contributing m (k ∷ []) ≡ stops n
   unfolding contributing with_list
   one-stops k n e = ap (λ (w : Walk). with_list w (lists [])) e
 
   -- one key
-  one_found : (k : ℕ) (ps : List (List ℕ)) (s : List (ℕ × ℕ)) → prefixOrderings m k ≡ found ps s → contributing m (k ∷ []) ≡ lists (listed ps)
+  one_found : (k : ℕ) (ps : List (List ℕ)) (s : List (ℕ × ℕ)) → prefix_orderings m k ≡ found ps s → contributing m (k ∷ []) ≡ lists (listed ps)
   unfolding contributing with_list listed
   one_found k [] s e = ap (λ (w : Walk). with_list w (lists [])) e
   one_found k (o ∷ os) s e = ap (λ (w : Walk). with_list w (lists [])) e
 
   -- keys of which the walk of one stops
-  stops-among : (ks : List ℕ) (k n : ℕ) → among k ks ≡ true → prefixOrderings m k ≡ stopped n → isStop (contributing m ks) ≡ true
-  unfolding contributing with_list isStop among
-  stops-among [] k n e p = absurd (true-not-false e refl)
+  stops-among : (ks : List ℕ) (k n : ℕ) → among k ks ≡ true → prefix_orderings m k ≡ stopped n → is_stop (contributing m ks) ≡ true
+  unfolding contributing with_list is_stop among
+  stops-among [] k n e p = absurd (true_not_false e refl)
   stops-among (d ∷ ds) k n e p = go (eqb d k) refl e (λ q. stops-among ds k n q p)
     where
-      go : (b : Bool) → eqb d k ≡ b → (b || among k ds) ≡ true → (among k ds ≡ true → isStop (contributing m ds) ≡ true) → isStop (with_list (prefixOrderings m d) (contributing m ds)) ≡ true
-      go true q t r = ap (λ (w : Walk). isStop (with_list w (contributing m ds))) (ap (prefixOrderings m) (eqb-true d k q) ∙ p)
-      go false q t r = stop-list (prefixOrderings m d) (contributing m ds) (r t)
+      go : (b : Bool) → eqb d k ≡ b → (b || among k ds) ≡ true → (among k ds ≡ true → is_stop (contributing m ds) ≡ true) → is_stop (with_list (prefix_orderings m d) (contributing m ds)) ≡ true
+      go true q t r = ap (λ (w : Walk). is_stop (with_list w (contributing m ds))) (ap (prefix_orderings m) (eqb-true d k q) ∙ p)
+      go false q t r = stop-list (prefix_orderings m d) (contributing m ds) (r t)
 
   module _ (ks : List ℕ) (ls : List (List (List ℕ))) (k : ℕ) (e : contributing m ks ≡ lists ls) where
     -- the walk of one key more stops
-    stops-more : (n : ℕ) → prefixOrderings m k ≡ stopped n → contributing m (withDependency ks (some k)) ≡ stops n
-    unfolding withDependency behind isStop
+    stops-more : (n : ℕ) → prefix_orderings m k ≡ stopped n → contributing m (with_dependency ks (some k)) ≡ stops n
+    unfolding with_dependency behind is_stop
     stops-more n p = go (among k ks) refl
       where
         go : (b : Bool) → among k ks ≡ b → contributing m (if b then ks else ks ++ (k ∷ [])) ≡ stops n
-        go true q = absurd (true-not-false (stops-among ks k n q p) (ap isStop e))
+        go true q = absurd (true_not_false (stops-among ks k n q p) (ap is_stop e))
         go false q = contributing-append ks (k ∷ []) ∙ ap (λ (c : Lists). behind c (contributing m (k ∷ []))) e ∙ ap (behind (lists ls)) (one-stops k n p)
 
     -- a new key
-    found-more : (ps : List (List ℕ)) (s : List (ℕ × ℕ)) → prefixOrderings m k ≡ found ps s → contributing m (ks ++ (k ∷ [])) ≡ lists (ls ++ listed ps)
+    found-more : (ps : List (List ℕ)) (s : List (ℕ × ℕ)) → prefix_orderings m k ≡ found ps s → contributing m (ks ++ (k ∷ [])) ≡ lists (ls ++ listed ps)
     unfolding behind
     found-more ps s p = contributing-append ks (k ∷ []) ∙ ap (λ (c : Lists). behind c (contributing m (k ∷ []))) e ∙ ap (behind (lists ls)) (one_found k ps s p)
 
@@ -150,49 +150,49 @@ joined-more ls ps = joined-append ls (listed ps) ∙ ap (λ (t : List (List ℕ)
 
 -- the beginning of orderings within the bounds is within them
 fitting-front : (os ps : List (List ℕ)) → fitting (os ++ ps) ≡ true → fitting os ≡ true
-unfolding fitting allShort
+unfolding fitting all_short
 fitting-front os ps e =
     and_both
-    (le-leb (length os) 1024 (omega (arith, leb-true (length (os ++ ps)) 1024 (and_left (leb (length (os ++ ps)) 1024) (allShort (os ++ ps)) e), length-append os ps)))
-    (go (allShort os) refl)
+    (le-leb (length os) 1024 (omega (arith, leb-true (length (os ++ ps)) 1024 (and_left (leb (length (os ++ ps)) 1024) (all_short (os ++ ps)) e), length-append os ps)))
+    (go (all_short os) refl)
   where
-    go : (b : Bool) → allShort os ≡ b → allShort os ≡ true
+    go : (b : Bool) → all_short os ≡ b → all_short os ≡ true
     go true q = q
-    go false q = absurd (true-not-false (and_right (leb (length (os ++ ps)) 1024) (allShort (os ++ ps)) e) (long-append os ps q))
+    go false q = absurd (true_not_false (and_right (leb (length (os ++ ps)) 1024) (all_short (os ++ ps)) e) (long-append os ps q))
 
 -- Each key once
 
 -- keys after others
-once-append : (ks es fs : List ℕ) → onceEach ks (es ++ fs) ≡ onceEach (onceEach ks es) fs
-unfolding onceEach
+once-append : (ks es fs : List ℕ) → once_each ks (es ++ fs) ≡ once_each (once_each ks es) fs
+unfolding once_each
 once-append ks [] fs = refl
-once-append ks (e ∷ es) fs = once-append (withDependency ks (some e)) es fs
+once-append ks (e ∷ es) fs = once-append (with_dependency ks (some e)) es fs
 
 -- one key more
-once_more : (ks es : List ℕ) (e : ℕ) → onceEach ks (es ++ (e ∷ [])) ≡ withDependency (onceEach ks es) (some e)
-unfolding onceEach
+once_more : (ks es : List ℕ) (e : ℕ) → once_each ks (es ++ (e ∷ [])) ≡ with_dependency (once_each ks es) (some e)
+unfolding once_each
 once_more ks es e = once-append ks es (e ∷ [])
 
 -- the keys that were there come first
-once-front : (ks es : List ℕ) → (rest : List ℕ) × (onceEach ks es ≡ ks ++ rest)
-unfolding onceEach withDependency
+once-front : (ks es : List ℕ) → (rest : List ℕ) × (once_each ks es ≡ ks ++ rest)
+unfolding once_each with_dependency
 once-front ks [] = ([], sym (append-nil ks))
-once-front ks (e ∷ es) = go (among e ks) (once-front (withDependency ks (some e)) es)
+once-front ks (e ∷ es) = go (among e ks) (once-front (with_dependency ks (some e)) es)
   where
-    go : (b : Bool) → ((rest : List ℕ) × (onceEach (if b then ks else ks ++ (e ∷ [])) es ≡ (if b then ks else ks ++ (e ∷ [])) ++ rest)) → (rest : List ℕ) × (onceEach (if b then ks else ks ++ (e ∷ [])) es ≡ ks ++ rest)
+    go : (b : Bool) → ((rest : List ℕ) × (once_each (if b then ks else ks ++ (e ∷ [])) es ≡ (if b then ks else ks ++ (e ∷ [])) ++ rest)) → (rest : List ℕ) × (once_each (if b then ks else ks ++ (e ∷ [])) es ≡ ks ++ rest)
     go true r = r
     go false r = ((e ∷ []) ++ r.0, r.1 ∙ append_assoc ks (e ∷ []) r.0)
 
 -- How many different keys
 
 -- from 17 on it is 17
-up-many : (n : ℕ) → 17 ≤ n → upTo17 n ≡ 17
-unfolding upTo17
+up-many : (n : ℕ) → 17 ≤ n → up_to17 n ≡ 17
+unfolding up_to17
 up-many n l = rw (le-leb 17 n l)
 
 -- below, the number itself
-up-few : (n : ℕ) → n < 17 → upTo17 n ≡ n
-unfolding upTo17
+up-few : (n : ℕ) → n < 17 → up_to17 n ≡ n
+unfolding up_to17
 up-few n l = rw (lt-leb 17 n l)
 
 -- one more from 17 on
@@ -206,10 +206,10 @@ unfolding counting
 counting-few n l = rw (lt-leb 17 n l)
 
 -- one key more
-counting-up : (n : ℕ) → counting (upTo17 n) ≡ upTo17 (n + 1)
+counting-up : (n : ℕ) → counting (up_to17 n) ≡ up_to17 (n + 1)
 counting-up n = go (dec_lt n 17) (dec_lt (n + 1) 17)
   where
-    go : Dec (n < 17) → Dec (n + 1 < 17) → counting (upTo17 n) ≡ upTo17 (n + 1)
+    go : Dec (n < 17) → Dec (n + 1 < 17) → counting (up_to17 n) ≡ up_to17 (n + 1)
     go (yes l) (yes b) = ap counting (up-few n l) ∙ counting-few n l ∙ sym (up-few (n + 1) b)
     go (yes l) (no b) = ap counting (up-few n l) ∙ counting-few n l ∙ (let e : n + 1 ≡ 17 = omega arith in e) ∙ sym (up-many (n + 1) (omega arith))
     go (no l) b = ap counting (up-many n (omega arith)) ∙ counting-many 17 (omega arith) ∙ sym (up-many (n + 1) (omega arith))
@@ -218,7 +218,7 @@ counting-up n = go (dec_lt n 17) (dec_lt (n + 1) 17)
 
 -- a key that is not among some is among them and others as it is among the others
 among-other : (e : ℕ) (xs ys : List ℕ) → among e ys ≡ false → among e (xs ++ ys) ≡ among e xs
-among-other e xs ys q = same_test (among e (xs ++ ys)) (among e xs) (λ t. ⊎_elim (λ w. w) (λ w. absurd (true-not-false w q)) (among-either e xs ys t)) (among-left e xs ys)
+among-other e xs ys q = same_test (among e (xs ++ ys)) (among e xs) (λ t. ⊎_elim (λ w. w) (λ w. absurd (true_not_false w q)) (among-either e xs ys t)) (among-left e xs ys)
 
 -- the places of a map tell which keys were walked
 abbrev Tells : List Dependent → List Bool → List ℕ → Type 0
@@ -245,10 +245,10 @@ tells_more ds ws ks k i p l h d j q = go (ℕ_discrete j i)
 -- Where the lists end
 
 -- the last list ends where all end
-shapes-end : (s : Shape) (ls : List (List (List ℕ))) → Shapes s ls → start_of s s.size ≡ length (joined ls)
+shapes_end : (s : Shape) (ls : List (List (List ℕ))) → Shapes s ls → start_of s s.size ≡ length (joined ls)
 unfolding start_of joined
-shapes-end s [] h = ap (start_of s) h.size
-shapes-end s (l ∷ ls) h =
+shapes_end s [] h = ap (start_of s) h.size
+shapes_end s (l ∷ ls) h =
     ap (start_of s) h.size
     ∙ h.ends (length ls) (omega arith)
     ∙ ap (λ (t : List (List (List ℕ))). length (joined t)) (take_all (length ls + 1) (l ∷ ls) (omega arith))
@@ -285,25 +285,25 @@ module _ (g : Gathered) (f : Found) where
   longer = record { size = g.lists.shape.size + 1; ends = set g.lists.shape.ends g.lists.shape.size f.count }
 
   -- nothing was found
-  pub with_none : f.count ≡ end_of g → withFound g f ≡ keeping g.many g.lists.shape
-  unfolding withFound
+  pub with_none : f.count ≡ end_of g → with_found g f ≡ keeping g.many g.lists.shape
+  unfolding with_found
   with_none e = rw (eq-eqb f.count (end_of g) e)
 
   -- some were found, after 6 lists
-  pub with-many : (f.count ≡ end_of g → ⊥) → 6 ≤ g.lists.shape.size → withFound g f ≡ keeping true g.lists.shape
-  unfolding withFound
+  pub with-many : (f.count ≡ end_of g → ⊥) → 6 ≤ g.lists.shape.size → with_found g f ≡ keeping true g.lists.shape
+  unfolding with_found
   with-many n l = rw (ne_eqb f.count (end_of g) n, le-leb 6 g.lists.shape.size l)
 
   -- some were found, after fewer
-  pub with-more : (f.count ≡ end_of g → ⊥) → g.lists.shape.size < 6 → withFound g f ≡ keeping g.many longer
-  unfolding withFound
+  pub with-more : (f.count ≡ end_of g → ⊥) → g.lists.shape.size < 6 → with_found g f ≡ keeping g.many longer
+  unfolding with_found
   with-more n l = rw (ne_eqb f.count (end_of g) n, lt-leb 6 g.lists.shape.size l)
 
   -- the three ways in which the lists go on
   data Fate : Type 0 where
-    nothing : withFound g f ≡ keeping g.many g.lists.shape → Fate
-    many : withFound g f ≡ keeping true g.lists.shape → Fate
-    more : g.lists.shape.size < 6 → withFound g f ≡ keeping g.many longer → Fate
+    nothing : with_found g f ≡ keeping g.many g.lists.shape → Fate
+    many : with_found g f ≡ keeping true g.lists.shape → Fate
+    more : g.lists.shape.size < 6 → with_found g f ≡ keeping g.many longer → Fate
 
   -- one of them is there
   fate : Fate
@@ -315,19 +315,19 @@ module _ (g : Gathered) (f : Found) where
       go (no n) (no l) = many (with-many n (omega arith))
 
   -- what all three have holds of what is gathered then
-  by-fate : (P : Gathered → Type 0) → ((b : Bool) (s : Shape) → P (keeping b s)) → P (withFound g f)
+  by-fate : (P : Gathered → Type 0) → ((b : Bool) (s : Shape) → P (keeping b s)) → P (with_found g f)
   by-fate P h = go fate
     where
-      go : Fate → P (withFound g f)
+      go : Fate → P (with_found g f)
       go (nothing e) = subst P (sym e) (h g.many g.lists.shape)
       go (many e) = subst P (sym e) (h true g.lists.shape)
       go (more l e) = subst P (sym e) (h g.many longer)
 
   -- there is room for more
-  standing-found : Standing g → Room f → Standing (withFound g f)
+  standing-found : Standing g → Room f → Standing (with_found g f)
   standing-found st room = go fate
     where
-      go : Fate → Standing (withFound g f)
+      go : Fate → Standing (with_found g f)
       go (nothing e) = subst Standing (sym e) (record { going = refl; room = room; wide = st.wide; long = st.long; few = st.few })
       go (many e) = subst Standing (sym e) (record { going = refl; room = room; wide = st.wide; long = st.long; few = st.few })
       go (more l e) =
@@ -335,10 +335,10 @@ module _ (g : Gathered) (f : Found) where
           (record { going = refl; room = room; wide = st.wide; long = length-set g.lists.shape.ends g.lists.shape.size f.count ∙ st.long; few = omega arith })
 
   -- more than 6 contributed before
-  still-many : g.many ≡ true → (withFound g f).many ≡ true
-  still-many e = go fate
+  still_many : g.many ≡ true → (with_found g f).many ≡ true
+  still_many e = go fate
     where
-      go : Fate → (withFound g f).many ≡ true
+      go : Fate → (with_found g f).many ≡ true
       go (nothing p) = ap (λ (r : Gathered). r.many) p ∙ e
       go (many p) = ap (λ (r : Gathered). r.many) p
       go (more l p) = ap (λ (r : Gathered). r.many) p ∙ e
@@ -346,20 +346,20 @@ module _ (g : Gathered) (f : Found) where
   module _ (ls : List (List (List ℕ))) (st : Standing g) where
     module _ (rows : Rows f (joined ls ++ [])) (fit : fitting (joined ls ++ []) ≡ true) (h : Shapes g.lists.shape ls) where
       -- nothing was found: the lists are as they were
-      same_none : withFound g f ≡ keeping g.many g.lists.shape
-      same_none = with_none (rows.count fit ∙ ap length (append-nil (joined ls)) ∙ sym (shapes-end g.lists.shape ls h))
+      same_none : with_found g f ≡ keeping g.many g.lists.shape
+      same_none = with_none (rows.count fit ∙ ap length (append-nil (joined ls)) ∙ sym (shapes_end g.lists.shape ls h))
 
     module _ (o : List ℕ) (os : List (List ℕ)) (rows : Rows f (joined ls ++ o ∷ os)) (fit : fitting (joined ls ++ o ∷ os) ≡ true) (h : Shapes g.lists.shape ls) where
       -- some were found: the orderings end further on
       other : f.count ≡ end_of g → ⊥
-      other e = omega (arith, rows.count fit, length-append (joined ls) (o ∷ os), shapes-end g.lists.shape ls h)
+      other e = omega (arith, rows.count fit, length-append (joined ls) (o ∷ os), shapes_end g.lists.shape ls h)
 
       -- there is no seventh list
-      same-many : 6 ≤ length ls → withFound g f ≡ keeping true g.lists.shape
+      same-many : 6 ≤ length ls → with_found g f ≡ keeping true g.lists.shape
       same-many l = with-many other (omega (arith, h.size))
 
       -- there is one list more
-      same_more : length ls < 6 → withFound g f ≡ keeping g.many longer
+      same_more : length ls < 6 → with_found g f ≡ keeping g.many longer
       same_more l = with-more other (omega (arith, h.size))
 
       -- and the struct says where it ends
@@ -373,9 +373,9 @@ record Formed (g : Gathered) (ls : List (List (List ℕ))) : Type 0 where
   shapes : fitting (joined ls) ≡ true → leb (length ls) 6 ≡ true → Shapes g.lists.shape ls
 
 -- so it does after one walk more
-formed-found : (g : Gathered) (f : Found) (ls : List (List (List ℕ))) (ps : List (List ℕ)) → Standing g → Rows f (joined ls ++ ps) → Formed g ls → Formed (withFound g f) (ls ++ listed ps)
+formed-found : (g : Gathered) (f : Found) (ls : List (List (List ℕ))) (ps : List (List ℕ)) → Standing g → Rows f (joined ls ++ ps) → Formed g ls → Formed (with_found g f) (ls ++ listed ps)
 unfolding listed
-formed-found g f ls [] st rows h = subst (Formed (withFound g f)) (sym (append-nil ls)) (record {
+formed-found g f ls [] st rows h = subst (Formed (with_found g f)) (sym (append-nil ls)) (record {
   many = λ e. go e (leb (length ls) 6) refl;
   shapes = λ e b. rw (same e b) (h.shapes e b);
 })
@@ -383,12 +383,12 @@ formed-found g f ls [] st rows h = subst (Formed (withFound g f)) (sym (append-n
     fit : fitting (joined ls) ≡ true → fitting (joined ls ++ []) ≡ true
     fit e = ap fitting (append-nil (joined ls)) ∙ e
 
-    same : fitting (joined ls) ≡ true → leb (length ls) 6 ≡ true → withFound g f ≡ keeping g f g.many g.lists.shape
+    same : fitting (joined ls) ≡ true → leb (length ls) 6 ≡ true → with_found g f ≡ keeping g f g.many g.lists.shape
     same e b = same_none g f ls st rows (fit e) (h.shapes e b)
 
-    go : fitting (joined ls) ≡ true → (b : Bool) → leb (length ls) 6 ≡ b → (withFound g f).many ≡ not (leb (length ls) 6)
+    go : fitting (joined ls) ≡ true → (b : Bool) → leb (length ls) 6 ≡ b → (with_found g f).many ≡ not (leb (length ls) 6)
     go e true b = ap (λ (r : Gathered). r.many) (same e b) ∙ h.many e
-    go e false b = still-many g f (h.many e ∙ ap not b) ∙ sym (ap not b)
+    go e false b = still_many g f (h.many e ∙ ap not b) ∙ sym (ap not b)
 formed-found g f ls (o ∷ os) st rows h = record {
   many = λ e. go e (leb (length ls) 6) refl (dec_lt (length ls) 6);
   shapes = λ e b. at e (leb-true (length (ls ++ listed (o ∷ os))) 6 b);
@@ -403,8 +403,8 @@ formed-found g f ls (o ∷ os) st rows h = record {
     front : fitting (joined (ls ++ listed (o ∷ os))) ≡ true → fitting (joined ls) ≡ true
     front e = fitting-front (joined ls) (o ∷ os) (fit e)
 
-    go : fitting (joined (ls ++ listed (o ∷ os))) ≡ true → (b : Bool) → leb (length ls) 6 ≡ b → Dec (length ls < 6) → (withFound g f).many ≡ not (leb (length (ls ++ listed (o ∷ os))) 6)
-    go e false b l = still-many g f (h.many (front e) ∙ ap not b) ∙ sym (ap not (lt-leb (length (ls ++ listed (o ∷ os))) 6 (omega (arith, leb-false (length ls) 6 b, more))))
+    go : fitting (joined (ls ++ listed (o ∷ os))) ≡ true → (b : Bool) → leb (length ls) 6 ≡ b → Dec (length ls < 6) → (with_found g f).many ≡ not (leb (length (ls ++ listed (o ∷ os))) 6)
+    go e false b l = still_many g f (h.many (front e) ∙ ap not b) ∙ sym (ap not (lt-leb (length (ls ++ listed (o ∷ os))) 6 (omega (arith, leb-false (length ls) 6 b, more))))
     go e true b (yes l) =
         ap (λ (r : Gathered). r.many) (same_more g f ls st o os rows (fit e) (h.shapes (front e) b) l)
         ∙ h.many (front e)
@@ -413,7 +413,7 @@ formed-found g f ls (o ∷ os) st rows h = record {
         ap (λ (r : Gathered). r.many) (same-many g f ls st o os rows (fit e) (h.shapes (front e) b) (omega arith))
         ∙ sym (ap not (lt-leb (length (ls ++ listed (o ∷ os))) 6 (omega (arith, more))))
 
-    at : fitting (joined (ls ++ listed (o ∷ os))) ≡ true → length (ls ++ listed (o ∷ os)) ≤ 6 → Shapes (withFound g f).lists.shape (ls ++ listed (o ∷ os))
+    at : fitting (joined (ls ++ listed (o ∷ os))) ≡ true → length (ls ++ listed (o ∷ os)) ≤ 6 → Shapes (with_found g f).lists.shape (ls ++ listed (o ∷ os))
     at e b =
         let s = h.shapes (front e) (le-leb (length ls) 6 (omega (arith, more))) in
         rw (same_more g f ls st o os rows (fit e) s (omega (arith, more))) (shapes-longer g f ls st o os rows (fit e) s (omega (arith, more)))
@@ -421,13 +421,13 @@ formed-found g f ls (o ∷ os) st rows h = record {
 -- One key more
 
 -- there is room for more after a key is noted
-pub standing-key : (g : Gathered) (i : ℕ) → Standing g → Standing (withKey g i)
-unfolding withKey
+pub standing-key : (g : Gathered) (i : ℕ) → Standing g → Standing (with_key g i)
+unfolding with_key
 standing-key g i st = record { going = st.going; room = st.room; wide = length-set g.walked i true ∙ st.wide; long = st.long; few = st.few }
 
 module _ (m : DependencyMap) (g : Gathered) (k : ℕ) (st : Standing g) where
   -- the walk of a key stops
-  pub steps-stop : (n : ℕ) (r : Gathered) → r.number ≡ n → (n ≡ 0 → ⊥) → ((ks : List ℕ) (ls : List (List (List ℕ))) → Gathering m ks ls g → prefixOrderings (decode m) k ≡ stopped n) → Steps m g k r
+  pub steps-stop : (n : ℕ) (r : Gathered) → r.number ≡ n → (n ≡ 0 → ⊥) → ((ks : List ℕ) (ls : List (List (List ℕ))) → Gathering m ks ls g → prefix_orderings (decode m) k ≡ stopped n) → Steps m g k r
   steps-stop n r e z h = record {
     standing = λ q. absurd (z (sym e ∙ q));
     stops_at = λ ks ls x w. stops-more (decode m) ks ls k x.is n (h ks ls x) ∙ ap stops (sym e);
@@ -441,7 +441,7 @@ module _ (m : DependencyMap) (g : Gathered) (k : ℕ) (st : Standing g) where
   module _ (i : ℕ) (p : place_of (decode m) k ≡ some i) where
     -- a key that was walked
     pub steps-walked : get_or g.walked i false ≡ true → Steps m g k g
-    unfolding withDependency
+    unfolding with_dependency
     steps-walked w = record {
       standing = λ q. st;
       stops_at = λ ks ls x n. absurd (n st.going);
@@ -450,36 +450,36 @@ module _ (m : DependencyMap) (g : Gathered) (k : ℕ) (st : Standing g) where
 
     module _ (x : Prefixed) (began : Began m i g.lists.found x) where
       -- a key whose walk stops
-      pub steps-halt : (r : Gathered) → r.number ≡ x.number → (x.number ≡ 0 → ⊥) → Steps m g k r
-      steps-halt r e z = steps-stop x.number r e z (λ ks ls y. prefix-there (decode m) k i p ∙ (began.came (joined ls) y.rows).stops z)
+      pub steps_halt : (r : Gathered) → r.number ≡ x.number → (x.number ≡ 0 → ⊥) → Steps m g k r
+      steps_halt r e z = steps-stop x.number r e z (λ ks ls y. prefix-there (decode m) k i p ∙ (began.came (joined ls) y.rows).stops z)
 
       module _ (z : x.number ≡ 0) (new : get_or g.walked i false ≡ false) (b : i < 64) where
         -- what is gathered after a key whose walk is done
         next : Gathered
-        next = withFound (withKey g i) x.found
+        next = with_found (with_key g i) x.found
 
         -- it is that of one key more
-        gathering-next : (ks : List ℕ) (ls : List (List (List ℕ))) → Gathering m ks ls g → (ps : List (List ℕ)) (s : List (ℕ × ℕ)) → overStart (decode m) (entry_at (decode m) i).dependencies [] ≡ found ps s
+        gathering-next : (ks : List ℕ) (ls : List (List (List ℕ))) → Gathering m ks ls g → (ps : List (List ℕ)) (s : List (ℕ × ℕ)) → over_start (decode m) (entry_at (decode m) i).dependencies [] ≡ found ps s
             → Rows x.found (joined ls ++ ps) → Gathering m (ks ++ (k ∷ [])) (ls ++ listed ps) next
-        unfolding next withKey
+        unfolding next with_key
         gathering-next ks ls y ps s e rows = record {
           is = found-more (decode m) ks ls k y.is ps s (prefix-there (decode m) k i p ∙ e);
-          walked = by-fate (withKey g i) x.found (λ (r : Gathered). Tells (decode m) r.walked (ks ++ (k ∷ []))) (λ c t. tells_more (decode m) g.walked ks k i p (omega (arith, st.wide)) y.walked);
-          different = by-fate (withKey g i) x.found (λ (r : Gathered). r.different ≡ upTo17 (length (ks ++ (k ∷ [])))) (λ c t. ap counting y.different ∙ counting-up (length ks) ∙ ap upTo17 (sym (length-append ks (k ∷ []))));
-          rows = by-fate (withKey g i) x.found (λ (r : Gathered). Rows r.lists.found (joined (ls ++ listed ps))) (λ c t. subst (Rows x.found) (sym (joined-more ls ps)) rows);
+          walked = by-fate (with_key g i) x.found (λ (r : Gathered). Tells (decode m) r.walked (ks ++ (k ∷ []))) (λ c t. tells_more (decode m) g.walked ks k i p (omega (arith, st.wide)) y.walked);
+          different = by-fate (with_key g i) x.found (λ (r : Gathered). r.different ≡ up_to17 (length (ks ++ (k ∷ [])))) (λ c t. ap counting y.different ∙ counting-up (length ks) ∙ ap up_to17 (sym (length-append ks (k ∷ []))));
+          rows = by-fate (with_key g i) x.found (λ (r : Gathered). Rows r.lists.found (joined (ls ++ listed ps))) (λ c t. subst (Rows x.found) (sym (joined-more ls ps)) rows);
           many = formed.many;
           shapes = formed.shapes;
         }
           where
             formed : Formed next (ls ++ listed ps)
-            formed = formed-found (withKey g i) x.found ls ps (standing-key g i st) rows (record { many = y.many; shapes = y.shapes })
+            formed = formed-found (with_key g i) x.found ls ps (standing-key g i st) rows (record { many = y.many; shapes = y.shapes })
 
         -- a key whose walk is done
-        pub steps-found : Steps m g k (withFound (withKey g i) x.found)
-        unfolding next withDependency
+        pub steps-found : Steps m g k (with_found (with_key g i) x.found)
+        unfolding next with_dependency
         steps-found = record {
-          standing = λ q. standing-found (withKey g i) x.found (standing-key g i st) began.room;
-          stops_at = λ ks ls y n. absurd (n (by-fate (withKey g i) x.found (λ (r : Gathered). r.number ≡ 0) (λ c t. refl)));
+          standing = λ q. standing-found (with_key g i) x.found (standing-key g i st) began.room;
+          stops_at = λ ks ls y n. absurd (n (by-fate (with_key g i) x.found (λ (r : Gathered). r.number ≡ 0) (λ c t. refl)));
           goes = λ ks ls y q.
               let w = (began.came (joined ls) y.rows).goes z in (
                 ls ++ listed w.0,
@@ -507,18 +507,18 @@ pub record Gone (m : DependencyMap) (numbers : List ℕ) (g : Gathered) (k : ℕ
   pub below : k ≤ length numbers / 2
   pub standing : Standing g
   pub all-lists : List (List (List ℕ))
-  pub gathering : Gathering m (onceEach [] (take k (given numbers))) all-lists g
+  pub gathering : Gathering m (once_each [] (take k (given numbers))) all-lists g
 
 -- none is
 pub gone-none : (m : DependencyMap) (numbers : List ℕ) (g : Gathered) → g ≡ ungathered → Gone m numbers g 0
-unfolding contributing onceEach joined among upTo17
+unfolding contributing once_each joined among up_to17
 gone-none m numbers g e = rw e (record {
   below = omega arith;
   standing = record { going = refl; room = room-none; wide = length-replicate 64 false; long = length-replicate {A = ℕ} 6 0; few = omega arith };
   all-lists = [];
   gathering = record {
     is = refl;
-    walked = λ k i p. fill-after false [] 64 i;
+    walked = λ k i p. fill_after false [] 64 i;
     different = refl;
     rows = rows_none;
     many = λ q. refl;
@@ -529,17 +529,17 @@ gone-none m numbers g e = rw e (record {
 module _ (m : DependencyMap) (numbers : List ℕ) (g : Gathered) (k : ℕ) (h : Gone m numbers g k) where
   module _ (r : Gathered) (l : k < length numbers / 2) (x : Steps m g (key_at numbers k) r) where
     -- the keys with the next
-    next-once : onceEach [] (take (k + 1) (given numbers)) ≡ withDependency (onceEach [] (take k (given numbers))) (some (key_at numbers k))
+    next-once : once_each [] (take (k + 1) (given numbers)) ≡ with_dependency (once_each [] (take k (given numbers))) (some (key_at numbers k))
     next-once =
-        ap (λ (n : ℕ). onceEach [] (take n (given numbers))) (add-one k)
-        ∙ ap (onceEach []) (take-suc (given numbers) k 0 (omega (arith, given-count numbers)))
+        ap (λ (n : ℕ). once_each [] (take n (given numbers))) (add-one k)
+        ∙ ap (once_each []) (take-suc (given numbers) k 0 (omega (arith, given-count numbers)))
         ∙ once_more [] (take k (given numbers)) (get_or (given numbers) k 0)
-        ∙ ap (λ (d : ℕ). withDependency (onceEach [] (take k (given numbers))) (some d)) (given-at numbers k l)
+        ∙ ap (λ (d : ℕ). with_dependency (once_each [] (take k (given numbers))) (some d)) (given-at numbers k l)
 
     -- the next is walked
     pub gone-next : r.number ≡ 0 → Gone m numbers r (k + 1)
     gone-next z =
-        let y = x.goes (onceEach [] (take k (given numbers))) h.all-lists h.gathering z in
+        let y = x.goes (once_each [] (take k (given numbers))) h.all-lists h.gathering z in
         record {
           below = omega arith;
           standing = x.standing z;
@@ -550,14 +550,14 @@ module _ (m : DependencyMap) (numbers : List ℕ) (g : Gathered) (k : ℕ) (h : 
     -- the next stops all
     pub gone-stop : (r.number ≡ 0 → ⊥) → Gathers m (given numbers) r
     gone-stop n =
-        let w = once-front (onceEach [] (take (k + 1) (given numbers))) (drop (k + 1) (given numbers)) in
+        let w = once-front (once_each [] (take (k + 1) (given numbers))) (drop (k + 1) (given numbers)) in
         record {
           standing = x.standing;
           stops_at = λ n'.
-              ap (λ (ks : List ℕ). contributing (decode m) (onceEach [] ks)) (sym (take-append-drop (k + 1) (given numbers)))
+              ap (λ (ks : List ℕ). contributing (decode m) (once_each [] ks)) (sym (take-append-drop (k + 1) (given numbers)))
               ∙ ap (contributing (decode m)) (once-append [] (take (k + 1) (given numbers)) (drop (k + 1) (given numbers)) ∙ w.1)
-              ∙ stops-append (decode m) (onceEach [] (take (k + 1) (given numbers))) w.0 r.number
-              (ap (contributing (decode m)) next-once ∙ x.stops_at (onceEach [] (take k (given numbers))) h.all-lists h.gathering n);
+              ∙ stops-append (decode m) (once_each [] (take (k + 1) (given numbers))) w.0 r.number
+              (ap (contributing (decode m)) next-once ∙ x.stops_at (once_each [] (take k (given numbers))) h.all-lists h.gathering n);
           goes = λ z. absurd (n z);
         }
 
@@ -567,5 +567,5 @@ module _ (m : DependencyMap) (numbers : List ℕ) (g : Gathered) (k : ℕ) (h : 
     standing = λ z. h.standing;
     stops_at = λ n. absurd (n h.standing.going);
     goes = λ z.
-        (h.all-lists, subst (λ (ks : List ℕ). Gathering m (onceEach [] ks) h.all-lists g) (take_all k (given numbers) (omega (arith, given-count numbers))) h.gathering);
+        (h.all-lists, subst (λ (ks : List ℕ). Gathering m (once_each [] ks) h.all-lists g) (take_all k (given numbers) (omega (arith, given-count numbers))) h.gathering);
   }

@@ -8,27 +8,27 @@ use native.Mathlib.Numerals.{add-one}
 use native.Mathlib.Omega.{arith}
 use lib.ListN.{length, get_or, take, drop, length-append, length-map, drop_of_length-le, get_or-map}
 use lib.Seq.{drop-cons}
-use Rattle.laws.proofs.Booleans.{true-not-false}
-use Rattle.laws.proofs.Table.{length-table, getD-table, table_is}
-use Rattle.orderings.specs.Lists.{orderingAt}
+use Rattle.laws.proofs.Booleans.{true_not_false}
+use Rattle.laws.proofs.Table.{length-table, get_or-table, table_is}
+use Rattle.orderings.specs.Lists.{ordering_at}
 use Rattle.orderings.specs.Layout.{row, keys_of}
-use Rattle.orderings.specs.Inner.{ShortOrdering, extendedOf, allShort}
+use Rattle.orderings.specs.Inner.{ShortOrdering, extended_of, all_short}
 use Rattle.orderings.specs.declared.Ordering.{Ordering}
 use Rattle.orderings.specs.declared.Extended.{Extended}
-use Rattle.orderings.proofs.Codec.{fill-after, keys-row}
+use Rattle.orderings.proofs.Codec.{fill_after, keys-row}
 use Rattle.orderings.proofs.Extending.{fits-here, fitting, unfitting, short-size, row-short}
 use Rattle.orderings.proofs.Appending.{AllShort, short-test, test_short, short-more, long-test, long-append}
 use Rattle.products.specs.Orders.{orders, product}
-use Rattle.products.specs.Generate.{chained, inAllOrders, allOrders}
-use Rattle.products.specs.Inner.{start_of, length_of, list_of, lists_of, Laid, choiceRow, choice_of, Chosen, factorial, timesAll, choices}
+use Rattle.products.specs.Generate.{chained, in_all_orders, all_orders}
+use Rattle.products.specs.Inner.{start_of, length_of, list_of, lists_of, Laid, choice_row, choice_of, Chosen, factorial, times_all, choices}
 use Rattle.products.specs.declared.Lists.{Lists}
 use Rattle.products.specs.declared.Choice.{Choice}
 use Rattle.products.specs.declared.Counted.{Counted}
 use Rattle.products.proofs.OrderLaws.{factorial-some, orders-length}
-use Rattle.products.proofs.ProductLaws.{product-length, product_at, choice-length, factor-some}
+use Rattle.products.proofs.ProductLaws.{product-length, product_at, choice_length, factor_some}
 use Rattle.products.proofs.ListLaws.{lists_length, lists_at, list_length}
-use Rattle.products.proofs.Choices.{place-there, factor-few}
-use Rattle.dependency_orderings.specs.Output.{written, writtenAll}
+use Rattle.products.proofs.Choices.{place-there, factor_few}
+use Rattle.dependency_orderings.specs.Output.{written, written_all}
 use Rattle.dependency_orderings.specs.Inner.{measured, Ready}
 use Rattle.dependency_orderings.proofs.WrittenLaws.{written-length, written-append, written_one, short-after, WritingOrders, part-short, part_room, out-on}
 
@@ -40,84 +40,84 @@ told b n = record { fits = b; count = n }
 
 -- what it says of the orderings
 pub record Fits (r : Counted) (os : List (List ℕ)) : Type 0 where
-  pub short : allShort os ≡ true
-  pub places : r.count ≡ length (writtenAll os)
+  pub short : all_short os ≡ true
+  pub places : r.count ≡ length (written_all os)
 
 -- the answer where each has at most 16 keys
-measured-short : (os : List (List ℕ)) → allShort os ≡ true → measured os ≡ told true (length (writtenAll os))
+measured-short : (os : List (List ℕ)) → all_short os ≡ true → measured os ≡ told true (length (written_all os))
 unfolding measured
 measured-short os e = rw e
 
 -- and where one has more
-measured-long : (os : List (List ℕ)) → allShort os ≡ false → measured os ≡ told false 0
+measured-long : (os : List (List ℕ)) → all_short os ≡ false → measured os ≡ told false 0
 unfolding measured
 measured-long os e = rw e
 
 module _ (r : Counted) (os : List (List ℕ)) (q : r ≡ measured os) where
   -- where they fit, the answer is the number of their places
   pub measured-fits : r.fits ≡ true → Fits r os
-  measured-fits t = go (allShort os) refl
+  measured-fits t = go (all_short os) refl
     where
-      go : (b : Bool) → allShort os ≡ b → Fits r os
+      go : (b : Bool) → all_short os ≡ b → Fits r os
       go true e = record { short = e; places = ap (λ (x : Counted). x.count) (q ∙ measured-short os e) }
-      go false e = absurd (true-not-false t (ap (λ (x : Counted). x.fits) (q ∙ measured-long os e)))
+      go false e = absurd (true_not_false t (ap (λ (x : Counted). x.fits) (q ∙ measured-long os e)))
 
   -- where they do not, one has more than 16 keys
-  measured-not : r.fits ≡ false → allShort os ≡ false
-  measured-not t = go (allShort os) refl
+  measured-not : r.fits ≡ false → all_short os ≡ false
+  measured-not t = go (all_short os) refl
     where
-      go : (b : Bool) → allShort os ≡ b → allShort os ≡ false
-      go true e = absurd (true-not-false (ap (λ (x : Counted). x.fits) (q ∙ measured-short os e)) t)
+      go : (b : Bool) → all_short os ≡ b → all_short os ≡ false
+      go true e = absurd (true_not_false (ap (λ (x : Counted). x.fits) (q ∙ measured-short os e)) t)
       go false e = e
 
 -- the orderings before some are counted, and all hang on those that are left
 pub record Measuring (all left : List (List ℕ)) (total : ℕ) : Type 0 where
-  pub short : allShort all ≡ allShort left
-  pub places : total + length (writtenAll left) ≡ length (writtenAll all)
+  pub short : all_short all ≡ all_short left
+  pub places : total + length (written_all left) ≡ length (written_all all)
 
 module _ (all : List (List ℕ)) where
   -- none is counted
-  pub measuring-begins : Measuring all all 0
-  measuring-begins = record { short = refl; places = omega arith }
+  pub measuring_begins : Measuring all all 0
+  measuring_begins = record { short = refl; places = omega arith }
 
   -- one part more
   module _ (now part left : List (List ℕ)) (total : ℕ) (x : Measuring all now total) (s : now ≡ part ++ left) (r : Counted) (q : r ≡ measured part) where
     -- the loop goes on
-    pub measuring-on : r.fits ≡ true → Measuring all left (total + r.count)
-    measuring-on t =
+    pub measuring_on : r.fits ≡ true → Measuring all left (total + r.count)
+    measuring_on t =
         let f = measured-fits r part q t in
         record {
-          short = x.short ∙ ap allShort s ∙ short-after part left f.short;
-          places = omega (arith, f.places, x.places, ap (λ (w : List ℕ). length w) (ap writtenAll s ∙ written-append part left), length-append (writtenAll part) (writtenAll left));
+          short = x.short ∙ ap all_short s ∙ short-after part left f.short;
+          places = omega (arith, f.places, x.places, ap (λ (w : List ℕ). length w) (ap written_all s ∙ written-append part left), length-append (written_all part) (written_all left));
         }
 
     -- the loop stops where one has more than 16 keys
-    pub measuring-stops : r.fits ≡ false → r ≡ measured all
-    measuring-stops t =
+    pub measuring_stops : r.fits ≡ false → r ≡ measured all
+    measuring_stops t =
         let e = measured-not r part q t in
-        q ∙ measured-long part e ∙ sym (measured-long all (x.short ∙ ap allShort s ∙ long-append part left e))
+        q ∙ measured-long part e ∙ sym (measured-long all (x.short ∙ ap all_short s ∙ long-append part left e))
 
   -- the loop ends
-  pub measuring-ends : (left : List (List ℕ)) (total : ℕ) → Measuring all left total → left ≡ [] → told true total ≡ measured all
-  unfolding writtenAll
-  measuring-ends left total x e =
-      let n : total ≡ length (writtenAll all) = omega (arith, x.places, ap (λ (os : List (List ℕ)). length (writtenAll os)) e) in
-      ap (told true) n ∙ sym (measured-short all (x.short ∙ ap allShort e ∙ short-test [] (λ i l. absurd (omega arith))))
+  pub measuring_ends : (left : List (List ℕ)) (total : ℕ) → Measuring all left total → left ≡ [] → told true total ≡ measured all
+  unfolding written_all
+  measuring_ends left total x e =
+      let n : total ≡ length (written_all all) = omega (arith, x.places, ap (λ (os : List (List ℕ)). length (written_all os)) e) in
+      ap (told true) n ∙ sym (measured-short all (x.short ∙ ap all_short e ∙ short-test [] (λ i l. absurd (omega arith))))
 
 -- One ordering, as it comes
 
 -- one of at most 16 keys
-short-one : (o : List ℕ) → length o ≤ 16 → allShort (o ∷ []) ≡ true
+short-one : (o : List ℕ) → length o ≤ 16 → all_short (o ∷ []) ≡ true
 short-one o b = short-test (o ∷ []) (short-more [] o (λ i l. absurd (omega arith)) b)
 
-module _ (e : Extended) (o : List ℕ) (q : e ≡ extendedOf o) where
+module _ (e : Extended) (o : List ℕ) (q : e ≡ extended_of o) where
   -- where it has at most 16 keys, its struct is there
   one-is : length o ≤ 16 → e.ordering ≡ row o
   one-is l = ap (λ (x : Extended). x.ordering) (q ∙ fits-here o l)
 
   -- and it is one of at most 16 keys
-  one-struct : length o ≤ 16 → ShortOrdering e.ordering
-  one-struct l = subst ShortOrdering (sym (one-is l)) (row-short o l)
+  one_struct : length o ≤ 16 → ShortOrdering e.ordering
+  one_struct l = subst ShortOrdering (sym (one-is l)) (row-short o l)
 
   -- where it is told to fit, it has at most 16
   one-few : e.fits ≡ true → length o ≤ 16
@@ -125,15 +125,15 @@ module _ (e : Extended) (o : List ℕ) (q : e ≡ extendedOf o) where
 
   -- and so has its struct
   pub one_size : e.fits ≡ true → e.ordering.size ≤ 16
-  one_size t = (one-struct (one-few t)).short
+  one_size t = (one_struct (one-few t)).short
 
   -- it takes so many places
-  one-places : length o ≤ 16 → 1 + 2 * e.ordering.size ≡ length (writtenAll (o ∷ []))
+  one-places : length o ≤ 16 → 1 + 2 * e.ordering.size ≡ length (written_all (o ∷ []))
   unfolding row
   one-places l = omega (arith, ap (λ (r : Ordering). r.size) (one-is l), written-length o, ap (λ (w : List ℕ). length w) (written_one o))
 
   -- what is written of its struct is what is written of it
-  one-new : length o ≤ 16 → (new rest : List ℕ) → new ≡ written (keys_of e.ordering) ++ rest → new ≡ writtenAll (o ∷ []) ++ rest
+  one-new : length o ≤ 16 → (new rest : List ℕ) → new ≡ written (keys_of e.ordering) ++ rest → new ≡ written_all (o ∷ []) ++ rest
   one-new l new rest p = p ∙ ap (λ (w : List ℕ). w ++ rest) (ap written (ap keys_of (one-is l) ∙ keys-row o) ∙ sym (written_one o))
 
   -- where it fits, that is its measure
@@ -149,97 +149,97 @@ module _ (e : Extended) (o : List ℕ) (q : e ≡ extendedOf o) where
 -- A choice in all orders
 
 -- a choice of so many orderings has as many orders as the factorial says
-in-all-length : (c : Choice) → length (inAllOrders (choice_of c)) ≡ factorial c.size
-unfolding inAllOrders choice_of
-in-all-length c =
+in_all_length : (c : Choice) → length (in_all_orders (choice_of c)) ≡ factorial c.size
+unfolding in_all_orders choice_of
+in_all_length c =
     let os : List (List ℕ) = choice_of c in
     length-map (orders (length os)) (λ (o : List ℕ). chained (map (λ (i : ℕ). get_or os i []) o)) ∙ orders-length (length os)
     ∙ ap factorial (length-table (λ i. keys_of (get_or c.rows i (row []))) c.size)
 
 -- the orderings from one on are that one and those after it
-left-next : (os : List (List ℕ)) (k : ℕ) → k < length os → drop k os ≡ (orderingAt os k ∷ []) ++ drop (k + 1) os
-left-next os k l = drop-cons os k [] l ∙ ap (λ (i : ℕ). orderingAt os k ∷ drop i os) (sym (add-one k))
+left-next : (os : List (List ℕ)) (k : ℕ) → k < length os → drop k os ≡ (ordering_at os k ∷ []) ++ drop (k + 1) os
+left-next os k l = drop-cons os k [] l ∙ ap (λ (i : ℕ). ordering_at os k ∷ drop i os) (sym (add-one k))
 
 -- the order with a number, as it comes from a choice
-module _ (c : Choice) (k : ℕ) (b : k < factorial c.size) (e : Extended) (q : e ≡ extendedOf (orderingAt (inAllOrders (choice_of c)) k)) where
+module _ (c : Choice) (k : ℕ) (b : k < factorial c.size) (e : Extended) (q : e ≡ extended_of (ordering_at (in_all_orders (choice_of c)) k)) where
   -- it is one of the choice in all orders
-  order-in : k < length (inAllOrders (choice_of c))
-  order-in = omega (arith, in-all-length c)
+  order_in : k < length (in_all_orders (choice_of c))
+  order_in = omega (arith, in_all_length c)
 
   -- while the choice is measured
-  module _ (total : ℕ) (x : Measuring (inAllOrders (choice_of c)) (drop k (inAllOrders (choice_of c))) total) where
+  module _ (total : ℕ) (x : Measuring (in_all_orders (choice_of c)) (drop k (in_all_orders (choice_of c))) total) where
     -- where it fits, its places are counted
-    pub choice-on : e.fits ≡ true → Measuring (inAllOrders (choice_of c)) (drop (k + 1) (inAllOrders (choice_of c))) (total + (1 + 2 * e.ordering.size))
-    choice-on t =
-        let os : List (List ℕ) = inAllOrders (choice_of c) in
-        let o : List ℕ = orderingAt os k in
-        measuring-on os (drop k os) (o ∷ []) (drop (k + 1) os) total x (left-next os k order-in) (told true (1 + 2 * e.ordering.size)) (one-fits e o q t) refl
+    pub choice_on : e.fits ≡ true → Measuring (in_all_orders (choice_of c)) (drop (k + 1) (in_all_orders (choice_of c))) (total + (1 + 2 * e.ordering.size))
+    choice_on t =
+        let os : List (List ℕ) = in_all_orders (choice_of c) in
+        let o : List ℕ = ordering_at os k in
+        measuring_on os (drop k os) (o ∷ []) (drop (k + 1) os) total x (left-next os k order_in) (told true (1 + 2 * e.ordering.size)) (one-fits e o q t) refl
 
     -- where it does not, the choice is too long
-    pub choice-stops : e.fits ≡ false → told false 0 ≡ measured (inAllOrders (choice_of c))
-    choice-stops t =
-        let os : List (List ℕ) = inAllOrders (choice_of c) in
-        let o : List ℕ = orderingAt os k in
-        measuring-stops os (drop k os) (o ∷ []) (drop (k + 1) os) total x (left-next os k order-in) (told false 0) (one-not e o q t) refl
+    pub choice_stops : e.fits ≡ false → told false 0 ≡ measured (in_all_orders (choice_of c))
+    choice_stops t =
+        let os : List (List ℕ) = in_all_orders (choice_of c) in
+        let o : List ℕ = ordering_at os k in
+        measuring_stops os (drop k os) (o ∷ []) (drop (k + 1) os) total x (left-next os k order_in) (told false 0) (one-not e o q t) refl
 
   -- while the choice is written
   module _
-      (first : List ℕ) (room : length (writtenAll (inAllOrders (choice_of c))) ≤ length first) (out : List ℕ) (at : ℕ)
-      (x : WritingOrders (inAllOrders (choice_of c)) (drop k (inAllOrders (choice_of c))) first out at) where
+      (first : List ℕ) (room : length (written_all (in_all_orders (choice_of c))) ≤ length first) (out : List ℕ) (at : ℕ)
+      (x : WritingOrders (in_all_orders (choice_of c)) (drop k (in_all_orders (choice_of c))) first out at) where
     -- it has at most 16 keys
-    order-few : length (orderingAt (inAllOrders (choice_of c)) k) ≤ 16
-    order-few =
-        let os : List (List ℕ) = inAllOrders (choice_of c) in
-        let o : List ℕ = orderingAt os k in
-        test_short (o ∷ []) (part-short os first room (drop k os) out at x (o ∷ []) (drop (k + 1) os) (left-next os k order-in)) 0 (omega arith)
+    order_few : length (ordering_at (in_all_orders (choice_of c)) k) ≤ 16
+    order_few =
+        let os : List (List ℕ) = in_all_orders (choice_of c) in
+        let o : List ℕ = ordering_at os k in
+        test_short (o ∷ []) (part-short os first room (drop k os) out at x (o ∷ []) (drop (k + 1) os) (left-next os k order_in)) 0 (omega arith)
 
     -- and so has its struct
-    pub order-short : ShortOrdering e.ordering
-    order-short = one-struct e (orderingAt (inAllOrders (choice_of c)) k) q order-few
+    pub order_short : ShortOrdering e.ordering
+    order_short = one_struct e (ordering_at (in_all_orders (choice_of c)) k) q order_few
 
     -- the rest of the output has room for it
-    pub order-room : 1 + 2 * e.ordering.size ≤ length (take (length out - at) (drop at out))
-    order-room =
-        let os : List (List ℕ) = inAllOrders (choice_of c) in
-        let o : List ℕ = orderingAt os k in
-        omega (arith, one-places e o q order-few, part_room os first room (drop k os) out at x (o ∷ []) (drop (k + 1) os) (left-next os k order-in))
+    pub order_room : 1 + 2 * e.ordering.size ≤ length (take (length out - at) (drop at out))
+    order_room =
+        let os : List (List ℕ) = in_all_orders (choice_of c) in
+        let o : List ℕ = ordering_at os k in
+        omega (arith, one-places e o q order_few, part_room os first room (drop k os) out at x (o ∷ []) (drop (k + 1) os) (left-next os k order_in))
 
     -- it is written
-    pub order-on : (new : List ℕ) → new ≡ written (keys_of e.ordering) ++ drop (1 + 2 * e.ordering.size) (take (length out - at) (drop at out))
-        → WritingOrders (inAllOrders (choice_of c)) (drop (k + 1) (inAllOrders (choice_of c))) first (take at out ++ (new ++ drop (length out - at) (drop at out))) (at + (1 + 2 * e.ordering.size))
-    order-on new p =
-        let os : List (List ℕ) = inAllOrders (choice_of c) in
-        let o : List ℕ = orderingAt os k in
+    pub order_on : (new : List ℕ) → new ≡ written (keys_of e.ordering) ++ drop (1 + 2 * e.ordering.size) (take (length out - at) (drop at out))
+        → WritingOrders (in_all_orders (choice_of c)) (drop (k + 1) (in_all_orders (choice_of c))) first (take at out ++ (new ++ drop (length out - at) (drop at out))) (at + (1 + 2 * e.ordering.size))
+    order_on new p =
+        let os : List (List ℕ) = in_all_orders (choice_of c) in
+        let o : List ℕ = ordering_at os k in
         let n : ℕ = 1 + 2 * e.ordering.size in
-        out-on os first room (drop k os) out at x (o ∷ []) (drop (k + 1) os) (left-next os k order-in) new n (one-places e o q order-few)
-        (one-new e o q order-few new (drop n (take (length out - at) (drop at out))) p)
+        out-on os first room (drop k os) out at x (o ∷ []) (drop (k + 1) os) (left-next os k order_in) new n (one-places e o q order_few)
+        (one-new e o q order_few new (drop n (take (length out - at) (drop at out))) p)
 
 -- the orders of a choice end
-pub orders-done : (c : Choice) (k : ℕ) → factorial c.size ≤ k → drop k (inAllOrders (choice_of c)) ≡ []
-orders-done c k b = drop_of_length-le (inAllOrders (choice_of c)) {i = k} (omega (arith, in-all-length c))
+pub orders-done : (c : Choice) (k : ℕ) → factorial c.size ≤ k → drop k (in_all_orders (choice_of c)) ≡ []
+orders-done c k b = drop_of_length-le (in_all_orders (choice_of c)) {i = k} (omega (arith, in_all_length c))
 
 -- The choices of lists
 
 -- what stands at a place of its struct
-choice-place : (os : List (List ℕ)) (i : ℕ) → get_or (choiceRow os).rows i (row []) ≡ row (orderingAt os i)
-unfolding choiceRow
-choice-place os i = fill-after (row []) (map row os) (6 - length os) i ∙ get_or-map row os i []
+choice_place : (os : List (List ℕ)) (i : ℕ) → get_or (choice_row os).rows i (row []) ≡ row (ordering_at os i)
+unfolding choice_row
+choice_place os i = fill_after (row []) (map row os) (6 - length os) i ∙ get_or-map row os i []
 
 -- a choice comes back from its struct
-pub choice-back : (os : List (List ℕ)) → choice_of (choiceRow os) ≡ os
-unfolding choice_of choiceRow
-choice-back os =
-    sym (table_is (λ i. keys_of (get_or (choiceRow os).rows i (row []))) (length os) os [] refl
-    (λ i l. sym (ap keys_of (choice-place os i) ∙ keys-row (orderingAt os i))))
+pub choice_back : (os : List (List ℕ)) → choice_of (choice_row os) ≡ os
+unfolding choice_of choice_row
+choice_back os =
+    sym (table_is (λ i. keys_of (get_or (choice_row os).rows i (row []))) (length os) os [] refl
+    (λ i l. sym (ap keys_of (choice_place os i) ∙ keys-row (ordering_at os i))))
 
 -- the struct of 1 to 6 orderings of at most 16 keys
-chosen-row : (os : List (List ℕ)) → 0 < length os → length os ≤ 6 → AllShort os → Chosen (choiceRow os)
-unfolding choiceRow
+chosen-row : (os : List (List ℕ)) → 0 < length os → length os ≤ 6 → AllShort os → Chosen (choice_row os)
+unfolding choice_row
 chosen-row os a b h = record {
-  coded = ap choiceRow (choice-back os);
+  coded = ap choice_row (choice_back os);
   some = a;
   few = b;
-  short = λ i l. subst ShortOrdering (sym (choice-place os i)) (row-short (orderingAt os i) (h i l));
+  short = λ i l. subst ShortOrdering (sym (choice_place os i)) (row-short (ordering_at os i) (h i l));
 }
 
 -- an ordering of at most 16 keys before such orderings
@@ -249,14 +249,14 @@ short-before o os b h (suc i) l = h i (omega arith)
 
 -- where the orderings of each list have at most 16 keys, those of a choice have
 product-short : (ls : List (List (List ℕ))) → ((j : ℕ) → j < length ls → AllShort (get_or ls j [])) → (number : ℕ) → number < choices ls → AllShort (get_or (product ls) number [])
-unfolding product timesAll
+unfolding product times_all
 product-short [] h zero b = λ i l. absurd (omega arith)
 product-short [] h (suc number) b = λ i l. absurd (omega arith)
 product-short (os ∷ ls) h number b =
-    let some : 0 < choices ls = factor-some (length os) (choices ls) number b in
+    let some : 0 < choices ls = factor_some (length os) (choices ls) number b in
     let q : number / choices ls < length os = (div-lt_iff_lt-mul {k = choices ls} {x = number} {y = length os} some).1 b in
     let r = product-short ls (λ j l. h (suc j) (omega arith)) (number % choices ls) (mod-lt number some) in
-    subst AllShort (sym (product_at os ls number b)) (short-before (orderingAt os (number / choices ls)) (get_or (product ls) (number % choices ls) []) (h 0 (omega arith) (number / choices ls) q) r)
+    subst AllShort (sym (product_at os ls number b)) (short-before (ordering_at os (number / choices ls)) (get_or (product ls) (number % choices ls) []) (h 0 (omega arith) (number / choices ls) q) r)
 
 module _ (l : Lists) where
   -- the orderings of a list in a struct have at most 16 keys
@@ -265,39 +265,39 @@ module _ (l : Lists) where
   list-short v j b i a =
       let c : i < length_of l.shape j = omega (arith, list_length l j) in
       let place : ℕ = start_of l.shape j + i in
-      let e = ap (λ (o : List ℕ). length o) (getD-table (λ i. keys_of (get_or l.found.rows (start_of l.shape j + i) (row []))) (length_of l.shape j) i [] c) in
+      let e = ap (λ (o : List ℕ). length o) (get_or-table (λ i. keys_of (get_or l.found.rows (start_of l.shape j + i) (row []))) (length_of l.shape j) i [] c) in
       omega (arith, short-size (get_or l.found.rows place (row [])) (v.short place (place-there l.shape v.shaped j i b c)))
 
   module _ (n : ℕ) (h : Ready l n) where
     -- there are at most 1,024 choices
     pub ready-few : n ≤ 1024
-    ready-few = factor-few (factorial l.shape.size) n 1024 (factorial-some l.shape.size) h.few
+    ready-few = factor_few (factorial l.shape.size) n 1024 (factorial-some l.shape.size) h.few
 
     module _ (k : ℕ) (b : k < n) where
       -- choice k is one of them
-      pub ready-in : k < choices (lists_of l)
-      ready-in = omega (arith, h.number)
+      pub ready_in : k < choices (lists_of l)
+      ready_in = omega (arith, h.number)
 
       -- and is one of 1 to 6 orderings of at most 16 keys
-      pub ready-chosen : (x : Choice) → x ≡ choiceRow (get_or (product (lists_of l)) k []) → Chosen x
+      pub ready-chosen : (x : Choice) → x ≡ choice_row (get_or (product (lists_of l)) k []) → Chosen x
       ready-chosen x e =
           let os : List (List ℕ) = get_or (product (lists_of l)) k [] in
-          let long : length os ≡ l.shape.size = choice-length (lists_of l) k ready-in ∙ lists_length l in
+          let long : length os ≡ l.shape.size = choice_length (lists_of l) k ready_in ∙ lists_length l in
           subst Chosen (sym e)
           (chosen-row os (omega (arith, h.some)) (omega (arith, h.laid.shaped.few))
-          (product-short (lists_of l) (λ j a. let d : j < l.shape.size = omega (arith, lists_length l) in subst AllShort (sym (lists_at l j d)) (list-short h.laid j d)) k ready-in))
+          (product-short (lists_of l) (λ j a. let d : j < l.shape.size = omega (arith, lists_length l) in subst AllShort (sym (lists_at l j d)) (list-short h.laid j d)) k ready_in))
 
       -- the orders of the choices from it on are its orders and those of the choices after it
-      pub ready-next : (x : Choice) → x ≡ choiceRow (get_or (product (lists_of l)) k []) → allOrders (drop k (product (lists_of l))) ≡ inAllOrders (choice_of x) ++ allOrders (drop (k + 1) (product (lists_of l)))
-      unfolding allOrders
+      pub ready-next : (x : Choice) → x ≡ choice_row (get_or (product (lists_of l)) k []) → all_orders (drop k (product (lists_of l))) ≡ in_all_orders (choice_of x) ++ all_orders (drop (k + 1) (product (lists_of l)))
+      unfolding all_orders
       ready-next x e =
           let cs : List (List (List ℕ)) = product (lists_of l) in
           let os : List (List ℕ) = get_or cs k [] in
-          ap allOrders (drop-cons cs k [] (omega (arith, product-length (lists_of l), ready-in)))
-          ∙ ap (λ (i : ℕ). inAllOrders os ++ allOrders (drop i cs)) (sym (add-one k))
-          ∙ ap (λ (t : List (List ℕ)). inAllOrders t ++ allOrders (drop (k + 1) cs)) (sym (ap choice_of e ∙ choice-back os))
+          ap all_orders (drop-cons cs k [] (omega (arith, product-length (lists_of l), ready_in)))
+          ∙ ap (λ (i : ℕ). in_all_orders os ++ all_orders (drop i cs)) (sym (add-one k))
+          ∙ ap (λ (t : List (List ℕ)). in_all_orders t ++ all_orders (drop (k + 1) cs)) (sym (ap choice_of e ∙ choice_back os))
 
     -- after the last there are none
-    pub ready-done : (k : ℕ) → n ≤ k → allOrders (drop k (product (lists_of l))) ≡ []
-    unfolding allOrders
-    ready-done k b = ap allOrders (drop_of_length-le (product (lists_of l)) {i = k} (omega (arith, product-length (lists_of l), h.number)))
+    pub ready-done : (k : ℕ) → n ≤ k → all_orders (drop k (product (lists_of l))) ≡ []
+    unfolding all_orders
+    ready-done k b = ap all_orders (drop_of_length-le (product (lists_of l)) {i = k} (omega (arith, product-length (lists_of l), h.number)))

@@ -7,20 +7,20 @@ use native.Mathlib.Numerals.{add-one}
 use native.Mathlib.Omega.{arith}
 use lib.ListN.{length, get_or, take, drop, set, length-append, length-drop, drop_of_length-le}
 use lib.Seq.{get_or-append-add, length-take-le, take_all, take-suc, take-add, take_at, drop_at, drop-cons, drop-drop, drop-set-lt, set_at, append_snoc}
-use Rattle.laws.proofs.Booleans.{true-not-false, same_test}
-use Rattle.orderings.specs.Ordering.{exprOf, optionsOf}
+use Rattle.laws.proofs.Booleans.{true_not_false, same_test}
+use Rattle.orderings.specs.Ordering.{expr_of, options_of}
 use Rattle.orderings.specs.Layout.{keys_of}
-use Rattle.orderings.specs.Inner.{allShort}
+use Rattle.orderings.specs.Inner.{all_short}
 use Rattle.orderings.specs.declared.Ordering.{Ordering}
 use Rattle.orderings.proofs.Codec.{size_is, key-is}
 use Rattle.orderings.proofs.Appending.{AllShort, append-all, short-test, test_short, long-append}
-use Rattle.dependency_orderings.specs.Output.{numbersOf, written, writtenAll}
+use Rattle.dependency_orderings.specs.Output.{numbers_of, written, written_all}
 
 -- How many places
 
 -- each key takes two places
-pub numbers-length : (o : List ℕ) → length (numbersOf o) ≡ 2 * length o
-unfolding numbersOf
+pub numbers-length : (o : List ℕ) → length (numbers_of o) ≡ 2 * length o
+unfolding numbers_of
 numbers-length [] = omega arith
 numbers-length (k ∷ ks) = omega (arith, numbers-length ks)
 
@@ -30,31 +30,31 @@ unfolding written
 written-length o = omega (arith, numbers-length o)
 
 -- keys after other keys
-numbers-append : (o p : List ℕ) → numbersOf (o ++ p) ≡ numbersOf o ++ numbersOf p
-unfolding numbersOf
+numbers-append : (o p : List ℕ) → numbers_of (o ++ p) ≡ numbers_of o ++ numbers_of p
+unfolding numbers_of
 numbers-append [] p = refl
-numbers-append (k ∷ ks) p = ap (λ (t : List ℕ). exprOf k ∷ optionsOf k ∷ t) (numbers-append ks p)
+numbers-append (k ∷ ks) p = ap (λ (t : List ℕ). expr_of k ∷ options_of k ∷ t) (numbers-append ks p)
 
 -- orderings after other orderings
-pub written-append : (os ps : List (List ℕ)) → writtenAll (os ++ ps) ≡ writtenAll os ++ writtenAll ps
-unfolding writtenAll
+pub written-append : (os ps : List (List ℕ)) → written_all (os ++ ps) ≡ written_all os ++ written_all ps
+unfolding written_all
 written-append [] ps = refl
-written-append (o ∷ os) ps = ap (λ (t : List ℕ). written o ++ t) (written-append os ps) ∙ sym (append_assoc (written o) (writtenAll os) (writtenAll ps))
+written-append (o ∷ os) ps = ap (λ (t : List ℕ). written o ++ t) (written-append os ps) ∙ sym (append_assoc (written o) (written_all os) (written_all ps))
 
 -- one ordering
-pub written_one : (o : List ℕ) → writtenAll (o ∷ []) ≡ written o
-unfolding writtenAll
+pub written_one : (o : List ℕ) → written_all (o ∷ []) ≡ written o
+unfolding written_all
 written_one o = append-nil (written o)
 
 -- An ordering key by key
 
 -- its key count and its first k keys
 abbrev front : Ordering → ℕ → List ℕ
-front o k = o.size ∷ numbersOf (take k (keys_of o))
+front o k = o.size ∷ numbers_of (take k (keys_of o))
 
 -- the output where these are written
-abbrev pub begunTo : Ordering → List ℕ → ℕ → List ℕ
-begunTo o out k = front o k ++ drop (1 + 2 * k) out
+abbrev pub begun_to : Ordering → List ℕ → ℕ → List ℕ
+begun_to o out k = front o k ++ drop (1 + 2 * k) out
 
 -- two numbers are written, one after the other
 set-two : (p out : List ℕ) (n v w : ℕ) → length p ≡ n → n + 1 < length out → set (set (p ++ drop n out) n v) (n + 1) w ≡ p ++ (v ∷ w ∷ []) ++ drop (n + 2) out
@@ -78,13 +78,13 @@ module _ (o : Ordering) (out : List ℕ) where
   front_length k l = omega (arith, numbers-length (take k (keys_of o)), length-take-le k (keys_of o) (omega (arith, size_is o)))
 
   -- what is written changes no length
-  pub begun-length : (k : ℕ) → k ≤ o.size → 1 + 2 * o.size ≤ length out → length (begunTo o out k) ≡ length out
+  pub begun-length : (k : ℕ) → k ≤ o.size → 1 + 2 * o.size ≤ length out → length (begun_to o out k) ≡ length out
   begun-length k l b = omega (arith, length-append (front o k) (drop (1 + 2 * k) out), front_length k l, length-drop (1 + 2 * k) out)
 
   -- one key more
   pub begun-next : (k : ℕ) → k < o.size → 1 + 2 * o.size ≤ length out
-      → set (set (begunTo o out k) (2 * k + 1) (get_or o.keys k 0 / 4)) (2 * k + 2) (get_or o.keys k 0 % 4) ≡ begunTo o out (k + 1)
-  unfolding numbersOf exprOf optionsOf
+      → set (set (begun_to o out k) (2 * k + 1) (get_or o.keys k 0 / 4)) (2 * k + 2) (get_or o.keys k 0 % 4) ≡ begun_to o out (k + 1)
+  unfolding numbers_of expr_of options_of
   begun-next k l b =
       let key : ℕ = get_or o.keys k 0 in
       let n : ℕ = 2 * k + 1 in
@@ -96,38 +96,38 @@ module _ (o : Ordering) (out : List ℕ) where
       ∙ ap (λ (x : ℕ). take k (keys_of o) ++ (x ∷ [])) (key-is o k l) in
       ap₂ {C = List ℕ} (λ (i j : ℕ). set (set (front o k ++ drop i out) n (key / 4)) j (key % 4)) s t
       ∙ set-two (front o k) out n (key / 4) (key % 4) (omega (arith, front_length k (omega arith))) (omega arith)
-      ∙ ap₂ {C = List ℕ} (λ (x : List ℕ) (i : ℕ). o.size ∷ x ++ drop i out) (sym (numbers-append (take k (keys_of o)) (key ∷ [])) ∙ ap numbersOf (sym more)) u
+      ∙ ap₂ {C = List ℕ} (λ (x : List ℕ) (i : ℕ). o.size ∷ x ++ drop i out) (sym (numbers-append (take k (keys_of o)) (key ∷ [])) ∙ ap numbers_of (sym more)) u
 
 -- the key count is written
-pub begun-begins : (o : Ordering) (out : List ℕ) (r : ℕ) → 0 < length out → r ≡ o.size → set out 0 r ≡ begunTo o (set out 0 r) 0
-unfolding numbersOf
+pub begun-begins : (o : Ordering) (out : List ℕ) (r : ℕ) → 0 < length out → r ≡ o.size → set out 0 r ≡ begun_to o (set out 0 r) 0
+unfolding numbers_of
 begun-begins o [] r l e = absurd (omega arith)
 begun-begins o (x ∷ out) r l e = ap (λ (y : ℕ). y ∷ out) e
 
 -- all keys are written
-pub begun-ends : (o : Ordering) (out : List ℕ) (k r : ℕ) → k ≤ o.size → o.size ≤ k → begunTo o (set out 0 r) k ≡ written (keys_of o) ++ drop (1 + 2 * o.size) out
+pub begun-ends : (o : Ordering) (out : List ℕ) (k r : ℕ) → k ≤ o.size → o.size ≤ k → begun_to o (set out 0 r) k ≡ written (keys_of o) ++ drop (1 + 2 * o.size) out
 unfolding written
 begun-ends o out k r a b =
     let e : k ≡ o.size = omega arith in
-    ap₂ {C = List ℕ} (λ (x : List ℕ) (y : List ℕ). o.size ∷ numbersOf x ++ y) (take_all k (keys_of o) (omega (arith, size_is o))) (drop-set-lt (1 + 2 * k) out 0 r (omega arith))
-    ∙ ap₂ {C = List ℕ} (λ (x : ℕ) (i : ℕ). x ∷ numbersOf (keys_of o) ++ drop (1 + 2 * i) out) (sym (size_is o)) e
+    ap₂ {C = List ℕ} (λ (x : List ℕ) (y : List ℕ). o.size ∷ numbers_of x ++ y) (take_all k (keys_of o) (omega (arith, size_is o))) (drop-set-lt (1 + 2 * k) out 0 r (omega arith))
+    ∙ ap₂ {C = List ℕ} (λ (x : ℕ) (i : ℕ). x ∷ numbers_of (keys_of o) ++ drop (1 + 2 * i) out) (sym (size_is o)) e
 
 -- Orderings of at most 16 keys
 
 -- behind such orderings, whether all are such hangs on the others
-pub short-after : (os ps : List (List ℕ)) → allShort os ≡ true → allShort (os ++ ps) ≡ allShort ps
-short-after os ps e = same_test (allShort (os ++ ps)) (allShort ps) (λ t. short-test ps (right (test_short (os ++ ps) t))) (λ t. short-test (os ++ ps) (append-all (λ o. length o ≤ 16) os ps (test_short os e) (test_short ps t)))
+pub short-after : (os ps : List (List ℕ)) → all_short os ≡ true → all_short (os ++ ps) ≡ all_short ps
+short-after os ps e = same_test (all_short (os ++ ps)) (all_short ps) (λ t. short-test ps (right (test_short (os ++ ps) t))) (λ t. short-test (os ++ ps) (append-all (λ o. length o ≤ 16) os ps (test_short os e) (test_short ps t)))
   where
     right : AllShort (os ++ ps) → AllShort ps
     right h i l = let q = ap (λ (o : List ℕ). length o) (get_or-append-add os ps i []) in omega (arith, h (length os + i) (omega (arith, length-append os ps)))
 
 -- where all are such, those before and those behind are
-pub short-parts : (os ps : List (List ℕ)) → allShort (os ++ ps) ≡ true → (allShort os ≡ true) × (allShort ps ≡ true)
-short-parts os ps e = go (allShort os) refl
+pub short-parts : (os ps : List (List ℕ)) → all_short (os ++ ps) ≡ true → (all_short os ≡ true) × (all_short ps ≡ true)
+short-parts os ps e = go (all_short os) refl
   where
-    go : (b : Bool) → allShort os ≡ b → (allShort os ≡ true) × (allShort ps ≡ true)
+    go : (b : Bool) → all_short os ≡ b → (all_short os ≡ true) × (all_short ps ≡ true)
     go true q = (q, sym (short-after os ps q) ∙ e)
-    go false q = absurd (true-not-false e (long-append os ps q))
+    go false q = absurd (true_not_false e (long-append os ps q))
 
 -- Numbers that come into the output part by part
 
@@ -195,53 +195,53 @@ module _ (all first : List ℕ) (room : length all ≤ length first) where
 
 -- those that are left have at most 16 keys, and the others are written
 pub record WritingOrders (all left : List (List ℕ)) (first out : List ℕ) (at : ℕ) : Type 0 where
-  pub short : allShort left ≡ true
-  pub writing : Writing (writtenAll all) (writtenAll left) first out at
+  pub short : all_short left ≡ true
+  pub writing : Writing (written_all all) (written_all left) first out at
 
-module _ (all : List (List ℕ)) (first : List ℕ) (room : length (writtenAll all) ≤ length first) where
+module _ (all : List (List ℕ)) (first : List ℕ) (room : length (written_all all) ≤ length first) where
   -- none is written
-  pub out-begins : allShort all ≡ true → WritingOrders all all first first 0
-  out-begins e = record { short = e; writing = writing_begins (writtenAll all) first room }
+  pub out-begins : all_short all ≡ true → WritingOrders all all first first 0
+  out-begins e = record { short = e; writing = writing_begins (written_all all) first room }
 
   module _ (left : List (List ℕ)) (out : List ℕ) (at : ℕ) (x : WritingOrders all left first out at) where
     -- what is written changes no length
     pub out-length : length out ≡ length first
-    out-length = writing-length (writtenAll all) first room (writtenAll left) out at x.writing
+    out-length = writing-length (written_all all) first room (written_all left) out at x.writing
 
     -- the place is within the output
     pub out_within : at ≤ length first
     out_within = omega (arith, x.writing.below)
 
     -- all are written
-    pub out-ends : left ≡ [] → (at ≡ length (writtenAll all)) × (out ≡ writtenAll all ++ drop (length (writtenAll all)) first)
-    unfolding writtenAll
-    out-ends e = writing-ends (writtenAll all) first room (writtenAll left) out at x.writing (ap writtenAll e)
+    pub out-ends : left ≡ [] → (at ≡ length (written_all all)) × (out ≡ written_all all ++ drop (length (written_all all)) first)
+    unfolding written_all
+    out-ends e = writing-ends (written_all all) first room (written_all left) out at x.writing (ap written_all e)
 
     -- one part more
     module _ (part after : List (List ℕ)) (s : left ≡ part ++ after) where
       -- its orderings have at most 16 keys
-      pub part-short : allShort part ≡ true
-      part-short = (short-parts part after (sym (ap allShort s) ∙ x.short)).0
+      pub part-short : all_short part ≡ true
+      part-short = (short-parts part after (sym (ap all_short s) ∙ x.short)).0
 
       -- what is left is its places and those after it
-      split : writtenAll left ≡ writtenAll part ++ writtenAll after
-      split = ap writtenAll s ∙ written-append part after
+      split : written_all left ≡ written_all part ++ written_all after
+      split = ap written_all s ∙ written-append part after
 
       -- its places are within the output
-      pub part-within : at + length (writtenAll part) ≤ length first
+      pub part-within : at + length (written_all part) ≤ length first
       part-within =
-          omega (arith, writing-left (writtenAll all) first room (writtenAll left) out at x.writing, ap (λ (w : List ℕ). length w) split, length-append (writtenAll part) (writtenAll after))
+          omega (arith, writing-left (written_all all) first room (written_all left) out at x.writing, ap (λ (w : List ℕ). length w) split, length-append (written_all part) (written_all after))
 
       -- the rest of the output has room for it
-      pub part_room : length (writtenAll part) ≤ length (take (length out - at) (drop at out))
-      part_room = omega (arith, part-within, writing-room (writtenAll all) first room (writtenAll left) out at x.writing)
+      pub part_room : length (written_all part) ≤ length (take (length out - at) (drop at out))
+      part_room = omega (arith, part-within, writing-room (written_all all) first room (written_all left) out at x.writing)
 
       -- the loop goes on
-      pub out-on : (new : List ℕ) (n : ℕ) → n ≡ length (writtenAll part) → new ≡ writtenAll part ++ drop n (take (length out - at) (drop at out))
+      pub out-on : (new : List ℕ) (n : ℕ) → n ≡ length (written_all part) → new ≡ written_all part ++ drop n (take (length out - at) (drop at out))
           → WritingOrders all after first (take at out ++ (new ++ drop (length out - at) (drop at out))) (at + n)
       out-on new n e q = record {
-        short = (short-parts part after (sym (ap allShort s) ∙ x.short)).1;
+        short = (short-parts part after (sym (ap all_short s) ∙ x.short)).1;
         writing =
-            writing-on (writtenAll all) first room (writtenAll part) (writtenAll after) out new at n
-            (subst (λ (w : List ℕ). Writing (writtenAll all) w first out at) split x.writing) e q;
+            writing-on (written_all all) first room (written_all part) (written_all after) out new at n
+            (subst (λ (w : List ℕ). Writing (written_all all) w first out at) split x.writing) e q;
       }

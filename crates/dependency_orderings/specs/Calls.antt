@@ -3,74 +3,74 @@
 use Rattle.std.specs.Prelude.{ℕ, ◌+◌, ◌*◌, ◌/◌, ◌&&◌, List, [], ◌++◌, map, eqb, ltb, leb, length, get_or, drop}
 use Rattle.laws.specs.Tests.{if◌then◌else◌, each}
 use Rattle.arena.specs.Layout.{count}
-use Rattle.sort_keys.specs.Layout.{keys_of, optionsKnown, noneCut, packed}
+use Rattle.sort_keys.specs.Layout.{keys_of, options_known, none_cut, packed}
 use Rattle.dependencies.specs.Layout.{decode}
-use Rattle.dependencies.specs.Calls.{mapNumber}
+use Rattle.dependencies.specs.Calls.{map_number}
 use Rattle.dependencies.specs.declared.DependencyMap.{DependencyMap}
-use Rattle.enumeration.specs.Walk.{Walk, found, stopped, prefixOrderings}
+use Rattle.enumeration.specs.Walk.{Walk, found, stopped, prefix_orderings}
 use Rattle.enumeration.specs.Bounds.{fitting}
-use Rattle.products.specs.Generate.{onceEach, Lists, lists, stops, contributing, generated}
-use Rattle.dependency_orderings.specs.Output.{writtenAll}
+use Rattle.products.specs.Generate.{once_each, Lists, lists, stops, contributing, generated}
+use Rattle.dependency_orderings.specs.Output.{written_all}
 use Rattle.dependency_orderings.specs.declared.Enumerated.{Enumerated}
 
 -- a refusal: its number, and nothing written
-abbrev pub refusedWith : ℕ → Enumerated
-refusedWith k = record { number = k; count = 0; used = 0 }
+abbrev pub refused_with : ℕ → Enumerated
+refused_with k = record { number = k; count = 0; used = 0 }
 
 -- orderings that are written from the output's first place on; the output past the last is unchanged
 unfoldable pub writes : List (List ℕ) → List ℕ → Enumerated × List ℕ
-writes os out = (record { number = 0; count = length os; used = length (writtenAll os) }, writtenAll os ++ drop (length (writtenAll os)) out)
+writes os out = (record { number = 0; count = length os; used = length (written_all os) }, written_all os ++ drop (length (written_all os)) out)
 
 -- the answer with some orderings: 5 where they are over a bound, 8 where the output is too short
 unfoldable pub answered : List (List ℕ) → List ℕ → Enumerated × List ℕ
 answered os out =
     if fitting os then
-    (if leb (length (writtenAll os)) (length out) then writes os out else (refusedWith 8, out))
-    else (refusedWith 5, out)
+    (if leb (length (written_all os)) (length out) then writes os out else (refused_with 8, out))
+    else (refused_with 5, out)
 
 -- the answer with what a walk came to: 6 or 7 where it stopped
-unfoldable pub walkAnswer : Walk → List ℕ → Enumerated × List ℕ
-walkAnswer (stopped k) out = (refusedWith k, out)
-walkAnswer (found os seen) out = answered os out
+unfoldable pub walk_answer : Walk → List ℕ → Enumerated × List ℕ
+walk_answer (stopped k) out = (refused_with k, out)
+walk_answer (found os seen) out = answered os out
 
 -- the check of what is lent with a key: 12 for its options, 11 for the arena or the map, 1 for an expression, else 0
-unfoldable pub prefixNumber : List ℕ → DependencyMap → ℕ → ℕ → ℕ
-prefixNumber cells m e options =
+unfoldable pub prefix_number : List ℕ → DependencyMap → ℕ → ℕ → ℕ
+prefix_number cells m e options =
     if leb options 3 then
-    (if eqb (mapNumber cells m) 0 then (if ltb e (count cells) then 0 else 1)
-    else mapNumber cells m)
+    (if eqb (map_number cells m) 0 then (if ltb e (count cells) then 0 else 1)
+    else map_number cells m)
     else 12
 
 -- the prefix orderings of a key, into lent output
-unfoldable pub prefixAnswer : List ℕ → DependencyMap → ℕ → ℕ → List ℕ → Enumerated × List ℕ
-prefixAnswer cells m e options out =
-    if eqb (prefixNumber cells m e options) 0 then walkAnswer (prefixOrderings (decode m) (e * 4 + options)) out
-    else (refusedWith (prefixNumber cells m e options), out)
+unfoldable pub prefix_answer : List ℕ → DependencyMap → ℕ → ℕ → List ℕ → Enumerated × List ℕ
+prefix_answer cells m e options out =
+    if eqb (prefix_number cells m e options) 0 then walk_answer (prefix_orderings (decode m) (e * 4 + options)) out
+    else (refused_with (prefix_number cells m e options), out)
 
 -- the check of what is lent with keys: 12 for their options, 11 for a key that is cut, the arena or the map, 1 for an expression, else 0
-unfoldable pub generateNumber : List ℕ → DependencyMap → List ℕ → ℕ
-generateNumber cells m numbers =
-    if optionsKnown numbers then
-    (if noneCut numbers then
-    (if eqb (mapNumber cells m) 0 then
+unfoldable pub generate_number : List ℕ → DependencyMap → List ℕ → ℕ
+generate_number cells m numbers =
+    if options_known numbers then
+    (if none_cut numbers then
+    (if eqb (map_number cells m) 0 then
     (if each (λ k. ltb (get_or numbers (2 * k) 0) (count cells)) (length numbers / 2) then 0 else 1)
-    else mapNumber cells m)
+    else map_number cells m)
     else 11)
     else 12
 
 -- the answer with what the walks of n different keys came to: 6 or 7 where one stopped; then 5 where more than 16 different keys are given or more than 6 contribute
-unfoldable pub gatheredAnswer : Lists → ℕ → List ℕ → Enumerated × List ℕ
-gatheredAnswer (stops k) n out = (refusedWith k, out)
-gatheredAnswer (lists ls) n out =
+unfoldable pub gathered_answer : Lists → ℕ → List ℕ → Enumerated × List ℕ
+gathered_answer (stops k) n out = (refused_with k, out)
+gathered_answer (lists ls) n out =
     if leb n 16 && leb (length ls) 6 then answered (generated ls) out
-    else (refusedWith 5, out)
+    else (refused_with 5, out)
 
 -- the keys that are given, each as one number, a repeat counted once
 abbrev pub different : List ℕ → List ℕ
-different numbers = onceEach [] (map packed (keys_of numbers))
+different numbers = once_each [] (map packed (keys_of numbers))
 
 -- the orderings of the keys that are given, into lent output
-unfoldable pub generateAnswer : List ℕ → DependencyMap → List ℕ → List ℕ → Enumerated × List ℕ
-generateAnswer cells m numbers out =
-    if eqb (generateNumber cells m numbers) 0 then gatheredAnswer (contributing (decode m) (different numbers)) (length (different numbers)) out
-    else (refusedWith (generateNumber cells m numbers), out)
+unfoldable pub generate_answer : List ℕ → DependencyMap → List ℕ → List ℕ → Enumerated × List ℕ
+generate_answer cells m numbers out =
+    if eqb (generate_number cells m numbers) 0 then gathered_answer (contributing (decode m) (different numbers)) (length (different numbers)) out
+    else (refused_with (generate_number cells m numbers), out)

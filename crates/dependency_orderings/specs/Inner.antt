@@ -3,26 +3,26 @@ use Rattle.std.specs.Prelude.{ℕ, ◌+◌, ◌*◌, ◌<◌, ◌≤◌, ◌/◌
 use Rattle.std.proofs.Math.Option.{some}
 use Rattle.laws.specs.Tests.{if◌then◌else◌}
 use Rattle.classes.specs.Group.{among}
-use Rattle.orderings.specs.Inner.{allShort}
-use Rattle.dependencies.specs.Map.{place_of, withDependency}
+use Rattle.orderings.specs.Inner.{all_short}
+use Rattle.dependencies.specs.Map.{place_of, with_dependency}
 use Rattle.dependencies.specs.Layout.{decode}
 use Rattle.dependencies.specs.declared.DependencyMap.{DependencyMap}
 use Rattle.enumeration.specs.Bounds.{fitting}
-use Rattle.enumeration.specs.Inner.{noneFound, Room, Rows}
+use Rattle.enumeration.specs.Inner.{none_found, Room, Rows}
 use Rattle.enumeration.specs.declared.Found.{Found}
-use Rattle.products.specs.Generate.{onceEach, lists, stops, contributing}
+use Rattle.products.specs.Generate.{once_each, lists, stops, contributing}
 use Rattle.products.specs.Inner.{joined, start_of, lists_of, Laid, choices, factorial}
 use Rattle.products.specs.declared.Shape.{Shape}
 use Rattle.products.specs.declared.Lists.{Lists}
 use Rattle.products.specs.declared.Counted.{Counted}
-use Rattle.dependency_orderings.specs.Output.{writtenAll}
+use Rattle.dependency_orderings.specs.Output.{written_all}
 use Rattle.dependency_orderings.specs.declared.Gathered.{Gathered}
 
 -- Places of the output
 
 -- how many places orderings take, or that one has more than 16 keys
 unfoldable pub measured : List (List ℕ) → Counted
-measured os = if allShort os then record { fits = true; count = length (writtenAll os) } else record { fits = false; count = 0 }
+measured os = if all_short os then record { fits = true; count = length (written_all os) } else record { fits = false; count = 0 }
 
 -- lists of which at least one is there, with n choices, whose orders are at most 1,024
 pub record Ready (l : Lists) (n : ℕ) : Type 0 where
@@ -34,12 +34,12 @@ pub record Ready (l : Lists) (n : ℕ) : Type 0 where
 -- Lists as structs
 
 -- no lists
-abbrev pub noLists : Lists
-noLists = record { shape = record { size = 0; ends = replicate {A = ℕ} 6 0 }; found = noneFound }
+abbrev pub no_lists : Lists
+no_lists = record { shape = record { size = 0; ends = replicate {A = ℕ} 6 0 }; found = none_found }
 
 -- the orderings that were found as one list, or as none where there are none
-unfoldable pub oneList : Found → Lists
-oneList f =
+unfoldable pub one_list : Found → Lists
+one_list f =
     if eqb f.count 0 then record { shape = record { size = 0; ends = replicate {A = ℕ} 6 0 }; found = f }
     else record { shape = record { size = 1; ends = set (replicate {A = ℕ} 6 0) 0 f.count }; found = f }
 
@@ -47,30 +47,30 @@ oneList f =
 
 -- nothing is gathered
 abbrev pub ungathered : Gathered
-ungathered = record { number = 0; different = 0; walked = replicate {A = Bool} 64 false; many = false; lists = noLists }
+ungathered = record { number = 0; different = 0; walked = replicate {A = Bool} 64 false; many = false; lists = no_lists }
 
 -- one more of the different keys; 17 stands for more than 16
 unfoldable pub counting : ℕ → ℕ
 counting n = if leb 17 n then 17 else n + 1
 
 -- a number up to 17
-unfoldable pub upTo17 : ℕ → ℕ
-upTo17 n = if leb 17 n then 17 else n
+unfoldable pub up_to17 : ℕ → ℕ
+up_to17 n = if leb 17 n then 17 else n
 
 -- where the lists end
 abbrev pub end_of : Gathered → ℕ
 end_of g = start_of g.lists.shape g.lists.shape.size
 
 -- what is gathered with the orderings after one more walk: a list more where some were found, and no seventh
-unfoldable pub withFound : Gathered → Found → Gathered
-withFound g f =
+unfoldable pub with_found : Gathered → Found → Gathered
+with_found g f =
     if eqb f.count (end_of g) then record { number = 0; different = g.different; walked = g.walked; many = g.many; lists = record { shape = g.lists.shape; found = f } }
     else if leb 6 g.lists.shape.size then record { number = 0; different = g.different; walked = g.walked; many = true; lists = record { shape = g.lists.shape; found = f } }
     else record { number = 0; different = g.different; walked = g.walked; many = g.many; lists = record { shape = record { size = g.lists.shape.size + 1; ends = set g.lists.shape.ends g.lists.shape.size f.count }; found = f } }
 
 -- what is gathered, and the key at a place more that is walked
-unfoldable pub withKey : Gathered → ℕ → Gathered
-withKey g i = record { number = g.number; different = counting g.different; walked = set g.walked i true; many = g.many; lists = g.lists }
+unfoldable pub with_key : Gathered → ℕ → Gathered
+with_key g i = record { number = g.number; different = counting g.different; walked = set g.walked i true; many = g.many; lists = g.lists }
 
 -- what is gathered has room for more
 pub record Standing (g : Gathered) : Type 0 where
@@ -89,7 +89,7 @@ pub record Shapes (s : Shape) (ls : List (List (List ℕ))) : Type 0 where
 pub record Gathering (m : DependencyMap) (ks : List ℕ) (ls : List (List (List ℕ))) (g : Gathered) : Type 0 where
   pub is : contributing (decode m) ks ≡ lists ls
   pub walked : (k i : ℕ) → place_of (decode m) k ≡ some i → get_or g.walked i false ≡ among k ks
-  pub different : g.different ≡ upTo17 (length ks)
+  pub different : g.different ≡ up_to17 (length ks)
   pub rows : Rows g.lists.found (joined ls)
   pub many : fitting (joined ls) ≡ true → g.many ≡ not (leb (length ls) 6)
   pub shapes : fitting (joined ls) ≡ true → leb (length ls) 6 ≡ true → Shapes g.lists.shape ls
@@ -97,14 +97,14 @@ pub record Gathering (m : DependencyMap) (ks : List ℕ) (ls : List (List (List 
 -- what one key more comes to
 pub record Steps (m : DependencyMap) (g : Gathered) (k : ℕ) (r : Gathered) : Type 0 where
   pub standing : r.number ≡ 0 → Standing r
-  pub stops_at : (ks : List ℕ) (ls : List (List (List ℕ))) → Gathering m ks ls g → (r.number ≡ 0 → ⊥) → contributing (decode m) (withDependency ks (some k)) ≡ stops r.number
-  pub goes : (ks : List ℕ) (ls : List (List (List ℕ))) → Gathering m ks ls g → r.number ≡ 0 → (qs : List (List (List ℕ))) × Gathering m (withDependency ks (some k)) qs r
+  pub stops_at : (ks : List ℕ) (ls : List (List (List ℕ))) → Gathering m ks ls g → (r.number ≡ 0 → ⊥) → contributing (decode m) (with_dependency ks (some k)) ≡ stops r.number
+  pub goes : (ks : List ℕ) (ls : List (List (List ℕ))) → Gathering m ks ls g → r.number ≡ 0 → (qs : List (List (List ℕ))) × Gathering m (with_dependency ks (some k)) qs r
 
 -- what all given keys come to
 pub record Gathers (m : DependencyMap) (ks : List ℕ) (r : Gathered) : Type 0 where
   pub standing : r.number ≡ 0 → Standing r
-  pub stops_at : (r.number ≡ 0 → ⊥) → contributing (decode m) (onceEach [] ks) ≡ stops r.number
-  pub goes : r.number ≡ 0 → (ls : List (List (List ℕ))) × Gathering m (onceEach [] ks) ls r
+  pub stops_at : (r.number ≡ 0 → ⊥) → contributing (decode m) (once_each [] ks) ≡ stops r.number
+  pub goes : r.number ≡ 0 → (ls : List (List (List ℕ))) × Gathering m (once_each [] ks) ls r
 
 -- what was gathered, of some map and some keys
 pub record GatheredBy (r : Gathered) : Type 0 where
@@ -113,8 +113,8 @@ pub record GatheredBy (r : Gathered) : Type 0 where
   pub gathers : Gathers map keys r
 
 -- what is gathered is over a bound
-unfoldable pub overBound : Gathered → Bool
-overBound g = ltb 16 g.different || g.many || g.lists.found.over
+unfoldable pub over_bound : Gathered → Bool
+over_bound g = ltb 16 g.different || g.many || g.lists.found.over
 
 -- given key k as one number
 unfoldable pub key_at : List ℕ → ℕ → ℕ

@@ -4,12 +4,12 @@ ghost use Rattle.dependencies.specs.Map.{entry_at};
 ghost use Rattle.dependencies.specs.Layout.{decode};
 ghost use Rattle.dependencies.specs.Inner.{Held};
 ghost use Rattle.dependencies.specs.declared.DependencyMap.{DependencyMap as MapOf};
-ghost use Rattle.enumeration.specs.Walk.{overStart, prefixOrderings};
+ghost use Rattle.enumeration.specs.Walk.{over_start, prefix_orderings};
 ghost use Rattle.enumeration.specs.Inner.{Room, Rows};
-ghost use Rattle.products.specs.Generate.{onceEach, contributing, generated};
+ghost use Rattle.products.specs.Generate.{once_each, contributing, generated};
 ghost use Rattle.products.specs.Inner.{lists_of, Laid};
-ghost use Rattle.dependency_orderings.specs.Calls.{refusedWith, answered, walkAnswer, gatheredAnswer};
-ghost use Rattle.dependency_orderings.specs.Inner.{oneList, overBound, Gathers, GatheredBy};
+ghost use Rattle.dependency_orderings.specs.Calls.{refused_with, answered, walk_answer, gathered_answer};
+ghost use Rattle.dependency_orderings.specs.Inner.{one_list, over_bound, Gathers, GatheredBy};
 
 use crate::writing::{measure_all, write_all};
 use crate::{Enumerated, Gathered};
@@ -24,7 +24,7 @@ use products::{Lists, Shape};
 
 // A refusal: its number, and nothing written.
 pub fn refused(number: u32) -> Enumerated
-    ensures { result ≡ refusedWith number }
+    ensures { result ≡ refused_with number }
 {
     Enumerated {
         number: number,
@@ -64,7 +64,7 @@ fn answer(l: Lists, out: &mut [u16]) -> Enumerated
 
 // The orderings that were found as lists: one list, or none where nothing was found.
 fn one_list(found: Found) -> Lists
-    ensures { result ≡ oneList found }
+    ensures { result ≡ one_list found }
 {
     let mut ends = [0; 6];
     if found.count == 0 {
@@ -100,7 +100,7 @@ fn answer_found(found: Found, out: &mut [u16]) -> Enumerated
 // Answers with the prefix orderings of the key at a place.
 fn answer_place(m: DependencyMap, place: usize, out: &mut [u16]) -> Enumerated
     requires { Held m × (place < m.count) }
-    ensures { (result, out.new) ≡ walkAnswer (overStart (decode m) (entry_at (decode m) place).dependencies []) out.old }
+    ensures { (result, out.new) ≡ walk_answer (over_start (decode m) (entry_at (decode m) place).dependencies []) out.old }
 {
     let next = prefixes_at(m, place, nothing_found());
     if next.number != 0 {
@@ -112,7 +112,7 @@ fn answer_place(m: DependencyMap, place: usize, out: &mut [u16]) -> Enumerated
 // Answers with the prefix orderings of a key: 6 where it is not in the map.
 pub fn answer_prefixes(m: DependencyMap, key: u16, out: &mut [u16]) -> Enumerated
     requires { Held m }
-    ensures { (result, out.new) ≡ walkAnswer (prefixOrderings (decode m) key) out.old }
+    ensures { (result, out.new) ≡ walk_answer (prefix_orderings (decode m) key) out.old }
 {
     match find_key(m, key) {
         Place::At(i) => answer_place(m, i, out),
@@ -122,7 +122,7 @@ pub fn answer_prefixes(m: DependencyMap, key: u16, out: &mut [u16]) -> Enumerate
 
 // What was gathered is over a bound: more than 16 different keys, more than 6 that contribute, or orderings over theirs.
 fn over_bound(g: Gathered) -> bool
-    ensures { result ≡ overBound g }
+    ensures { result ≡ over_bound g }
 {
     if 16 < g.different {
         return true;
@@ -138,7 +138,7 @@ fn over_bound(g: Gathered) -> bool
 // Answers with the orderings of what was gathered.
 pub fn answer_gathered(g: Gathered, out: &mut [u16]) -> Enumerated
     requires { GatheredBy g }
-    ensures { (m : MapOf) (ks : List ℕ) → Gathers m ks g → (result, out.new) ≡ gatheredAnswer (contributing (decode m) (onceEach [] ks)) (length (onceEach [] ks)) out.old }
+    ensures { (m : MapOf) (ks : List ℕ) → Gathers m ks g → (result, out.new) ≡ gathered_answer (contributing (decode m) (once_each [] ks)) (length (once_each [] ks)) out.old }
 {
     if g.number != 0 {
         return refused(g.number);

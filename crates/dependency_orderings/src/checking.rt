@@ -1,6 +1,6 @@
 // The checks of what an enumeration is lent and given: 12, 11, 1.
 ghost use Rattle.std.specs.Prelude.{◌≡◌};
-ghost use Rattle.dependency_orderings.specs.Calls.{prefixNumber, generateNumber};
+ghost use Rattle.dependency_orderings.specs.Calls.{prefix_number, generate_number};
 
 use arena::cells::{node_count, wide};
 use dependencies::DependencyMap;
@@ -9,7 +9,7 @@ use sort_keys::keys::{exprs_below, options_known};
 
 // The check of a map and a key.
 pub fn prefix_number(cells: &[u32; 11265], m: DependencyMap, expr: u32, options: u32) -> u32
-    ensures { result ≡ prefixNumber cells.now m expr options }
+    ensures { result ≡ prefix_number cells.now m expr options }
 {
     if 3 < options {
         return 12;
@@ -26,7 +26,7 @@ pub fn prefix_number(cells: &[u32; 11265], m: DependencyMap, expr: u32, options:
 
 // The check of a map and keys.
 pub fn generate_number(cells: &[u32; 11265], m: DependencyMap, keys: &[u32]) -> u32
-    ensures { result ≡ generateNumber cells.now m keys.now }
+    ensures { result ≡ generate_number cells.now m keys.now }
 {
     if !options_known(keys) {
         return 12;

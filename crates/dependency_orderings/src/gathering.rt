@@ -1,11 +1,11 @@
 // The walks of the keys that are given: each different one once, in order of arrival.
 ghost use Rattle.std.specs.Prelude.{map, ◌≡◌, ℕ, ◌<◌, ◌/◌, length};
 ghost use Rattle.std.proofs.Math.Option.{some};
-ghost use Rattle.sort_keys.specs.Layout.{keys_of, packed as packedKey};
+ghost use Rattle.sort_keys.specs.Layout.{keys_of, packed as packed_key};
 ghost use Rattle.dependencies.specs.Map.{place_of};
 ghost use Rattle.dependencies.specs.Layout.{decode};
 ghost use Rattle.dependencies.specs.Inner.{Held};
-ghost use Rattle.dependency_orderings.specs.Inner.{noLists, withFound, withKey, counting, ungathered, Standing, Gathers, Steps, KeysFit, key_at};
+ghost use Rattle.dependency_orderings.specs.Inner.{no_lists, with_found, with_key, counting, ungathered, Standing, Gathers, Steps, KeysFit, key_at};
 
 use crate::Gathered;
 use classes::Place;
@@ -18,7 +18,7 @@ use products::{Lists, Shape};
 
 // No lists.
 fn no_lists() -> Lists
-    ensures { result ≡ noLists }
+    ensures { result ≡ no_lists }
 {
     Lists {
         shape: Shape {
@@ -55,7 +55,7 @@ fn count_key(n: usize) -> usize
 // What is gathered with the orderings after one more walk: a list more where some were found.
 fn add_found(g: Gathered, found: Found) -> Gathered
     requires { Standing g }
-    ensures { result ≡ withFound g found }
+    ensures { result ≡ with_found g found }
 {
     let lists = g.lists;
     let shape = lists.shape;
@@ -105,7 +105,7 @@ fn add_found(g: Gathered, found: Found) -> Gathered
 // What is gathered, and a key more that is walked.
 fn note_key(g: Gathered, place: usize) -> Gathered
     requires { place < 64 }
-    ensures { result ≡ withKey g place }
+    ensures { result ≡ with_key g place }
 {
     let mut more = g;
     more.walked[place] = true;
@@ -160,7 +160,7 @@ fn key_at(keys: &[u32], k: usize) -> u16
 // The walks of the given keys, until one stops.
 pub fn gather(m: DependencyMap, keys: &[u32]) -> Gathered
     requires { Held m × KeysFit keys.now }
-    ensures { Gathers m (map packedKey (keys_of keys.now)) result }
+    ensures { Gathers m (map packed_key (keys_of keys.now)) result }
 {
     let n = keys.len() / 2;
     let mut g = nothing_gathered();

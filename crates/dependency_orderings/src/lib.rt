@@ -10,7 +10,7 @@ pub mod gathering;
 pub mod writing;
 
 ghost use Rattle.std.specs.Prelude.{◌≡◌};
-ghost use Rattle.dependency_orderings.specs.Calls.{prefixAnswer, generateAnswer};
+ghost use Rattle.dependency_orderings.specs.Calls.{prefix_answer, generate_answer};
 
 use answering::{answer_gathered, answer_prefixes, refused};
 use checking::{generate_number, prefix_number};
@@ -47,7 +47,7 @@ pub fn construct_prefix_orderings(
     options: u32,
     out: &mut [u16],
 ) -> Enumerated
-    ensures { (result, out.new) ≡ prefixAnswer cells.now map expr options out.old }
+    ensures { (result, out.new) ≡ prefix_answer cells.now map expr options out.old }
 {
     let number = prefix_number(cells, map, expr, options);
     if number != 0 {
@@ -64,7 +64,7 @@ pub fn generate_dependency_orderings(
     keys: &[u32],
     out: &mut [u16],
 ) -> Enumerated
-    ensures { (result, out.new) ≡ generateAnswer cells.now map keys.now out.old }
+    ensures { (result, out.new) ≡ generate_answer cells.now map keys.now out.old }
 {
     let number = generate_number(cells, map, keys);
     if number != 0 {

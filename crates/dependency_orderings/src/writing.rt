@@ -2,11 +2,11 @@
 // before it.
 ghost use Rattle.std.specs.Prelude.{true, ◌++◌, ◌≡◌, ◌≤◌, ◌<◌, ◌+◌, ◌*◌, length, drop};
 ghost use Rattle.orderings.specs.Layout.{keys_of};
-ghost use Rattle.orderings.specs.Inner.{ShortOrdering, allShort};
+ghost use Rattle.orderings.specs.Inner.{ShortOrdering, all_short};
 ghost use Rattle.products.specs.Orders.{product};
-ghost use Rattle.products.specs.Generate.{inAllOrders, allOrders};
+ghost use Rattle.products.specs.Generate.{in_all_orders, all_orders};
 ghost use Rattle.products.specs.Inner.{choice_of, Chosen, lists_of};
-ghost use Rattle.dependency_orderings.specs.Output.{written, writtenAll};
+ghost use Rattle.dependency_orderings.specs.Output.{written, written_all};
 ghost use Rattle.dependency_orderings.specs.Inner.{measured, Ready};
 
 use orderings::Ordering;
@@ -41,7 +41,7 @@ fn write_ordering(out: &mut [u16], o: Ordering)
 // How many places the orderings of a choice take, in all orders, or that one has more than 16 keys.
 fn measure_choice(c: Choice) -> Counted
     requires { Chosen c }
-    ensures { (result ≡ measured (inAllOrders (choice_of c))) × (result.count ≤ 23760) }
+    ensures { (result ≡ measured (in_all_orders (choice_of c))) × (result.count ≤ 23760) }
 {
     let orders = factorial(c.size);
     let mut total = 0;
@@ -67,7 +67,7 @@ fn measure_choice(c: Choice) -> Counted
 // How many places the orderings of n choices take, or that one has more than 16 keys.
 pub fn measure_all(l: Lists, n: usize) -> Counted
     requires { Ready l n }
-    ensures { result ≡ measured (allOrders (product (lists_of l))) }
+    ensures { result ≡ measured (all_orders (product (lists_of l))) }
 {
     let mut total = 0;
     let mut k = 0;
@@ -87,8 +87,8 @@ pub fn measure_all(l: Lists, n: usize) -> Counted
 
 // Writes a choice in all orders at the beginning of what is lent, and answers how many places were written.
 fn write_choice(out: &mut [u16], c: Choice) -> usize
-    requires { Chosen c × ((allShort (inAllOrders (choice_of c)) ≡ true) × (length (writtenAll (inAllOrders (choice_of c))) ≤ length out.old)) }
-    ensures { (result ≡ length (writtenAll (inAllOrders (choice_of c)))) × (out.new ≡ writtenAll (inAllOrders (choice_of c)) ++ drop (length (writtenAll (inAllOrders (choice_of c)))) out.old) }
+    requires { Chosen c × ((all_short (in_all_orders (choice_of c)) ≡ true) × (length (written_all (in_all_orders (choice_of c))) ≤ length out.old)) }
+    ensures { (result ≡ length (written_all (in_all_orders (choice_of c)))) × (out.new ≡ written_all (in_all_orders (choice_of c)) ++ drop (length (written_all (in_all_orders (choice_of c)))) out.old) }
 {
     let n = factorial(c.size);
     let mut at = 0;
@@ -105,8 +105,8 @@ fn write_choice(out: &mut [u16], c: Choice) -> usize
 
 // Writes n choices, each in all orders, from the output's first place on, and answers how many places were written.
 pub fn write_all(out: &mut [u16], l: Lists, n: usize) -> usize
-    requires { Ready l n × ((allShort (allOrders (product (lists_of l))) ≡ true) × (length (writtenAll (allOrders (product (lists_of l)))) ≤ length out.old)) }
-    ensures { (result ≡ length (writtenAll (allOrders (product (lists_of l))))) × (out.new ≡ writtenAll (allOrders (product (lists_of l))) ++ drop (length (writtenAll (allOrders (product (lists_of l))))) out.old) }
+    requires { Ready l n × ((all_short (all_orders (product (lists_of l))) ≡ true) × (length (written_all (all_orders (product (lists_of l)))) ≤ length out.old)) }
+    ensures { (result ≡ length (written_all (all_orders (product (lists_of l))))) × (out.new ≡ written_all (all_orders (product (lists_of l))) ++ drop (length (written_all (all_orders (product (lists_of l))))) out.old) }
 {
     let mut at = 0;
     let mut k = 0;

@@ -10,41 +10,41 @@ use lib.Dec.{leb, ltb}
 use lib.ListN.{length, get_or, set, length-append, length-set, length-replicate, get_or-append}
 use lib.Seq.{get_or_at, get_or-set_same, get_or-set_other}
 use Rattle.laws.specs.Tests.{each}
-use Rattle.laws.proofs.Booleans.{true-not-false, and_left, and_right, and_both, and-fails-left, and-fails-right}
-use Rattle.orderings.specs.Lists.{orderingAt}
+use Rattle.laws.proofs.Booleans.{true_not_false, and_left, and_right, and_both, and_fails_left, and_fails_right}
+use Rattle.orderings.specs.Lists.{ordering_at}
 use Rattle.orderings.specs.Layout.{row}
-use Rattle.orderings.specs.Inner.{extendedOf, allShort}
+use Rattle.orderings.specs.Inner.{extended_of, all_short}
 use Rattle.orderings.specs.declared.Ordering.{Ordering}
 use Rattle.orderings.specs.declared.Extended.{Extended}
 use Rattle.orderings.proofs.Appending.{AllShort, short-test, test_short, long-test, short-more}
 use Rattle.orderings.proofs.Extending.{fitting as row-fitting, unfitting}
 use Rattle.enumeration.specs.Bounds.{fitting}
-use Rattle.enumeration.specs.Inner.{Room, Rows, Emits, kept, noneFound}
+use Rattle.enumeration.specs.Inner.{Room, Rows, Emits, kept, none_found}
 use Rattle.enumeration.specs.declared.Found.{Found}
 use Rattle.enumeration.specs.declared.Turned.{Turned}
 
 -- no orderings have room
-pub room-none : Room noneFound
+pub room-none : Room none_found
 room-none = record { few = omega arith; long = length-replicate 1024 (row []) }
 
 -- no orderings
-pub rows_none : Rows noneFound []
+pub rows_none : Rows none_found []
 unfolding fitting each
 rows_none = record { over = refl; count = λ e. refl; rows = λ e i l. absurd (omega arith) }
 
 -- orderings within the bounds are at most 1,024
 pub fitting-few : (os : List (List ℕ)) → fitting os ≡ true → length os ≤ 1024
-unfolding fitting allShort
-fitting-few os e = leb-true (length os) 1024 (and_left (leb (length os) 1024) (allShort os) e)
+unfolding fitting all_short
+fitting-few os e = leb-true (length os) 1024 (and_left (leb (length os) 1024) (all_short os) e)
 
 -- and have at most 16 keys each
 pub fitting-short : (os : List (List ℕ)) → fitting os ≡ true → AllShort os
-unfolding fitting allShort
-fitting-short os e = test_short os (and_right (leb (length os) 1024) (allShort os) e)
+unfolding fitting all_short
+fitting-short os e = test_short os (and_right (leb (length os) 1024) (all_short os) e)
 
 -- such orderings are within the bounds
 pub few-fitting : (os : List (List ℕ)) → length os ≤ 1024 → AllShort os → fitting os ≡ true
-unfolding fitting allShort
+unfolding fitting all_short
 few-fitting os l h = and_both (le-leb (length os) 1024 l) (short-test os h)
 
 -- orderings that pass the bounds still do with one more
@@ -60,20 +60,20 @@ over-more os o f = go (fitting (os ++ (o ∷ []))) refl
         omega (arith, h i (omega (arith, length-append os (o ∷ []))))
 
     go : (b : Bool) → fitting more ≡ b → fitting more ≡ false
-    go true e = absurd (true-not-false (few-fitting os (omega (arith, fitting-few more e, length-append os (o ∷ []))) (before (fitting-short more e))) f)
+    go true e = absurd (true_not_false (few-fitting os (omega (arith, fitting-few more e, length-append os (o ∷ []))) (before (fitting-short more e))) f)
     go false e = e
 
 -- 1,024 orderings and one more pass the bounds
 many-over : (os : List (List ℕ)) (o : List ℕ) → 1024 ≤ length os → fitting (os ++ (o ∷ [])) ≡ false
-unfolding fitting allShort
-many-over os o l = and-fails-left (leb (length (os ++ (o ∷ []))) 1024) (allShort (os ++ (o ∷ []))) (lt-leb (length (os ++ (o ∷ []))) 1024 (omega (arith, length-append os (o ∷ []))))
+unfolding fitting all_short
+many-over os o l = and_fails_left (leb (length (os ++ (o ∷ []))) 1024) (all_short (os ++ (o ∷ []))) (lt-leb (length (os ++ (o ∷ []))) 1024 (omega (arith, length-append os (o ∷ []))))
 
 -- so do orderings with one more of over 16 keys
 long-over : (os : List (List ℕ)) (o : List ℕ) → 16 < length o → fitting (os ++ (o ∷ [])) ≡ false
-unfolding fitting allShort
+unfolding fitting all_short
 long-over os o l =
     let here = ap (λ (q : List ℕ). length q) (get_or_at os o [] [] (length os) refl) in
-    and-fails-right (leb (length (os ++ (o ∷ []))) 1024) (allShort (os ++ (o ∷ [])))
+    and_fails_right (leb (length (os ++ (o ∷ []))) 1024) (all_short (os ++ (o ∷ [])))
     (long-test (os ++ (o ∷ [])) (length os) (omega (arith, length-append os (o ∷ []))) (omega (arith, here)))
 
 -- what is kept: nothing more without an ordering
@@ -95,7 +95,7 @@ kept-many f o l = rw (le-ltb f.count 1024 l)
 -- an ordering of over 16 keys
 pub kept-long : (f : Found) (o : Extended) → o.fits ≡ false → kept f true o ≡ record { over = true; count = f.count; rows = f.rows }
 unfolding kept
-kept-long f o e = rw (and-fails-right (ltb f.count 1024) o.fits e)
+kept-long f o e = rw (and_fails_right (ltb f.count 1024) o.fits e)
 
 -- the three ways in which an ordering is kept or not
 data Fate (f : Found) (o : Extended) : Type 0 where
@@ -126,8 +126,8 @@ room-kept f true o r = go (fate f o)
 rows-over : (f : Found) (os : List (List ℕ)) → f.over ≡ true → fitting os ≡ false → Rows f os
 rows-over f os e p = record {
   over = e ∙ sym (ap not p);
-  count = λ q. absurd (true-not-false q p);
-  rows = λ q i l. absurd (true-not-false q p);
+  count = λ q. absurd (true_not_false q p);
+  rows = λ q i l. absurd (true_not_false q p);
 }
 
 -- one ordering more, as its row
@@ -142,7 +142,7 @@ module _ (f : Found) (os : List (List ℕ)) (o : List ℕ) (room : Room f) (rows
       fits : fitting (os ++ (o ∷ [])) ≡ true
       fits = few-fitting (os ++ (o ∷ [])) (omega (arith, rows.count p, length-append os (o ∷ []))) (short-more os o (fitting-short os p) b)
 
-      at : (i : ℕ) → i < length (os ++ (o ∷ [])) → Dec (i ≡ f.count) → get_or (set f.rows f.count (row o)) i (row []) ≡ row (orderingAt (os ++ (o ∷ [])) i)
+      at : (i : ℕ) → i < length (os ++ (o ∷ [])) → Dec (i ≡ f.count) → get_or (set f.rows f.count (row o)) i (row []) ≡ row (ordering_at (os ++ (o ∷ [])) i)
       at i k (yes e) =
           ap (λ (j : ℕ). get_or (set f.rows f.count (row o)) j (row [])) e
           ∙ get_or-set_same f.rows f.count (row o) (row []) (omega (arith, room.long))
@@ -152,7 +152,7 @@ module _ (f : Found) (os : List (List ℕ)) (o : List ℕ) (room : Room f) (rows
           get_or-set_other f.rows f.count i (row o) (row []) e ∙ rows.rows p i b ∙ sym (ap row (get_or-append os (o ∷ []) [] i b))
 
 -- one ordering more
-rows-one : (f : Found) (e : Extended) (os : List (List ℕ)) (o : List ℕ) → Room f → Rows f os → e ≡ extendedOf o → Rows (kept f true e) (os ++ (o ∷ []))
+rows-one : (f : Found) (e : Extended) (os : List (List ℕ)) (o : List ℕ) → Room f → Rows f os → e ≡ extended_of o → Rows (kept f true e) (os ++ (o ∷ []))
 rows-one f e os o room rows q = go (fate f e) (fitting os) refl
   where
     go : Fate f e → (b : Bool) → fitting os ≡ b → Rows (kept f true e) (os ++ (o ∷ []))

@@ -14,15 +14,15 @@ use lib.Seq.{get_or-set_same, get_or-set_other}
 use Rattle.laws.specs.Lists.{table}
 use Rattle.laws.specs.Tests.{if◌then◌else◌}
 use Rattle.laws.proofs.Booleans.{same_test}
-use Rattle.laws.proofs.Table.{length-table, getD-table, table_is}
+use Rattle.laws.proofs.Table.{length-table, get_or-table, table_is}
 use Rattle.orderings.proofs.Codec.{get_d_any}
 use Rattle.dependencies.specs.Layout.{place_in}
 use Rattle.dependencies.specs.Inner.{Held}
 use Rattle.dependencies.specs.declared.DependencyNode.{DependencyNode}
 use Rattle.dependencies.specs.declared.DependencyMap.{DependencyMap}
-use Rattle.dependencies.proofs.MapChecks.{noPlace, read_is}
-use Rattle.enumeration.specs.Walk.{isSeen}
-use Rattle.enumeration.specs.Inner.{unmarked, seen_at, told, fresh, hits, markedNode, marked, openOf, open_in, left, Opened, Walking, Told}
+use Rattle.dependencies.proofs.MapChecks.{no_place, read_is}
+use Rattle.enumeration.specs.Walk.{is_seen}
+use Rattle.enumeration.specs.Inner.{unmarked, seen_at, told, fresh, hits, marked_node, marked, open_of, open_in, left, Opened, Walking, Told}
 use Rattle.enumeration.specs.declared.Frame.{Frame}
 use Rattle.enumeration.specs.declared.Seen.{Seen}
 use Rattle.enumeration.specs.declared.DependencyEnumerator.{DependencyEnumerator}
@@ -61,17 +61,17 @@ pub seen-sized : (e : DependencyEnumerator) (vs : List Val) → Is the_row e vs 
 seen-sized e vs p = sym (length-map e.seen the_field.into) ∙ p.1.1.1.1.0.1.0.1
 
 -- what it reads past the end
-abbrev pub noMarks : Seen
-noMarks = record { told = [] }
+abbrev pub no_marks : Seen
+no_marks = record { told = [] }
 
 -- what it reads at a place is what stands there
-pub seen_read : (e : DependencyEnumerator) → length e.seen ≡ 64 → (i : ℕ) → i < 64 → get_or e.seen i noMarks ≡ seen_at e i
-seen_read e z i l = get_d_any e.seen i noMarks unmarked (omega arith)
+pub seen_read : (e : DependencyEnumerator) → length e.seen ≡ 64 → (i : ℕ) → i < 64 → get_or e.seen i no_marks ≡ seen_at e i
+seen_read e z i l = get_d_any e.seen i no_marks unmarked (omega arith)
 
 -- so the marks after a pair is marked are those of the place
 pub marked-read : (m : DependencyMap) (e : DependencyEnumerator) (t d i : ℕ) (r : Seen) → length m.list ≡ 64 → length e.seen ≡ 64 → i < 64
-    → r ≡ markedNode (get_or m.list i noPlace) (get_or e.seen i noMarks) t d → r ≡ markedNode (place_in m i) (seen_at e i) t d
-marked-read m e t d i r y z l q = q ∙ ap₂ (λ a b. markedNode a b t d) (read_is m y i l) (seen_read e z i l)
+    → r ≡ marked_node (get_or m.list i no_place) (get_or e.seen i no_marks) t d → r ≡ marked_node (place_in m i) (seen_at e i) t d
+marked-read m e t d i r y z l q = q ∙ ap₂ (λ a b. marked_node a b t d) (read_is m y i l) (seen_read e z i l)
 
 -- A search for a place without a mark
 
@@ -109,21 +109,21 @@ step-few true = omega arith
 step-few false = omega arith
 
 -- at most n of n places
-open-few : (ts : List Bool) (n : ℕ) → openOf ts n ≤ n
-unfolding openOf
+open-few : (ts : List Bool) (n : ℕ) → open_of ts n ≤ n
+unfolding open_of
 open-few ts zero = omega arith
 open-few ts (suc n) = omega (arith, open-few ts n, step-few (get_or ts n false))
 
 -- at most 16 of each key
-in-few : (ss : List Seen) (n : ℕ) → open_in ss n ≤ 16 * n
+in_few : (ss : List Seen) (n : ℕ) → open_in ss n ≤ 16 * n
 unfolding open_in
-in-few ss zero = omega arith
-in-few ss (suc n) = omega (arith, in-few ss n, open-few (get_or ss n unmarked).told 16)
+in_few ss zero = omega arith
+in_few ss (suc n) = omega (arith, in_few ss n, open-few (get_or ss n unmarked).told 16)
 
 -- at most 1,024 places are left
 pub left-few : (e : DependencyEnumerator) → left e ≤ 1024
 unfolding left
-left-few e = omega (arith, in-few e.seen 64)
+left-few e = omega (arith, in_few e.seen 64)
 
 -- a mark that stays leaves no more
 step_less : (a b : Bool) → (a ≡ true → b ≡ true) → (if b then 0 else 1) ≤ (if a then 0 else 1)
@@ -131,20 +131,20 @@ step_less true b f = rw (f refl) (omega arith)
 step_less false b f = step-few b
 
 -- marks that stay leave no more places
-open-less : (ts us : List Bool) (n : ℕ) → ((k : ℕ) → k < n → get_or ts k false ≡ true → get_or us k false ≡ true) → openOf us n ≤ openOf ts n
-unfolding openOf
+open-less : (ts us : List Bool) (n : ℕ) → ((k : ℕ) → k < n → get_or ts k false ≡ true → get_or us k false ≡ true) → open_of us n ≤ open_of ts n
+unfolding open_of
 open-less ts us zero h = omega arith
 open-less ts us (suc n) h =
     omega (arith, open-less ts us n (λ k l. h k (omega arith)), step_less (get_or ts n false) (get_or us n false) (h n (omega arith)))
 
 -- and one that is new leaves fewer
 open-fewer : (ts us : List Bool) (n : ℕ) → ((k : ℕ) → k < n → get_or ts k false ≡ true → get_or us k false ≡ true) → (k : ℕ) → k < n → get_or ts k false ≡ false → get_or us k false ≡ true
-    → openOf us n < openOf ts n
-unfolding openOf
+    → open_of us n < open_of ts n
+unfolding open_of
 open-fewer ts us zero h k l p q = absurd (omega arith)
 open-fewer ts us (suc n) h k l p q = at (ℕ_discrete k n) (λ l'. open-fewer ts us n (λ j b. h j (omega arith)) k l' p q)
   where
-    at : Dec (k ≡ n) → (k < n → openOf us n < openOf ts n) → openOf us n + (if get_or us n false then 0 else 1) < openOf ts n + (if get_or ts n false then 0 else 1)
+    at : Dec (k ≡ n) → (k < n → open_of us n < open_of ts n) → open_of us n + (if get_or us n false then 0 else 1) < open_of ts n + (if get_or ts n false then 0 else 1)
     at (yes e) r =
         let a : get_or ts n false ≡ false = rw e at p in
         let b : get_or us n false ≡ true = rw e at q in
@@ -152,28 +152,28 @@ open-fewer ts us (suc n) h k l p q = at (ℕ_discrete k n) (λ l'. open-fewer ts
     at (no e) r = omega (arith, r (omega arith), step_less (get_or ts n false) (get_or us n false) (h n (omega arith)))
 
 -- the same for all keys: marks that stay
-in-less : (ss rs : List Seen) (n : ℕ) → ((i k : ℕ) → i < n → k < 16 → get_or (get_or ss i unmarked).told k false ≡ true → get_or (get_or rs i unmarked).told k false ≡ true) → open_in rs n ≤ open_in ss n
+in_less : (ss rs : List Seen) (n : ℕ) → ((i k : ℕ) → i < n → k < 16 → get_or (get_or ss i unmarked).told k false ≡ true → get_or (get_or rs i unmarked).told k false ≡ true) → open_in rs n ≤ open_in ss n
 unfolding open_in
-in-less ss rs zero h = omega arith
-in-less ss rs (suc n) h =
-    omega (arith, in-less ss rs n (λ i k l. h i k (omega arith)), open-less (get_or ss n unmarked).told (get_or rs n unmarked).told 16 (λ k. h n k (omega arith)))
+in_less ss rs zero h = omega arith
+in_less ss rs (suc n) h =
+    omega (arith, in_less ss rs n (λ i k l. h i k (omega arith)), open-less (get_or ss n unmarked).told (get_or rs n unmarked).told 16 (λ k. h n k (omega arith)))
 
 -- and one that is new
-in-fewer : (ss rs : List Seen) (n : ℕ) → ((i k : ℕ) → i < n → k < 16 → get_or (get_or ss i unmarked).told k false ≡ true → get_or (get_or rs i unmarked).told k false ≡ true)
+in_fewer : (ss rs : List Seen) (n : ℕ) → ((i k : ℕ) → i < n → k < 16 → get_or (get_or ss i unmarked).told k false ≡ true → get_or (get_or rs i unmarked).told k false ≡ true)
     → (i k : ℕ) → i < n → k < 16 → get_or (get_or ss i unmarked).told k false ≡ false → get_or (get_or rs i unmarked).told k false ≡ true → open_in rs n < open_in ss n
 unfolding open_in
-in-fewer ss rs zero h i k l b p q = absurd (omega arith)
-in-fewer ss rs (suc n) h i k l b p q = at (ℕ_discrete i n) (λ l'. in-fewer ss rs n (λ j x c. h j x (omega arith)) i k l' b p q)
+in_fewer ss rs zero h i k l b p q = absurd (omega arith)
+in_fewer ss rs (suc n) h i k l b p q = at (ℕ_discrete i n) (λ l'. in_fewer ss rs n (λ j x c. h j x (omega arith)) i k l' b p q)
   where
-    here : openOf (get_or rs n unmarked).told 16 ≤ openOf (get_or ss n unmarked).told 16
+    here : open_of (get_or rs n unmarked).told 16 ≤ open_of (get_or ss n unmarked).told 16
     here = open-less (get_or ss n unmarked).told (get_or rs n unmarked).told 16 (λ x. h n x (omega arith))
 
     at : Dec (i ≡ n) → (i < n → open_in rs n < open_in ss n)
-        → open_in rs n + openOf (get_or rs n unmarked).told 16 < open_in ss n + openOf (get_or ss n unmarked).told 16
+        → open_in rs n + open_of (get_or rs n unmarked).told 16 < open_in ss n + open_of (get_or ss n unmarked).told 16
     at (yes e) r =
         let p' : get_or (get_or ss n unmarked).told k false ≡ false = rw e at p in
         let q' : get_or (get_or rs n unmarked).told k false ≡ true = rw e at q in
-        omega (arith, in-less ss rs n (λ j x c. h j x (omega arith)), open-fewer (get_or ss n unmarked).told (get_or rs n unmarked).told 16 (λ x. h n x (omega arith)) k b p' q')
+        omega (arith, in_less ss rs n (λ j x c. h j x (omega arith)), open-fewer (get_or ss n unmarked).told (get_or rs n unmarked).told 16 (λ x. h n x (omega arith)) k b p' q')
     at (no e) r = omega (arith, r (omega arith), here)
 
 -- A fresh account
@@ -193,7 +193,7 @@ told_none i k = ap (λ (s : Seen). get_or s.told k false) (place (dec_lt i 64)) 
 
 -- a fresh account has no pairs
 pub told_fresh : (m : DependencyMap) → Told m fresh []
-unfolding isSeen
+unfolding is_seen
 told_fresh m = record { is = λ i k a b c. told_none i k }
 
 -- a fresh account is one over each map
@@ -210,13 +210,13 @@ walking-fresh m h =
 -- A pair more
 
 -- a test of equality is the same from both sides
-eqb-turn : (a b : ℕ) → eqb a b ≡ eqb b a
-eqb-turn a b = same_test (eqb a b) (eqb b a) (λ e. eq-eqb b a (sym (eqb-true a b e))) (λ e. eq-eqb a b (sym (eqb-true b a e)))
+eqb_turn : (a b : ℕ) → eqb a b ≡ eqb b a
+eqb_turn a b = same_test (eqb a b) (eqb b a) (λ e. eq-eqb b a (sym (eqb-true a b e))) (λ e. eq-eqb a b (sym (eqb-true b a e)))
 
 -- the pairs with one more
-seen_more : (a b t d : ℕ) (s : List (ℕ × ℕ)) → isSeen a b (s ++ ((t, d) ∷ [])) ≡ (isSeen a b s || (eqb a t && eqb b d))
-unfolding isSeen
-seen_more a b t d [] = go (eqb t a) (eqb d b) (eqb-turn t a) (eqb-turn d b)
+seen_more : (a b t d : ℕ) (s : List (ℕ × ℕ)) → is_seen a b (s ++ ((t, d) ∷ [])) ≡ (is_seen a b s || (eqb a t && eqb b d))
+unfolding is_seen
+seen_more a b t d [] = go (eqb t a) (eqb d b) (eqb_turn t a) (eqb_turn d b)
   where
     go : (x y : Bool) → x ≡ eqb a t → y ≡ eqb b d → ((x && y) || false) ≡ (eqb a t && eqb b d)
     go true true p q = rw (← p, ← q)
@@ -224,8 +224,8 @@ seen_more a b t d [] = go (eqb t a) (eqb d b) (eqb-turn t a) (eqb-turn d b)
     go false y p q = rw (← p)
 seen_more a b t d (p ∷ s) = go (eqb p.0 a && eqb p.1 b) (seen_more a b t d s)
   where
-    go : (x : Bool) → isSeen a b (s ++ ((t, d) ∷ [])) ≡ (isSeen a b s || (eqb a t && eqb b d))
-        → (x || isSeen a b (s ++ ((t, d) ∷ []))) ≡ ((x || isSeen a b s) || (eqb a t && eqb b d))
+    go : (x : Bool) → is_seen a b (s ++ ((t, d) ∷ [])) ≡ (is_seen a b s || (eqb a t && eqb b d))
+        → (x || is_seen a b (s ++ ((t, d) ∷ []))) ≡ ((x || is_seen a b s) || (eqb a t && eqb b d))
     go true e = refl
     go false e = e
 
@@ -246,10 +246,10 @@ or_left a b e = rw e
 module _ (m : DependencyMap) (e : DependencyEnumerator) (t d : ℕ) where
   -- what is marked after a pair is
   told_is : (i k : ℕ) → i < 64 → k < 16 → told (marked m e t d) i k ≡ (told e i k || hits (place_in m i) k t d)
-  unfolding told marked markedNode
+  unfolding told marked marked_node
   told_is i k a b =
-      ap (λ (s : Seen). get_or s.told k false) (getD-table (λ j. markedNode (place_in m j) (seen_at e j) t d) 64 i unmarked a)
-      ∙ getD-table (λ j. get_or (seen_at e i).told j false || hits (place_in m i) j t d) 16 k false b
+      ap (λ (s : Seen). get_or s.told k false) (get_or-table (λ j. marked_node (place_in m j) (seen_at e j) t d) 64 i unmarked a)
+      ∙ get_or-table (λ j. get_or (seen_at e i).told j false || hits (place_in m i) j t d) 16 k false b
 
   -- after a pair is marked, the account has it
   pub told-marked : (s : List (ℕ × ℕ)) → Held m → Told m e s → Told m (marked m e t d) (s ++ ((t, d) ∷ []))
@@ -266,7 +266,7 @@ module _ (m : DependencyMap) (e : DependencyEnumerator) (t d : ℕ) where
   pub left-marked : (i k : ℕ) → i < 64 → k < 16 → told e i k ≡ false → hits (place_in m i) k t d ≡ true → left (marked m e t d) < left e
   unfolding left told
   left-marked i k in_map in_entry not_yet here =
-      in-fewer e.seen (marked m e t d).seen 64
+      in_fewer e.seen (marked m e t d).seen 64
       (λ j x a b p. told_is j x a b ∙ or_left (told e j x) (hits (place_in m j) x t d) p)
       i k in_map in_entry not_yet
       (told_is i k in_map in_entry ∙ or_right (told e i k) (hits (place_in m i) k t d) here)
@@ -279,6 +279,6 @@ module _ (m : DependencyMap) (e : DependencyEnumerator) (t d : ℕ) where
         map = w.map;
         room = omega (arith, w.room, left-marked i k in_map in_entry not_yet here);
         long = w.long;
-        wide = length-table (λ j. markedNode (place_in m j) (seen_at e j) t d) 64;
+        wide = length-table (λ j. marked_node (place_in m j) (seen_at e j) t d) 64;
         framed = w.framed;
       }

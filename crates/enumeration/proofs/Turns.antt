@@ -9,32 +9,32 @@ use native.Mathlib.Omega.{arith}
 use borrow.Author.Tests.{eq-eqb}
 use lib.ListN.{length, get_or, drop, set, replicate, length-append, length-replicate, length-set, length-map, drop_of_length-le}
 use lib.Seq.{get_or-set_same, get_or-set_other}
-use Rattle.laws.proofs.Booleans.{true-not-false, and_both}
-use Rattle.laws.proofs.Table.{getD-table}
-use Rattle.orderings.specs.Ordering.{hasExpr, pushed, extended}
+use Rattle.laws.proofs.Booleans.{true_not_false, and_both}
+use Rattle.laws.proofs.Table.{get_or-table}
+use Rattle.orderings.specs.Ordering.{has_expr, pushed, extended}
 use Rattle.orderings.specs.Layout.{row, keys_of}
-use Rattle.orderings.specs.Inner.{ShortOrdering, extendedOf}
+use Rattle.orderings.specs.Inner.{ShortOrdering, extended_of}
 use Rattle.orderings.specs.declared.Ordering.{Ordering}
 use Rattle.orderings.specs.declared.Extended.{Extended}
 use Rattle.orderings.proofs.Codec.{keys-row, get_d_any}
 use Rattle.orderings.proofs.Extending.{extended-grows, short-size, row-short, answer, fits-here, fits_not, fitting, unfitting}
 use Rattle.dependencies.specs.Map.{Dependent, entry_at, place_of}
-use Rattle.dependencies.specs.Layout.{row as rowOf, entry_of, unused, encode, decode, place_in}
+use Rattle.dependencies.specs.Layout.{row as row_of, entry_of, unused, encode, decode, place_in}
 use Rattle.dependencies.specs.Inner.{Held}
 use Rattle.dependencies.specs.declared.DependencyNode.{DependencyNode}
 use Rattle.dependencies.specs.declared.DependencyMap.{DependencyMap}
-use Rattle.dependencies.proofs.MapChecks.{noPlace, read_is}
+use Rattle.dependencies.proofs.MapChecks.{no_place, read_is}
 use Rattle.dependencies.proofs.MapCodec.{length-decode, place-decode, size_is}
-use Rattle.enumeration.specs.Walk.{Walk, found, stopped, isSeen, overDependencies, atTarget, at_entry, at_place}
-use Rattle.enumeration.specs.Inner.{seen_at, told, frame_at, unmarked, hits, marked, deeper, left, Opened, Framed, Walking, Told, frame_of, framesOf, upAll, before, resume, upward, way_of, walkFrom, Emits, Turns, Sound, Visited, Entered, Went}
+use Rattle.enumeration.specs.Walk.{Walk, found, stopped, is_seen, over_dependencies, at_target, at_entry, at_place}
+use Rattle.enumeration.specs.Inner.{seen_at, told, frame_at, unmarked, hits, marked, deeper, left, Opened, Framed, Walking, Told, frame_of, frames_of, up_all, before, resume, upward, way_of, walk_from, Emits, Turns, Sound, Visited, Entered, Went}
 use Rattle.enumeration.specs.declared.Frame.{Frame}
 use Rattle.enumeration.specs.declared.Seen.{Seen}
 use Rattle.enumeration.specs.declared.DependencyEnumerator.{DependencyEnumerator}
 use Rattle.enumeration.specs.declared.Turned.{Turned}
-use Rattle.enumeration.proofs.WalkLaws.{walk_from}
-use Rattle.enumeration.proofs.WayLaws.{before-none, resume-leaves, resume-skips, resume-expands, upward-stopped, upward-one, upward-down}
+use Rattle.enumeration.proofs.WalkLaws.{walk_from_lem}
+use Rattle.enumeration.proofs.WayLaws.{before-none, resume-leaves, resume-skips, resume_expands, upward-stopped, upward-one, upward-down}
 use Rattle.enumeration.proofs.Marks.{told-marked, left-marked, walking-marked}
-use Rattle.enumeration.proofs.Frames.{frames-kept, frames-deeper}
+use Rattle.enumeration.proofs.Frames.{frames_kept, frames_deeper}
 
 -- What the code reads
 
@@ -43,11 +43,11 @@ pub places : (m : DependencyMap) → Held m → length m.list ≡ 64
 unfolding encode
 places m h = subst (λ (x : DependencyMap). length x.list ≡ 64) h.coded all
   where
-    all : length (map rowOf (decode m) ++ replicate (64 - length (decode m)) unused) ≡ 64
-    all = omega (arith, length-append (map rowOf (decode m)) (replicate (64 - length (decode m)) unused), length-map (decode m) rowOf, length-replicate {A = DependencyNode} (64 - length (decode m)) unused, length-decode m, h.few)
+    all : length (map row_of (decode m) ++ replicate (64 - length (decode m)) unused) ≡ 64
+    all = omega (arith, length-append (map row_of (decode m)) (replicate (64 - length (decode m)) unused), length-map (decode m) row_of, length-replicate {A = DependencyNode} (64 - length (decode m)) unused, length-decode m, h.few)
 
 -- an entry that the code reads is the one at its place
-pub node-is : (m : DependencyMap) → Held m → (i : ℕ) → i < m.count → get_or m.list i noPlace ≡ place_in m i
+pub node-is : (m : DependencyMap) → Held m → (i : ℕ) → i < m.count → get_or m.list i no_place ≡ place_in m i
 node-is m h i l = read_is m (places m h) i (omega (arith, h.few))
 
 -- a frame of the way down stands at a key of the map
@@ -55,83 +55,83 @@ pub frame_below : (m : DependencyMap) (e : DependencyEnumerator) → Walking m e
 frame_below m e w i l = omega (arith, (w.framed i l).there, w.map.few)
 
 -- the way down has at most 1,025 keys
-pub depth-few : (m : DependencyMap) (e : DependencyEnumerator) → Walking m e → e.depth ≤ 1025
-depth-few m e w = omega (arith, w.room)
+pub depth_few : (m : DependencyMap) (e : DependencyEnumerator) → Walking m e → e.depth ≤ 1025
+depth_few m e w = omega (arith, w.room)
 
 -- The way up
 
 -- the way down with its lowest key taken off
-frames-last : (m : DependencyMap) (e : DependencyEnumerator) (i : ℕ) → 0 < i → framesOf m e i ≡ frame_of m (frame_at e (i - 1)) ∷ framesOf m e (i - 1)
-unfolding framesOf
-frames-last m e i l = let s : i ≡ suc (i - 1) = omega arith in ap (framesOf m e) s
+frames_last : (m : DependencyMap) (e : DependencyEnumerator) (i : ℕ) → 0 < i → frames_of m e i ≡ frame_of m (frame_at e (i - 1)) ∷ frames_of m e (i - 1)
+unfolding frames_of
+frames_last m e i l = let s : i ≡ suc (i - 1) = omega arith in ap (frames_of m e) s
 
 -- an ordering with the targets on the way up is that ordering extended by them
-up-extends : (fs : List (ℕ × List ℕ)) (o : List ℕ) → upAll fs o ≡ extended o (map (λ (f : ℕ × List ℕ). f.0) fs)
-unfolding upAll extended
+up-extends : (fs : List (ℕ × List ℕ)) (o : List ℕ) → up_all fs o ≡ extended o (map (λ (f : ℕ × List ℕ). f.0) fs)
+unfolding up_all extended
 up-extends [] o = refl
 up-extends (f ∷ fs) o = up-extends fs (pushed o f.0)
 
 -- so it only grows
-up-grows : (fs : List (ℕ × List ℕ)) (o : List ℕ) → length o ≤ length (upAll fs o)
+up-grows : (fs : List (ℕ × List ℕ)) (o : List ℕ) → length o ≤ length (up_all fs o)
 up-grows fs o = omega (arith, ap (λ (p : List ℕ). length p) (up-extends fs o), extended-grows o (map (λ (f : ℕ × List ℕ). f.0) fs))
 
 -- the way up of a target: the first i keys of the way down are to come
 pub record Climbing (m : DependencyMap) (e : DependencyEnumerator) (t i : ℕ) (out : Ordering) : Type 0 where
   pub below : i ≤ e.depth
   pub short : ShortOrdering out
-  pub goes : upAll (framesOf m e e.depth) (t ∷ []) ≡ upAll (framesOf m e i) (keys_of out)
+  pub goes : up_all (frames_of m e e.depth) (t ∷ []) ≡ up_all (frames_of m e i) (keys_of out)
 
 module _ (m : DependencyMap) (e : DependencyEnumerator) (t : ℕ) where
   -- it begins with the target alone
-  pub climbing-begins : (o : Ordering) (x : Extended) → o ≡ row [] → x ≡ extendedOf (pushed (keys_of o) t) → Climbing m e t e.depth x.ordering
-  unfolding pushed hasExpr
-  climbing-begins o x p q =
+  pub climbing_begins : (o : Ordering) (x : Extended) → o ≡ row [] → x ≡ extended_of (pushed (keys_of o) t) → Climbing m e t e.depth x.ordering
+  unfolding pushed has_expr
+  climbing_begins o x p q =
       let one : pushed (keys_of o) t ≡ t ∷ [] = ap (λ (r : Ordering). pushed (keys_of r) t) p ∙ ap (λ (z : List ℕ). pushed z t) (keys-row []) in
-      let is : x.ordering ≡ row (t ∷ []) = ap (λ (y : Extended). y.ordering) (q ∙ ap extendedOf one ∙ fits-here (t ∷ []) (omega arith)) in
+      let is : x.ordering ≡ row (t ∷ []) = ap (λ (y : Extended). y.ordering) (q ∙ ap extended_of one ∙ fits-here (t ∷ []) (omega arith)) in
       record {
         below = omega arith;
         short = subst ShortOrdering (sym is) (row-short (t ∷ []) (omega arith));
-        goes = ap (upAll (framesOf m e e.depth)) (sym (ap keys_of is ∙ keys-row (t ∷ [])));
+        goes = ap (up_all (frames_of m e e.depth)) (sym (ap keys_of is ∙ keys-row (t ∷ [])));
       }
 
   module _ (i : ℕ) (out : Ordering) (c : Climbing m e t i out) where
-    module _ (l : 0 < i) (x : Extended) (key : ℕ) (s : (place_in m (frame_at e (i - 1)).place).target ≡ key) (q : x ≡ extendedOf (pushed (keys_of out) key)) where
+    module _ (l : 0 < i) (x : Extended) (key : ℕ) (s : (place_in m (frame_at e (i - 1)).place).target ≡ key) (q : x ≡ extended_of (pushed (keys_of out) key)) where
       -- the lowest key of the way down is pushed
-      climbed : upAll (framesOf m e e.depth) (t ∷ []) ≡ upAll (framesOf m e (i - 1)) (pushed (keys_of out) key)
-      unfolding upAll
-      climbed = c.goes ∙ ap (λ (fs : List (ℕ × List ℕ)). upAll fs (keys_of out)) (frames-last m e i l) ∙ ap (λ (z : ℕ). upAll (framesOf m e (i - 1)) (pushed (keys_of out) z)) s
+      climbed : up_all (frames_of m e e.depth) (t ∷ []) ≡ up_all (frames_of m e (i - 1)) (pushed (keys_of out) key)
+      unfolding up_all
+      climbed = c.goes ∙ ap (λ (fs : List (ℕ × List ℕ)). up_all fs (keys_of out)) (frames_last m e i l) ∙ ap (λ (z : ℕ). up_all (frames_of m e (i - 1)) (pushed (keys_of out) z)) s
 
       -- one key more
-      pub climbing-on : x.fits ≡ true → Climbing m e t (i - 1) x.ordering
-      climbing-on f =
+      pub climbing_on : x.fits ≡ true → Climbing m e t (i - 1) x.ordering
+      climbing_on f =
           let p = fitting x (pushed (keys_of out) key) q f in
           record {
             below = omega (arith, c.below);
             short = subst ShortOrdering (sym p.is) (row-short (pushed (keys_of out) key) p.few);
-            goes = climbed ∙ ap (upAll (framesOf m e (i - 1))) (sym (ap keys_of p.is ∙ keys-row (pushed (keys_of out) key)));
+            goes = climbed ∙ ap (up_all (frames_of m e (i - 1))) (sym (ap keys_of p.is ∙ keys-row (pushed (keys_of out) key)));
           }
 
       -- over 16 keys, and more keys don't make it fewer
-      pub climbing-stops : x.fits ≡ false → x ≡ extendedOf (upAll (framesOf m e e.depth) (t ∷ []))
-      climbing-stops f =
+      pub climbing_stops : x.fits ≡ false → x ≡ extended_of (up_all (frames_of m e e.depth) (t ∷ []))
+      climbing_stops f =
           let ps : List ℕ = pushed (keys_of out) key in
           let a = unfitting x ps q f in
           let b = ap (λ (z : List ℕ). length z) climbed in
-          q ∙ fits_not ps a ∙ sym (fits_not (upAll (framesOf m e e.depth) (t ∷ [])) (omega (arith, up-grows (framesOf m e (i - 1)) ps)))
+          q ∙ fits_not ps a ∙ sym (fits_not (up_all (frames_of m e e.depth) (t ∷ [])) (omega (arith, up-grows (frames_of m e (i - 1)) ps)))
 
     -- the top is reached
-    pub climbing-ends : i ≤ 0 → answer true out ≡ extendedOf (upAll (framesOf m e e.depth) (t ∷ []))
-    unfolding framesOf upAll
-    climbing-ends l =
+    pub climbing_ends : i ≤ 0 → answer true out ≡ extended_of (up_all (frames_of m e e.depth) (t ∷ []))
+    unfolding frames_of up_all
+    climbing_ends l =
         let z : i ≡ 0 = omega arith in
-        sym (ap extendedOf (c.goes ∙ ap (λ (n : ℕ). upAll (framesOf m e n) (keys_of out)) z)
+        sym (ap extended_of (c.goes ∙ ap (λ (n : ℕ). up_all (frames_of m e n) (keys_of out)) z)
         ∙ fits-here (keys_of out) (short-size out c.short) ∙ ap (answer true) c.short.coded)
 
 -- A turn that finds nothing
 
 -- a turn with a number and no ordering
 abbrev pub turned : ℕ → DependencyEnumerator → Turned
-turned n e = record { number = n; leaf = false; row = extendedOf []; walk = e }
+turned n e = record { number = n; leaf = false; row = extended_of []; walk = e }
 
 -- as the code makes it
 pub turned-is : (n : ℕ) (e : DependencyEnumerator) (o : Ordering) → o ≡ row [] → ◌≡◌ {A = Turned} (record { number = n; leaf = false; row = answer true o; walk = e }) (turned n e)
@@ -176,29 +176,29 @@ turns-stop m w t n p z q = record { stops = λ f. q ∙ ap {B = Walk} stopped (s
 
 -- nothing is found by a turn without an ordering
 emits_none : (t : Turned) → t.leaf ≡ false → Emits t []
-emits_none t p = record { nothing = λ q. refl; one = λ q. absurd (true-not-false q p) }
+emits_none t p = record { nothing = λ q. refl; one = λ q. absurd (true_not_false q p) }
 
 -- one ordering is found by a turn with one
-emits_one : (t : Turned) (o : List ℕ) → t.leaf ≡ true → t.row ≡ extendedOf o → Emits t (o ∷ [])
-emits_one t o p q = record { nothing = λ f. absurd (true-not-false p f); one = λ g. (o, refl, q) }
+emits_one : (t : Turned) (o : List ℕ) → t.leaf ≡ true → t.row ≡ extended_of o → Emits t (o ∷ [])
+emits_one t o p q = record { nothing = λ f. absurd (true_not_false p f); one = λ g. (o, refl, q) }
 
 -- a turn that finds nothing leaves all of the walk
-turns-none : (m : DependencyMap) (w : Walk) (t : Turned) (s : List (ℕ × ℕ)) → t.number ≡ 0 → t.leaf ≡ false → Told m t.walk s → w ≡ resume (walkFrom m) (way_of m t.walk) s → Turns m w t
+turns-none : (m : DependencyMap) (w : Walk) (t : Turned) (s : List (ℕ × ℕ)) → t.number ≡ 0 → t.leaf ≡ false → Told m t.walk s → w ≡ resume (walk_from m) (way_of m t.walk) s → Turns m w t
 turns-none m w t s z l say q =
     record {
       stops = λ f. absurd (f z);
-      goes = λ y. ([], emits_none t l, (s, say, q ∙ sym (before-none (resume (walkFrom m) (way_of m t.walk) s))));
+      goes = λ y. ([], emits_none t l, (s, say, q ∙ sym (before-none (resume (walk_from m) (way_of m t.walk) s))));
     }
 
 -- a turn that finds one leaves the rest
-turns-one : (m : DependencyMap) (w : Walk) (t : Turned) (o : List ℕ) (s : List (ℕ × ℕ)) → t.number ≡ 0 → t.leaf ≡ true → t.row ≡ extendedOf o → Told m t.walk s → w ≡ before (o ∷ []) (resume (walkFrom m) (way_of m t.walk) s) → Turns m w t
+turns-one : (m : DependencyMap) (w : Walk) (t : Turned) (o : List ℕ) (s : List (ℕ × ℕ)) → t.number ≡ 0 → t.leaf ≡ true → t.row ≡ extended_of o → Told m t.walk s → w ≡ before (o ∷ []) (resume (walk_from m) (way_of m t.walk) s) → Turns m w t
 turns-one m w t o s z l r say q = record { stops = λ f. absurd (f z); goes = λ y. (o ∷ [], emits_one t o l r, (s, say, q)) }
 
 -- Frames
 
 -- the frame that is read past the end
-abbrev noFrame : Frame
-noFrame = record { place = 0; next = 0 }
+abbrev no_frame : Frame
+no_frame = record { place = 0; next = 0 }
 
 -- the frame of a key before its first dependency
 abbrev first_of : ℕ → Frame
@@ -218,14 +218,14 @@ target_none r p = rw p
 
 module _ (at : ℕ → List (ℕ × ℕ) → Walk) (t : ℕ) (s : List (ℕ × ℕ)) where
   -- the walk at an entry with a target and no dependencies
-  leaf-entry : (o : Option ℕ) (ds : List ℕ) → o ≡ some t → length ds ≡ 0 → at_entry at o ds s ≡ found ((t ∷ []) ∷ []) s
-  unfolding at_entry atTarget
-  leaf-entry o [] p q = rw p
-  leaf-entry o (d ∷ ds) p q = absurd (omega arith)
+  leaf_entry : (o : Option ℕ) (ds : List ℕ) → o ≡ some t → length ds ≡ 0 → at_entry at o ds s ≡ found ((t ∷ []) ∷ []) s
+  unfolding at_entry at_target
+  leaf_entry o [] p q = rw p
+  leaf_entry o (d ∷ ds) p q = absurd (omega arith)
 
   -- and with dependencies
-  open-entry : (o : Option ℕ) (ds : List ℕ) → o ≡ some t → (length ds ≡ 0 → ⊥) → at_entry at o ds s ≡ overDependencies at t ds s
-  unfolding at_entry atTarget
+  open-entry : (o : Option ℕ) (ds : List ℕ) → o ≡ some t → (length ds ≡ 0 → ⊥) → at_entry at o ds s ≡ over_dependencies at t ds s
+  unfolding at_entry at_target
   open-entry o [] p q = absurd (q refl)
   open-entry o (d ∷ ds) p q = rw p
 
@@ -239,7 +239,7 @@ module _ (m : DependencyMap) (i : ℕ) (l : i < m.count) where
   unfolding entry_of
   entry-dependency k b =
       ap (λ (d : Dependent). get_or d.dependencies k 0) (place-decode m i l)
-      ∙ getD-table (λ (j : ℕ). get_or (place_in m i).dependencies j 0) (place_in m i).size k 0 b
+      ∙ get_or-table (λ (j : ℕ). get_or (place_in m i).dependencies j 0) (place_in m i).size k 0 b
 
   -- its target, where the struct has one
   entry-target : (place_in m i).projected ≡ true → (entry_at (decode m) i).target ≡ some (place_in m i).target
@@ -252,36 +252,36 @@ module _ (m : DependencyMap) (i : ℕ) (l : i < m.count) where
   module _ (e : DependencyEnumerator) (w : Walking m e) where
     -- the walk at the entry
     abbrev At : List (ℕ × ℕ) → Walk
-    At s = at_entry (walkFrom m) (entry_at (decode m) i).target (entry_at (decode m) i).dependencies s
+    At s = at_entry (walk_from m) (entry_at (decode m) i).target (entry_at (decode m) i).dependencies s
 
     -- without a target the walk stops with 7
-    pub visited-bare : (place_in m i).projected ≡ false → Visited m e i (turned 7 (ended_of e))
+    pub visited_bare : (place_in m i).projected ≡ false → Visited m e i (turned 7 (ended_of e))
     unfolding at_entry
-    visited-bare p =
+    visited_bare p =
         record {
           sound = sound-stop m e 7 w;
           seen = refl;
           deep = omega arith;
-          turns = λ s say. turns-stop m (upward (walkFrom m) (way_of m e) (At s)) (turned 7 (ended_of e)) 7 refl (λ z. omega arith) (whole s);
+          turns = λ s say. turns-stop m (upward (walk_from m) (way_of m e) (At s)) (turned 7 (ended_of e)) 7 refl (λ z. omega arith) (whole s);
         }
       where
-        whole : (s : List (ℕ × ℕ)) → upward (walkFrom m) (way_of m e) (At s) ≡ stopped 7
+        whole : (s : List (ℕ × ℕ)) → upward (walk_from m) (way_of m e) (At s) ≡ stopped 7
         whole s =
-            ap (λ (o : Option ℕ). upward (walkFrom m) (way_of m e) (at_entry (walkFrom m) o (entry_at (decode m) i).dependencies s)) (entry-bare p)
-            ∙ upward-stopped (walkFrom m) (way_of m e) 7
+            ap (λ (o : Option ℕ). upward (walk_from m) (way_of m e) (at_entry (walk_from m) o (entry_at (decode m) i).dependencies s)) (entry-bare p)
+            ∙ upward-stopped (walk_from m) (way_of m e) 7
 
     -- with a target and nothing that it depends on there is an ordering
-    pub visited-leaf : (x : Extended) → (place_in m i).projected ≡ true → (place_in m i).size ≡ 0 → x ≡ extendedOf (upAll (way_of m e) ((place_in m i).target ∷ []))
+    pub visited_leaf : (x : Extended) → (place_in m i).projected ≡ true → (place_in m i).size ≡ 0 → x ≡ extended_of (up_all (way_of m e) ((place_in m i).target ∷ []))
         → Visited m e i (record { number = 0; leaf = true; row = x; walk = e })
-    visited-leaf x p z q =
+    visited_leaf x p z q =
         record {
           sound = sound-on m (record { number = 0; leaf = true; row = x; walk = e }) refl w;
           seen = refl;
           deep = omega arith;
           turns = λ s say.
-              turns-one m (upward (walkFrom m) (way_of m e) (At s)) (record { number = 0; leaf = true; row = x; walk = e }) (upAll (way_of m e) ((place_in m i).target ∷ [])) s refl refl q say
-              (ap (upward (walkFrom m) (way_of m e)) (leaf-entry (walkFrom m) (place_in m i).target s (entry_at (decode m) i).target (entry_at (decode m) i).dependencies (entry-target p) (entry-size ∙ z))
-              ∙ upward-one (walkFrom m) (way_of m e) ((place_in m i).target ∷ []) s);
+              turns-one m (upward (walk_from m) (way_of m e) (At s)) (record { number = 0; leaf = true; row = x; walk = e }) (up_all (way_of m e) ((place_in m i).target ∷ [])) s refl refl q say
+              (ap (upward (walk_from m) (way_of m e)) (leaf_entry (walk_from m) (place_in m i).target s (entry_at (decode m) i).target (entry_at (decode m) i).dependencies (entry-target p) (entry-size ∙ z))
+              ∙ upward-one (walk_from m) (way_of m e) ((place_in m i).target ∷ []) s);
         }
 
     -- an account whose way down goes on is one
@@ -298,40 +298,40 @@ module _ (m : DependencyMap) (i : ℕ) (l : i < m.count) where
       where
         at : (j : ℕ) → j < e.depth + 1 → Dec (j ≡ e.depth) → Framed m (frame_at (deeper e i) j)
         at j u (yes q) =
-            subst (Framed m) (sym (ap (λ (n : ℕ). frame_at (deeper e i) n) q ∙ get_or-set_same e.frames e.depth (first_of i) noFrame (omega (arith, w.long, b))))
+            subst (Framed m) (sym (ap (λ (n : ℕ). frame_at (deeper e i) n) q ∙ get_or-set_same e.frames e.depth (first_of i) no_frame (omega (arith, w.long, b))))
             (record { there = l; target = p; next = omega arith })
-        at j u (no q) = subst (Framed m) (sym (get_or-set_other e.frames e.depth j (first_of i) noFrame q)) (w.framed j (omega arith))
+        at j u (no q) = subst (Framed m) (sym (get_or-set_other e.frames e.depth j (first_of i) no_frame q)) (w.framed j (omega arith))
 
     -- with dependencies the walk goes one key down
-    pub visited-open : e.depth + left e ≤ 1024 → (place_in m i).projected ≡ true → ((place_in m i).size ≡ 0 → ⊥) → Visited m e i (turned 0 (deeper e i))
+    pub visited_open : e.depth + left e ≤ 1024 → (place_in m i).projected ≡ true → ((place_in m i).size ≡ 0 → ⊥) → Visited m e i (turned 0 (deeper e i))
     unfolding deeper
-    visited-open b p z =
+    visited_open b p z =
         record {
           sound = sound-on m (turned 0 (deeper e i)) refl (walking-deeper b p);
           seen = refl;
           deep = omega arith;
-          turns = λ s say. turns-none m (upward (walkFrom m) (way_of m e) (At s)) (turned 0 (deeper e i)) s refl refl (told-seen m e (deeper e i) s refl say) (whole s);
+          turns = λ s say. turns-none m (upward (walk_from m) (way_of m e) (At s)) (turned 0 (deeper e i)) s refl refl (told-seen m e (deeper e i) s refl say) (whole s);
         }
       where
-        whole : (s : List (ℕ × ℕ)) → upward (walkFrom m) (way_of m e) (At s) ≡ resume (walkFrom m) (framesOf m (deeper e i) (e.depth + 1)) s
+        whole : (s : List (ℕ × ℕ)) → upward (walk_from m) (way_of m e) (At s) ≡ resume (walk_from m) (frames_of m (deeper e i) (e.depth + 1)) s
         whole s =
-            ap (upward (walkFrom m) (way_of m e)) (open-entry (walkFrom m) (place_in m i).target s (entry_at (decode m) i).target (entry_at (decode m) i).dependencies (entry-target p) (λ y. z (sym entry-size ∙ y)))
-            ∙ upward-down (walkFrom m) (place_in m i).target (entry_at (decode m) i).dependencies (way_of m e) s
-            ∙ ap (λ (fs : List (ℕ × List ℕ)). resume (walkFrom m) fs s) (sym (frames-deeper m e i (omega (arith, w.long, b))))
+            ap (upward (walk_from m) (way_of m e)) (open-entry (walk_from m) (place_in m i).target s (entry_at (decode m) i).target (entry_at (decode m) i).dependencies (entry-target p) (λ y. z (sym entry-size ∙ y)))
+            ∙ upward-down (walk_from m) (place_in m i).target (entry_at (decode m) i).dependencies (way_of m e) s
+            ∙ ap (λ (fs : List (ℕ × List ℕ)). resume (walk_from m) fs s) (sym (frames_deeper m e i (omega (arith, w.long, b))))
 
 -- A key
 
 -- the walk from a key, by its place
 from_place : (m : DependencyMap) (e : DependencyEnumerator) (k : ℕ) (o : Option ℕ) (s : List (ℕ × ℕ)) → place_of (decode m) k ≡ o
-    → upward (walkFrom m) (way_of m e) (walkFrom m k s) ≡ upward (walkFrom m) (way_of m e) (at_place (walkFrom m) (decode m) o s)
+    → upward (walk_from m) (way_of m e) (walk_from m k s) ≡ upward (walk_from m) (way_of m e) (at_place (walk_from m) (decode m) o s)
 from_place m e k o s p =
-    ap (upward (walkFrom m) (way_of m e)) (walk_from (decode m) k s ∙ ap (λ (x : Option ℕ). at_place (walkFrom m) (decode m) x s) p)
+    ap (upward (walk_from m) (way_of m e)) (walk_from_lem (decode m) k s ∙ ap (λ (x : Option ℕ). at_place (walk_from m) (decode m) x s) p)
 
 module _ (m : DependencyMap) (e : DependencyEnumerator) (k : ℕ) where
   -- a key that is in the map: its place is visited
-  pub entered-there : (i : ℕ) (t : Turned) → place_of (decode m) k ≡ some i → Visited m e i t → Entered m e k t
+  pub entered_there : (i : ℕ) (t : Turned) → place_of (decode m) k ≡ some i → Visited m e i t → Entered m e k t
   unfolding at_place
-  entered-there i t p v =
+  entered_there i t p v =
       record {
         sound = v.sound;
         seen = v.seen;
@@ -340,31 +340,31 @@ module _ (m : DependencyMap) (e : DependencyEnumerator) (k : ℕ) where
       }
 
   -- a key that is not: the walk stops with 6
-  pub entered-nowhere : Walking m e → place_of (decode m) k ≡ none → Entered m e k (turned 6 (ended_of e))
+  pub entered_nowhere : Walking m e → place_of (decode m) k ≡ none → Entered m e k (turned 6 (ended_of e))
   unfolding at_place
-  entered-nowhere w p =
+  entered_nowhere w p =
       record {
         sound = sound-stop m e 6 w;
         seen = refl;
         deep = omega arith;
         turns = λ s say.
-            turns-stop m (upward (walkFrom m) (way_of m e) (walkFrom m k s)) (turned 6 (ended_of e)) 6 refl (λ z. omega arith)
-            (from_place m e k none s p ∙ upward-stopped (walkFrom m) (way_of m e) 6);
+            turns-stop m (upward (walk_from m) (way_of m e) (walk_from m k s)) (turned 6 (ended_of e)) 6 refl (λ z. omega arith)
+            (from_place m e k none s p ∙ upward-stopped (walk_from m) (way_of m e) 6);
       }
 
 -- The lowest key of the way down
 
 -- the marks that the code reads past the end
-abbrev pub noMarks : Seen
-noMarks = record { told = [] }
+abbrev pub no_marks : Seen
+no_marks = record { told = [] }
 
 -- the account with the lowest key left
 abbrev pub shorter : DependencyEnumerator → DependencyEnumerator
 shorter e = record { depth = e.depth - 1; frames = e.frames; seen = e.seen }
 
 -- the account with another frame at a place of the way down
-abbrev pub framedAt : DependencyEnumerator → ℕ → Frame → DependencyEnumerator
-framedAt e n f = record { depth = e.depth; frames = set e.frames n f; seen = e.seen }
+abbrev pub framed_at : DependencyEnumerator → ℕ → Frame → DependencyEnumerator
+framed_at e n f = record { depth = e.depth; frames = set e.frames n f; seen = e.seen }
 
 module _ (m : DependencyMap) (e : DependencyEnumerator) (w : Walking m e) (up : 0 < e.depth) where
   -- the lowest frame
@@ -376,49 +376,49 @@ module _ (m : DependencyMap) (e : DependencyEnumerator) (w : Walking m e) (up : 
   top-framed = w.framed (e.depth - 1) (omega arith)
 
   -- the entry there
-  abbrev pub topNode : DependencyNode
-  topNode = place_in m top.place
+  abbrev pub top_node : DependencyNode
+  top_node = place_in m top.place
 
   -- what it depends on
-  abbrev topDependencies : List ℕ
-  topDependencies = (entry_at (decode m) top.place).dependencies
+  abbrev top_dependencies : List ℕ
+  top_dependencies = (entry_at (decode m) top.place).dependencies
 
   -- the entry that the code reads is the one there
-  pub top-node : get_or m.list top.place noPlace ≡ topNode
+  pub top-node : get_or m.list top.place no_place ≡ top_node
   top-node = node-is m w.map top.place top-framed.there
 
   -- the marks that the code reads are those at the place
-  pub marks-are : get_or e.seen top.place noMarks ≡ seen_at e top.place
-  marks-are = get_d_any e.seen top.place noMarks unmarked (omega (arith, top-framed.there, w.map.few, w.wide))
+  pub marks-are : get_or e.seen top.place no_marks ≡ seen_at e top.place
+  marks-are = get_d_any e.seen top.place no_marks unmarked (omega (arith, top-framed.there, w.map.few, w.wide))
 
   -- what the code found open is so for the entry and the marks at the place
-  pub opened-is : (k : ℕ) (r : DependencyNode) (ms : Seen) → r ≡ topNode → ms ≡ seen_at e top.place → Opened ms top.next r.size k → Opened (seen_at e top.place) top.next topNode.size k
+  pub opened-is : (k : ℕ) (r : DependencyNode) (ms : Seen) → r ≡ top_node → ms ≡ seen_at e top.place → Opened ms top.next r.size k → Opened (seen_at e top.place) top.next top_node.size k
   opened-is k r ms p q o =
       subst (λ (n : ℕ). Opened (seen_at e top.place) top.next n k) (ap (λ (x : DependencyNode). x.size) p)
       (subst (λ (x : Seen). Opened x top.next r.size k) q o)
 
-  module _ (k : ℕ) (o : Opened (seen_at e top.place) top.next topNode.size k) where
+  module _ (k : ℕ) (o : Opened (seen_at e top.place) top.next top_node.size k) where
     -- the pairs before k were expanded, so what is left begins at k
-    skipped : (s : List (ℕ × ℕ)) → Told m e s → resume (walkFrom m) (way_of m e) s ≡ resume (walkFrom m) ((topNode.target, drop k topDependencies) ∷ framesOf m e (e.depth - 1)) s
+    skipped : (s : List (ℕ × ℕ)) → Told m e s → resume (walk_from m) (way_of m e) s ≡ resume (walk_from m) ((top_node.target, drop k top_dependencies) ∷ frames_of m e (e.depth - 1)) s
     unfolding told
     skipped s say =
-        ap (λ (fs : List (ℕ × List ℕ)). resume (walkFrom m) fs s) (frames-last m e e.depth up)
-        ∙ resume-skips (walkFrom m) topNode.target topDependencies (framesOf m e (e.depth - 1)) s top.next k o.low (omega (arith, o.high, entry-size m top.place top-framed.there))
+        ap (λ (fs : List (ℕ × List ℕ)). resume (walk_from m) fs s) (frames_last m e e.depth up)
+        ∙ resume-skips (walk_from m) top_node.target top_dependencies (frames_of m e (e.depth - 1)) s top.next k o.low (omega (arith, o.high, entry-size m top.place top-framed.there))
         (λ j a b.
-        ap (λ (d : ℕ). isSeen topNode.target d s) (entry-dependency m top.place top-framed.there j (omega (arith, o.high)))
+        ap (λ (d : ℕ). is_seen top_node.target d s) (entry-dependency m top.place top-framed.there j (omega (arith, o.high)))
         ∙ sym (say.is top.place j top-framed.there (omega (arith, o.high)) top-framed.target) ∙ o.before j a b)
 
     -- the frame after dependency k
-    abbrev pub nextFrame : Frame
-    nextFrame = record { place = top.place; next = k + 1 }
+    abbrev pub next_frame : Frame
+    next_frame = record { place = top.place; next = k + 1 }
 
     -- all were: the walk leaves the key
-    pub went_up : topNode.size ≤ k → Went m e (turned 0 (shorter e))
+    pub went_up : top_node.size ≤ k → Went m e (turned 0 (shorter e))
     went_up l =
         record {
           sound = sound-on m (turned 0 (shorter e)) refl walking;
           less = omega (arith, left-seen (shorter e) e refl);
-          turns = λ s say. turns-none m (resume (walkFrom m) (way_of m e) s) (turned 0 (shorter e)) s refl refl (told-seen m e (shorter e) s refl say) (whole s say);
+          turns = λ s say. turns-none m (resume (walk_from m) (way_of m e) s) (turned 0 (shorter e)) s refl refl (told-seen m e (shorter e) s refl say) (whole s say);
         }
       where
         walking : Walking m (shorter e)
@@ -431,21 +431,21 @@ module _ (m : DependencyMap) (e : DependencyEnumerator) (w : Walking m e) (up : 
               framed = λ i b. w.framed i (omega arith);
             }
 
-        whole : (s : List (ℕ × ℕ)) → Told m e s → resume (walkFrom m) (way_of m e) s ≡ resume (walkFrom m) (framesOf m (shorter e) (e.depth - 1)) s
+        whole : (s : List (ℕ × ℕ)) → Told m e s → resume (walk_from m) (way_of m e) s ≡ resume (walk_from m) (frames_of m (shorter e) (e.depth - 1)) s
         whole s say =
             skipped s say
-            ∙ ap (λ (ds : List ℕ). resume (walkFrom m) ((topNode.target, ds) ∷ framesOf m e (e.depth - 1)) s) (drop_of_length-le topDependencies {i = k} (omega (arith, entry-size m top.place top-framed.there)))
-            ∙ resume-leaves (walkFrom m) topNode.target (framesOf m e (e.depth - 1)) s
-            ∙ ap (λ (fs : List (ℕ × List ℕ)). resume (walkFrom m) fs s) (frames-kept m e (shorter e) (e.depth - 1) (λ i b. refl))
+            ∙ ap (λ (ds : List ℕ). resume (walk_from m) ((top_node.target, ds) ∷ frames_of m e (e.depth - 1)) s) (drop_of_length-le top_dependencies {i = k} (omega (arith, entry-size m top.place top-framed.there)))
+            ∙ resume-leaves (walk_from m) top_node.target (frames_of m e (e.depth - 1)) s
+            ∙ ap (λ (fs : List (ℕ × List ℕ)). resume (walk_from m) fs s) (frames_kept m e (shorter e) (e.depth - 1) (λ i b. refl))
 
-    module _ (l : k < topNode.size) where
+    module _ (l : k < top_node.size) where
       -- dependency k, the other half of the next pair
-      abbrev nextKey : ℕ
-      nextKey = get_or topNode.dependencies k 0
+      abbrev next_key : ℕ
+      next_key = get_or top_node.dependencies k 0
 
       -- the account after the pair is marked, with the dependency after k next
-      abbrev nextWalk : DependencyEnumerator
-      nextWalk = framedAt (marked m e topNode.target nextKey) (e.depth - 1) nextFrame
+      abbrev next_walk : DependencyEnumerator
+      next_walk = framed_at (marked m e top_node.target next_key) (e.depth - 1) next_frame
 
       -- an entry has 16 places for dependencies
       low : k < 16
@@ -461,88 +461,88 @@ module _ (m : DependencyMap) (e : DependencyEnumerator) (w : Walking m e) (up : 
       not_yet = o.here l
 
       -- it stands at dependency k
-      here : hits topNode k topNode.target nextKey ≡ true
+      here : hits top_node k top_node.target next_key ≡ true
       unfolding hits
-      here = and_both (and_both top-framed.target (eq-eqb topNode.target topNode.target refl)) (eq-eqb nextKey nextKey refl)
+      here = and_both (and_both top-framed.target (eq-eqb top_node.target top_node.target refl)) (eq-eqb next_key next_key refl)
 
       -- so marking it leaves fewer places
-      fewer : left nextWalk < left e
-      fewer = omega (arith, left-seen nextWalk (marked m e topNode.target nextKey) refl, left-marked m e topNode.target nextKey top.place k inside low not_yet here)
+      fewer : left next_walk < left e
+      fewer = omega (arith, left-seen next_walk (marked m e top_node.target next_key) refl, left-marked m e top_node.target next_key top.place k inside low not_yet here)
 
       -- the account stays one
-      walking-next : Walking m nextWalk
+      walking-next : Walking m next_walk
       unfolding marked
       walking-next =
-          let v = walking-marked m e topNode.target nextKey top.place k inside low not_yet here w in
+          let v = walking-marked m e top_node.target next_key top.place k inside low not_yet here w in
           record {
             map = v.map;
             room = omega (arith, w.room, fewer);
-            long = length-set e.frames (e.depth - 1) nextFrame ∙ w.long;
+            long = length-set e.frames (e.depth - 1) next_frame ∙ w.long;
             wide = v.wide;
             framed = λ j u. at j u (ℕ_discrete j (e.depth - 1));
           }
         where
-          at : (j : ℕ) → j < e.depth → Dec (j ≡ e.depth - 1) → Framed m (frame_at nextWalk j)
+          at : (j : ℕ) → j < e.depth → Dec (j ≡ e.depth - 1) → Framed m (frame_at next_walk j)
           at j u (yes q) =
-              subst (Framed m) (sym (ap (λ (n : ℕ). frame_at nextWalk n) q ∙ get_or-set_same e.frames (e.depth - 1) nextFrame noFrame (omega (arith, w.long, w.room))))
+              subst (Framed m) (sym (ap (λ (n : ℕ). frame_at next_walk n) q ∙ get_or-set_same e.frames (e.depth - 1) next_frame no_frame (omega (arith, w.long, w.room))))
               (record { there = top-framed.there; target = top-framed.target; next = omega arith })
-          at j u (no q) = subst (Framed m) (sym (get_or-set_other e.frames (e.depth - 1) j nextFrame noFrame q)) (w.framed j u)
+          at j u (no q) = subst (Framed m) (sym (get_or-set_other e.frames (e.depth - 1) j next_frame no_frame q)) (w.framed j u)
 
       -- it has room for one key more
-      next-asks : Walking m nextWalk × (nextWalk.depth + left nextWalk ≤ 1024)
+      next-asks : Walking m next_walk × (next_walk.depth + left next_walk ≤ 1024)
       unfolding marked
       next-asks = (walking-next, omega (arith, w.room, fewer))
 
       -- its way down: the lowest key with the dependencies after k, and the others as they were
-      way_next : way_of m nextWalk ≡ (topNode.target, drop (k + 1) topDependencies) ∷ framesOf m e (e.depth - 1)
+      way_next : way_of m next_walk ≡ (top_node.target, drop (k + 1) top_dependencies) ∷ frames_of m e (e.depth - 1)
       unfolding marked
       way_next =
-          frames-last m nextWalk e.depth up
-          ∙ ap (λ (f : Frame). frame_of m f ∷ framesOf m nextWalk (e.depth - 1)) (get_or-set_same e.frames (e.depth - 1) nextFrame noFrame (omega (arith, w.long, w.room)))
-          ∙ ap (λ (fs : List (ℕ × List ℕ)). (topNode.target, drop (k + 1) topDependencies) ∷ fs)
-          (frames-kept m nextWalk e (e.depth - 1) (λ i b. get_or-set_other e.frames (e.depth - 1) i nextFrame noFrame (λ q. omega arith)))
+          frames_last m next_walk e.depth up
+          ∙ ap (λ (f : Frame). frame_of m f ∷ frames_of m next_walk (e.depth - 1)) (get_or-set_same e.frames (e.depth - 1) next_frame no_frame (omega (arith, w.long, w.room)))
+          ∙ ap (λ (fs : List (ℕ × List ℕ)). (top_node.target, drop (k + 1) top_dependencies) ∷ fs)
+          (frames_kept m next_walk e (e.depth - 1) (λ i b. get_or-set_other e.frames (e.depth - 1) i next_frame no_frame (λ q. omega arith)))
 
       -- what is left of the walk is the walk from the pair's dependency, and what is left after it
-      unfolded : (s : List (ℕ × ℕ)) → Told m e s → resume (walkFrom m) (way_of m e) s ≡ upward (walkFrom m) (way_of m nextWalk) (walkFrom m nextKey (s ++ ((topNode.target, nextKey) ∷ [])))
+      unfolded : (s : List (ℕ × ℕ)) → Told m e s → resume (walk_from m) (way_of m e) s ≡ upward (walk_from m) (way_of m next_walk) (walk_from m next_key (s ++ ((top_node.target, next_key) ∷ [])))
       unfolding told
       unfolded s say =
           let d = entry-dependency m top.place top-framed.there k l in
           skipped s say
-          ∙ resume-expands (walkFrom m) topNode.target topDependencies (framesOf m e (e.depth - 1)) s k (omega (arith, entry-size m top.place top-framed.there))
-          (ap (λ (x : ℕ). isSeen topNode.target x s) d ∙ sym (say.is top.place k top-framed.there l top-framed.target) ∙ o.here l)
-          ∙ ap (λ (x : ℕ). upward (walkFrom m) ((topNode.target, drop (k + 1) topDependencies) ∷ framesOf m e (e.depth - 1)) (walkFrom m x (s ++ ((topNode.target, x) ∷ [])))) d
-          ∙ ap (λ (fs : List (ℕ × List ℕ)). upward (walkFrom m) fs (walkFrom m nextKey (s ++ ((topNode.target, nextKey) ∷ [])))) (sym way_next)
+          ∙ resume_expands (walk_from m) top_node.target top_dependencies (frames_of m e (e.depth - 1)) s k (omega (arith, entry-size m top.place top-framed.there))
+          (ap (λ (x : ℕ). is_seen top_node.target x s) d ∙ sym (say.is top.place k top-framed.there l top-framed.target) ∙ o.here l)
+          ∙ ap (λ (x : ℕ). upward (walk_from m) ((top_node.target, drop (k + 1) top_dependencies) ∷ frames_of m e (e.depth - 1)) (walk_from m x (s ++ ((top_node.target, x) ∷ [])))) d
+          ∙ ap (λ (fs : List (ℕ × List ℕ)). upward (walk_from m) fs (walk_from m next_key (s ++ ((top_node.target, next_key) ∷ [])))) (sym way_next)
 
       -- so a turn that comes to the dependency is a turn of the walk
-      went_on : (t : Turned) → Entered m nextWalk nextKey t → Went m e t
+      went_on : (t : Turned) → Entered m next_walk next_key t → Went m e t
       unfolding marked
       went_on t v =
           record {
             sound = v.sound;
-            less = omega (arith, left-seen t.walk nextWalk v.seen, fewer, v.deep);
+            less = omega (arith, left-seen t.walk next_walk v.seen, fewer, v.deep);
             turns = λ s say.
                 subst (λ (x : Walk). Turns m x t) (sym (unfolded s say))
-                (v.turns (s ++ ((topNode.target, nextKey) ∷ [])) (told-seen m (marked m e topNode.target nextKey) nextWalk (s ++ ((topNode.target, nextKey) ∷ [])) refl (told-marked m e topNode.target nextKey s w.map say)));
+                (v.turns (s ++ ((top_node.target, next_key) ∷ [])) (told-seen m (marked m e top_node.target next_key) next_walk (s ++ ((top_node.target, next_key) ∷ [])) refl (told-marked m e top_node.target next_key s w.map say)));
           }
 
-      module _ (r : DependencyNode) (q : r ≡ topNode) (x : DependencyEnumerator) (p : x ≡ marked m e r.target (get_or r.dependencies k 0)) where
+      module _ (r : DependencyNode) (q : r ≡ top_node) (x : DependencyEnumerator) (p : x ≡ marked m e r.target (get_or r.dependencies k 0)) where
         -- the account as the code makes it, from the entry and the marked account that it has
-        abbrev pub readWalk : DependencyEnumerator
-        readWalk = framedAt x (e.depth - 1) nextFrame
+        abbrev pub read_walk : DependencyEnumerator
+        read_walk = framed_at x (e.depth - 1) next_frame
 
         -- it is the same
-        same-walk : readWalk ≡ nextWalk
+        same-walk : read_walk ≡ next_walk
         same-walk =
-            ap (λ (y : DependencyEnumerator). framedAt y (e.depth - 1) nextFrame)
+            ap (λ (y : DependencyEnumerator). framed_at y (e.depth - 1) next_frame)
             (p ∙ ap (λ (n : DependencyNode). marked m e n.target (get_or n.dependencies k 0)) q)
 
         -- it has room for one key more
-        pub read-asks : Walking m readWalk × (readWalk.depth + left readWalk ≤ 1024)
+        pub read-asks : Walking m read_walk × (read_walk.depth + left read_walk ≤ 1024)
         read-asks = subst (λ (y : DependencyEnumerator). Walking m y × (y.depth + left y ≤ 1024)) (sym same-walk) next-asks
 
         -- and a turn that comes to the dependency from it is a turn of the walk
-        pub went-read : (t : Turned) → Entered m readWalk (get_or r.dependencies k 0) t → Went m e t
+        pub went-read : (t : Turned) → Entered m read_walk (get_or r.dependencies k 0) t → Went m e t
         went-read t v =
             went_on t
-            (subst (λ (d : ℕ). Entered m nextWalk d t) (ap (λ (n : DependencyNode). get_or n.dependencies k 0) q)
+            (subst (λ (d : ℕ). Entered m next_walk d t) (ap (λ (n : DependencyNode). get_or n.dependencies k 0) q)
             (subst (λ (y : DependencyEnumerator). Entered m y (get_or r.dependencies k 0) t) same-walk v))

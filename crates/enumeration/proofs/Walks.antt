@@ -12,9 +12,9 @@ use Rattle.dependencies.specs.Layout.{decode, place_in}
 use Rattle.dependencies.specs.Inner.{Held}
 use Rattle.dependencies.specs.declared.DependencyNode.{DependencyNode}
 use Rattle.dependencies.specs.declared.DependencyMap.{DependencyMap}
-use Rattle.dependencies.proofs.MapChecks.{noPlace}
-use Rattle.enumeration.specs.Walk.{Walk, found, stopped, goOn, constructOrderings, overStart}
-use Rattle.enumeration.specs.Inner.{fresh, Walking, Told, framesOf, before, resume, upward, way_of, walkFrom, Turns, Entered, Went, Room, kept, Rows, Came, Walked, Began}
+use Rattle.dependencies.proofs.MapChecks.{no_place}
+use Rattle.enumeration.specs.Walk.{Walk, found, stopped, go_on, construct_orderings, over_start}
+use Rattle.enumeration.specs.Inner.{fresh, Walking, Told, frames_of, before, resume, upward, way_of, walk_from, Turns, Entered, Went, Room, kept, Rows, Came, Walked, Began}
 use Rattle.enumeration.specs.declared.DependencyEnumerator.{DependencyEnumerator}
 use Rattle.enumeration.specs.declared.Turned.{Turned}
 use Rattle.enumeration.specs.declared.Found.{Found}
@@ -40,9 +40,9 @@ partly_none m os way rows rest s hold say = record { ps = []; u = s; is = sym (b
 
 module _ (m : DependencyMap) (w : Walk) (os : List (List ℕ)) (way : DependencyEnumerator) (rows : Found) (rest : List (ℕ × ℕ) → Walk) (p : Partly m w os way rows rest) where
   -- more was found
-  partly-on : (way' : DependencyEnumerator) (rows' : Found) (rest' : List (ℕ × ℕ) → Walk) (qs : List (List ℕ)) (v : List (ℕ × ℕ)) → rest p.u ≡ before qs (rest' v) → Rows rows' ((os ++ p.ps) ++ qs) → Told m way' v
+  partly_on : (way' : DependencyEnumerator) (rows' : Found) (rest' : List (ℕ × ℕ) → Walk) (qs : List (List ℕ)) (v : List (ℕ × ℕ)) → rest p.u ≡ before qs (rest' v) → Rows rows' ((os ++ p.ps) ++ qs) → Told m way' v
       → Partly m w os way' rows' rest'
-  partly-on way' rows' rest' qs v e hold say = record {
+  partly_on way' rows' rest' qs v e hold say = record {
     ps = p.ps ++ qs;
     u = v;
     is = p.is ∙ ap (before p.ps) e ∙ before-before p.ps qs (rest' v);
@@ -51,21 +51,21 @@ module _ (m : DependencyMap) (w : Walk) (os : List (List ℕ)) (way : Dependency
   }
 
   -- what is left stops the walk
-  partly-stops : (k : ℕ) → rest p.u ≡ stopped k → w ≡ stopped k
-  unfolding before goOn
-  partly-stops k e = p.is ∙ ap (before p.ps) e
+  partly_stops : (k : ℕ) → rest p.u ≡ stopped k → w ≡ stopped k
+  unfolding before go_on
+  partly_stops k e = p.is ∙ ap (before p.ps) e
 
   -- nothing is left
-  partly-done : rest p.u ≡ found [] p.u → w ≡ found p.ps p.u
-  unfolding before goOn
-  partly-done e = p.is ∙ ap (before p.ps) e ∙ ap (λ (qs : List (List ℕ)). found qs p.u) (append-nil p.ps)
+  partly_done : rest p.u ≡ found [] p.u → w ≡ found p.ps p.u
+  unfolding before go_on
+  partly_done e = p.is ∙ ap (before p.ps) e ∙ ap (λ (qs : List (List ℕ)). found qs p.u) (append-nil p.ps)
 
 -- Turn by turn
 
 -- how far a walk w came: it stopped with a number, or the way down is left of it
 pub record Far (m : DependencyMap) (w : Walk) (os : List (List ℕ)) (number : ℕ) (way : DependencyEnumerator) (rows : Found) : Type 0 where
   pub stops : (number ≡ 0 → ⊥) → w ≡ stopped number
-  pub goes : number ≡ 0 → Partly m w os way rows (resume (walkFrom m) (way_of m way))
+  pub goes : number ≡ 0 → Partly m w os way rows (resume (walk_from m) (way_of m way))
 
 -- the loop came from its first turn, with number₀, way₀ and rows₀, to a later one: as far as a walk came then, so far it came now
 pub record Goes (m : DependencyMap) (number₀ : ℕ) (way₀ : DependencyEnumerator) (rows₀ : Found) (number : ℕ) (way : DependencyEnumerator) (rows : Found) : Type 0 where
@@ -78,10 +78,10 @@ pub record Goes (m : DependencyMap) (number₀ : ℕ) (way₀ : DependencyEnumer
 far-turn : (m : DependencyMap) (w : Walk) (os : List (List ℕ)) (way : DependencyEnumerator) (rows : Found) (rest : List (ℕ × ℕ) → Walk) (p : Partly m w os way rows rest) (t : Turned) → Room rows → Turns m (rest p.u) t
     → Far m w os t.number t.walk (kept rows t.leaf t.row)
 far-turn m w os way rows rest p t room x = record {
-  stops = λ n. partly-stops m w os way rows rest p t.number (x.stops n);
+  stops = λ n. partly_stops m w os way rows rest p t.number (x.stops n);
   goes = λ z.
       let y = x.goes z in
-      partly-on m w os way rows rest p t.walk (kept rows t.leaf t.row) (resume (walkFrom m) (way_of m t.walk)) y.0 y.2.0 y.2.2 (rows-kept rows t (os ++ p.ps) y.0 room p.hold y.1) y.2.1;
+      partly_on m w os way rows rest p t.walk (kept rows t.leaf t.row) (resume (walk_from m) (way_of m t.walk)) y.0 y.2.0 y.2.2 (rows-kept rows t (os ++ p.ps) y.0 room p.hold y.1) y.2.1;
 }
 
 -- the first turn of a walk, from a key
@@ -91,17 +91,17 @@ module _ (m : DependencyMap) (e : DependencyEnumerator) (f : Found) (k : ℕ) (t
   goes_first = record { walking = x.sound.walking; room = room-kept f t.leaf t.row room; ended = λ n. (x.sound.ended n).0; far = λ w os y. y }
 
   -- the walk from the key came as far as this turn
-  far-first : e.depth ≡ 0 → (s : List (ℕ × ℕ)) (os : List (List ℕ)) → Told m e s → Rows f os → Far m (walkFrom m k s) os t.number t.walk (kept f t.leaf t.row)
-  unfolding framesOf partly_none
+  far-first : e.depth ≡ 0 → (s : List (ℕ × ℕ)) (os : List (List ℕ)) → Told m e s → Rows f os → Far m (walk_from m k s) os t.number t.walk (kept f t.leaf t.row)
+  unfolding frames_of partly_none
   far-first top s os say hold =
-      far-turn m (walkFrom m k s) os e f (walkFrom m k) (partly_none m os e f (walkFrom m k) s hold say) t room (subst (λ (v : Walk). Turns m v t) start (x.turns s say))
+      far-turn m (walk_from m k s) os e f (walk_from m k) (partly_none m os e f (walk_from m k) s hold say) t room (subst (λ (v : Walk). Turns m v t) start (x.turns s say))
     where
-      start : upward (walkFrom m) (way_of m e) (walkFrom m k s) ≡ walkFrom m k s
-      start = rw top (upward-start (walkFrom m) (walkFrom m k s))
+      start : upward (walk_from m) (way_of m e) (walk_from m k s) ≡ walk_from m k s
+      start = rw top (upward-start (walk_from m) (walk_from m k s))
 
 -- nothing is left where the way down has no key
-resume-top : (m : DependencyMap) (way : DependencyEnumerator) (u : List (ℕ × ℕ)) → way.depth ≡ 0 → resume (walkFrom m) (way_of m way) u ≡ found [] u
-unfolding resume framesOf
+resume-top : (m : DependencyMap) (way : DependencyEnumerator) (u : List (ℕ × ℕ)) → way.depth ≡ 0 → resume (walk_from m) (way_of m way) u ≡ found [] u
+unfolding resume frames_of
 resume-top m way u top = rw top
 
 -- the loop over turns
@@ -122,7 +122,7 @@ module _ (m : DependencyMap) (number₀ : ℕ) (way₀ : DependencyEnumerator) (
     ended = λ n. (x.sound.ended n).0;
     far = λ w os y.
         let p = (g.far w os y).goes (not_stopped deep) in
-        far-turn m w os way rows (resume (walkFrom m) (way_of m way)) p t g.room (x.turns p.u p.say);
+        far-turn m w os way rows (resume (walk_from m) (way_of m way)) p t g.room (x.turns p.u p.say);
   }
 
   -- after the last turn
@@ -131,7 +131,7 @@ module _ (m : DependencyMap) (number₀ : ℕ) (way₀ : DependencyEnumerator) (
     stops = (g.far w os y).stops;
     goes = λ z.
         let p = (g.far w os y).goes z in
-        (p.ps, p.u, partly-done m w os way rows (resume (walkFrom m) (way_of m way)) p (resume-top m way p.u top), (p.hold, p.say));
+        (p.ps, p.u, partly_done m w os way rows (resume (walk_from m) (way_of m way)) p (resume-top m way p.u top), (p.hold, p.say));
   }
 
 -- what the walk from a key comes to, after the first turn and the loop
@@ -142,8 +142,8 @@ walked_all m e f k t rows₀ number way rows begin room x is g top = record {
   ended = top;
   room = g.room;
   came = λ s os say hold.
-      far-last m t.number t.walk rows₀ number way rows g top (walkFrom m k s) os
-      (subst (Far m (walkFrom m k s) os t.number t.walk) (sym is) (far-first m e f k t room x begin s os say hold));
+      far-last m t.number t.walk rows₀ number way rows g top (walk_from m k s) os
+      (subst (Far m (walk_from m k s) os t.number t.walk) (sym is) (far-first m e f k t room x begin s os say hold));
 }
 
 -- Dependency by dependency
@@ -151,26 +151,26 @@ walked_all m e f k t rows₀ number way rows begin room x is g top = record {
 -- from each of some keys, from place k on
 module _ (m : List Dependent) (ds : List ℕ) (s : List (ℕ × ℕ)) (k : ℕ) where
   -- the walk from the next key stops all
-  start-stops : (number : ℕ) → k < length ds → constructOrderings m (get_or ds k 0) s ≡ stopped number → overStart m (drop k ds) s ≡ stopped number
-  unfolding overStart goOn
+  start-stops : (number : ℕ) → k < length ds → construct_orderings m (get_or ds k 0) s ≡ stopped number → over_start m (drop k ds) s ≡ stopped number
+  unfolding over_start go_on
   start-stops number l e = rw (drop-cons ds k 0 l, e)
 
   -- the walk from the next key found something
-  start-on : (ps : List (List ℕ)) (u : List (ℕ × ℕ)) → k < length ds → constructOrderings m (get_or ds k 0) s ≡ found ps u → overStart m (drop k ds) s ≡ before ps (overStart m (drop (k + 1) ds) u)
-  unfolding overStart goOn before
+  start-on : (ps : List (List ℕ)) (u : List (ℕ × ℕ)) → k < length ds → construct_orderings m (get_or ds k 0) s ≡ found ps u → over_start m (drop k ds) s ≡ before ps (over_start m (drop (k + 1) ds) u)
+  unfolding over_start go_on before
   start-on ps u l e = rw (drop-cons ds k 0 l, e, add-one k)
 
   -- no key is left
-  start-ends : length ds ≤ k → overStart m (drop k ds) s ≡ found [] s
-  unfolding overStart
+  start-ends : length ds ≤ k → over_start m (drop k ds) s ≡ found [] s
+  unfolding over_start
   start-ends l = rw (drop_of_length-le ds l)
 
 -- the dependencies of the key at a place
-abbrev keysAt : DependencyMap → ℕ → List ℕ
-keysAt m i = (entry_at (decode m) i).dependencies
+abbrev keys_at : DependencyMap → ℕ → List ℕ
+keys_at m i = (entry_at (decode m) i).dependencies
 
 -- what the code reads at a place of the map has at most 16 dependencies
-pub node-short : (m : DependencyMap) → Held m → (i : ℕ) → i < m.count → (get_or m.list i noPlace).size ≤ 16
+pub node-short : (m : DependencyMap) → Held m → (i : ℕ) → i < m.count → (get_or m.list i no_place).size ≤ 16
 node-short m h i inside = rw (node-is m h i inside) (h.entries i inside).short
 
 -- the walks from the first k dependencies of a key are done, and those from the others are left
@@ -178,7 +178,7 @@ pub record Starts (m : DependencyMap) (i : ℕ) (f : Found) (walk : DependencyEn
   pub walking : Walking m walk
   pub top : walk.depth ≡ 0
   pub room : Room rows
-  pub goes : (os : List (List ℕ)) → Rows f os → Partly m (overStart (decode m) (keysAt m i) []) os walk rows (overStart (decode m) (drop k (keysAt m i)))
+  pub goes : (os : List (List ℕ)) → Rows f os → Partly m (over_start (decode m) (keys_at m i) []) os walk rows (over_start (decode m) (drop k (keys_at m i)))
 
 -- none is done
 pub starts_first : (m : DependencyMap) (i : ℕ) (f : Found) (walk : DependencyEnumerator) → walk ≡ fresh → Held m → Room f → Starts m i f walk f 0
@@ -186,17 +186,17 @@ starts_first m i f walk is h room = rw is (record {
   walking = walking-fresh m h;
   top = refl;
   room = room;
-  goes = λ os hold. partly_none m os fresh f (overStart (decode m) (keysAt m i)) [] hold (told_fresh m);
+  goes = λ os hold. partly_none m os fresh f (over_start (decode m) (keys_at m i)) [] hold (told_fresh m);
 })
 
 -- the loop over the dependencies of the key at a place, which is read as a node
 module _ (m : DependencyMap) (i : ℕ) (node : DependencyNode) (inside : i < m.count) (is : node ≡ place_in m i) where
   -- it has as many dependencies as the node says
-  size-read : length (keysAt m i) ≡ node.size
+  size-read : length (keys_at m i) ≡ node.size
   size-read = entry-size m i inside ∙ ap (λ (r : DependencyNode). r.size) (sym is)
 
   -- and those that stand there
-  key-read : (k : ℕ) → k < node.size → get_or (keysAt m i) k 0 ≡ get_or node.dependencies k 0
+  key-read : (k : ℕ) → k < node.size → get_or (keys_at m i) k 0 ≡ get_or node.dependencies k 0
   key-read k l =
       entry-dependency m i inside k (subst (λ (r : DependencyNode). k < r.size) is l)
       ∙ ap (λ (r : DependencyNode). get_or r.dependencies k 0) (sym is)
@@ -204,7 +204,7 @@ module _ (m : DependencyMap) (i : ℕ) (node : DependencyNode) (inside : i < m.c
   module _ (f : Found) (walk : DependencyEnumerator) (rows : Found) (k : ℕ) (g : Starts m i f walk rows k) where
     module _ (r : Constructed) (l : k < node.size) (x : Walked m walk rows (get_or node.dependencies k 0) r) where
       -- the walk from the next dependency
-      next-came : (s : List (ℕ × ℕ)) (os : List (List ℕ)) → Told m walk s → Rows rows os → Came (walkFrom m (get_or (keysAt m i) k 0) s) r.number os r.found (λ u. Told m r.walk u)
+      next-came : (s : List (ℕ × ℕ)) (os : List (List ℕ)) → Told m walk s → Rows rows os → Came (walk_from m (get_or (keys_at m i) k 0) s) r.number os r.found (λ u. Told m r.walk u)
       next-came s os say hold = rw (key-read k l) (x.came s os say hold)
 
       -- it is done
@@ -216,8 +216,8 @@ module _ (m : DependencyMap) (i : ℕ) (node : DependencyNode) (inside : i < m.c
         goes = λ os hold.
             let p = g.goes os hold in
             let y = (next-came p.u (os ++ p.ps) p.say p.hold).goes z in
-            partly-on m (overStart (decode m) (keysAt m i) []) os walk rows (overStart (decode m) (drop k (keysAt m i))) p r.walk r.found (overStart (decode m) (drop (k + 1) (keysAt m i))) y.0 y.1
-            (start-on (decode m) (keysAt m i) p.u k y.0 y.1 (omega (arith, size-read)) y.2) y.3.0 y.3.1;
+            partly_on m (over_start (decode m) (keys_at m i) []) os walk rows (over_start (decode m) (drop k (keys_at m i))) p r.walk r.found (over_start (decode m) (drop (k + 1) (keys_at m i))) y.0 y.1
+            (start-on (decode m) (keys_at m i) p.u k y.0 y.1 (omega (arith, size-read)) y.2) y.3.0 y.3.1;
       }
 
       -- it stops all
@@ -228,8 +228,8 @@ module _ (m : DependencyMap) (i : ℕ) (node : DependencyNode) (inside : i < m.c
             let p = g.goes os hold in
             record {
               stops = λ n'.
-                  partly-stops m (overStart (decode m) (keysAt m i) []) os walk rows (overStart (decode m) (drop k (keysAt m i))) p r.number
-                  (start-stops (decode m) (keysAt m i) p.u k r.number (omega (arith, size-read)) ((next-came p.u (os ++ p.ps) p.say p.hold).stops n));
+                  partly_stops m (over_start (decode m) (keys_at m i) []) os walk rows (over_start (decode m) (drop k (keys_at m i))) p r.number
+                  (start-stops (decode m) (keys_at m i) p.u k r.number (omega (arith, size-read)) ((next-came p.u (os ++ p.ps) p.say p.hold).stops n));
               goes = λ z. absurd (n z);
             };
       }
@@ -243,6 +243,6 @@ module _ (m : DependencyMap) (i : ℕ) (node : DependencyNode) (inside : i < m.c
           record {
             stops = λ n. absurd (n refl);
             goes = λ z.
-                (p.ps, p.u, partly-done m (overStart (decode m) (keysAt m i) []) os walk rows (overStart (decode m) (drop k (keysAt m i))) p (start-ends (decode m) (keysAt m i) p.u k (omega (arith, size-read))), (p.hold, tt));
+                (p.ps, p.u, partly_done m (over_start (decode m) (keys_at m i) []) os walk rows (over_start (decode m) (drop k (keys_at m i))) p (start-ends (decode m) (keys_at m i) p.u k (omega (arith, size-read))), (p.hold, tt));
           };
     }

@@ -3,16 +3,16 @@ use Rattle.std.specs.Prelude.{ℕ, zero, suc, ◌+◌, ◌*◌, ◌<◌, ◌≤�
 use Rattle.laws.specs.Lists.{table}
 use Rattle.laws.specs.Tests.{if◌then◌else◌}
 use Rattle.orderings.specs.Ordering.{pushed}
-use Rattle.orderings.specs.Lists.{orderingAt}
+use Rattle.orderings.specs.Lists.{ordering_at}
 use Rattle.orderings.specs.Layout.{row}
-use Rattle.orderings.specs.Inner.{extendedOf}
+use Rattle.orderings.specs.Inner.{extended_of}
 use Rattle.orderings.specs.declared.Extended.{Extended}
 use Rattle.dependencies.specs.Map.{entry_at}
 use Rattle.dependencies.specs.Layout.{decode, place_in}
 use Rattle.dependencies.specs.Inner.{Held}
 use Rattle.dependencies.specs.declared.DependencyNode.{DependencyNode}
 use Rattle.dependencies.specs.declared.DependencyMap.{DependencyMap}
-use Rattle.enumeration.specs.Walk.{Walk, found, stopped, goOn, isSeen, overDependencies, at_entry, constructOrderings, overStart}
+use Rattle.enumeration.specs.Walk.{Walk, found, stopped, go_on, is_seen, over_dependencies, at_entry, construct_orderings, over_start}
 use Rattle.enumeration.specs.Bounds.{fitting}
 use Rattle.enumeration.specs.declared.Frame.{Frame}
 use Rattle.enumeration.specs.declared.Seen.{Seen}
@@ -49,26 +49,26 @@ unfoldable pub hits : DependencyNode → ℕ → ℕ → ℕ → Bool
 hits r k t d = r.projected && eqb r.target t && eqb (get_or r.dependencies k 0) d
 
 -- the marks of an entry after the pair of t and d is marked
-unfoldable pub markedNode : DependencyNode → Seen → ℕ → ℕ → Seen
-markedNode r s t d = record { told = table (λ k. get_or s.told k false || hits r k t d) 16 }
+unfoldable pub marked_node : DependencyNode → Seen → ℕ → ℕ → Seen
+marked_node r s t d = record { told = table (λ k. get_or s.told k false || hits r k t d) 16 }
 
 -- the account after the pair is marked wherever it stands
 unfoldable pub marked : DependencyMap → DependencyEnumerator → ℕ → ℕ → DependencyEnumerator
-marked m e t d = record { depth = e.depth; frames = e.frames; seen = table (λ i. markedNode (place_in m i) (seen_at e i) t d) 64 }
+marked m e t d = record { depth = e.depth; frames = e.frames; seen = table (λ i. marked_node (place_in m i) (seen_at e i) t d) 64 }
 
 -- an account whose way down goes on to the key at a place
 unfoldable pub deeper : DependencyEnumerator → ℕ → DependencyEnumerator
 deeper e i = record { depth = e.depth + 1; frames = set e.frames e.depth (record { place = i; next = 0 }); seen = e.seen }
 
 -- how many of the first n places of marks are not marked
-unfoldable pub openOf : List Bool → ℕ → ℕ
-openOf ts zero = 0
-openOf ts (suc n) = openOf ts n + (if get_or ts n false then 0 else 1)
+unfoldable pub open_of : List Bool → ℕ → ℕ
+open_of ts zero = 0
+open_of ts (suc n) = open_of ts n + (if get_or ts n false then 0 else 1)
 
 -- how many places of the first n keys are not marked
 unfoldable pub open_in : List Seen → ℕ → ℕ
 open_in ss zero = 0
-open_in ss (suc n) = open_in ss n + openOf (get_or ss n unmarked).told 16
+open_in ss (suc n) = open_in ss n + open_of (get_or ss n unmarked).told 16
 
 -- how many places are not marked, of all 1,024
 unfoldable pub left : DependencyEnumerator → ℕ
@@ -97,7 +97,7 @@ pub record Walking (m : DependencyMap) (e : DependencyEnumerator) : Type 0 where
 
 -- the marks say which pairs were expanded
 pub record Told (m : DependencyMap) (e : DependencyEnumerator) (s : List (ℕ × ℕ)) : Type 0 where
-  pub is : (i k : ℕ) → i < m.count → k < (place_in m i).size → (place_in m i).projected ≡ true → told e i k ≡ isSeen (place_in m i).target (get_or (place_in m i).dependencies k 0) s
+  pub is : (i k : ℕ) → i < m.count → k < (place_in m i).size → (place_in m i).projected ≡ true → told e i k ≡ is_seen (place_in m i).target (get_or (place_in m i).dependencies k 0) s
 
 -- The way down
 
@@ -106,47 +106,47 @@ abbrev pub frame_of : DependencyMap → Frame → ℕ × List ℕ
 frame_of m f = ((place_in m f.place).target, drop f.next (entry_at (decode m) f.place).dependencies)
 
 -- the first n keys of the way down, the lowest first
-unfoldable pub framesOf : DependencyMap → DependencyEnumerator → ℕ → List (ℕ × List ℕ)
-framesOf m e zero = []
-framesOf m e (suc n) = frame_of m (frame_at e n) ∷ framesOf m e n
+unfoldable pub frames_of : DependencyMap → DependencyEnumerator → ℕ → List (ℕ × List ℕ)
+frames_of m e zero = []
+frames_of m e (suc n) = frame_of m (frame_at e n) ∷ frames_of m e n
 
 -- an ordering with the targets on the way up
-unfoldable pub upAll : List (ℕ × List ℕ) → List ℕ → List ℕ
-upAll [] o = o
-upAll (f ∷ fs) o = upAll fs (pushed o f.0)
+unfoldable pub up_all : List (ℕ × List ℕ) → List ℕ → List ℕ
+up_all [] o = o
+up_all (f ∷ fs) o = up_all fs (pushed o f.0)
 
 -- orderings before those of a walk
 unfoldable pub before : List (List ℕ) → Walk → Walk
-before os w = goOn w (λ qs v. found (os ++ qs) v)
+before os w = go_on w (λ qs v. found (os ++ qs) v)
 
 -- what is left of a walk whose way down is fs, by an account `at` of the walk from each key
 unfoldable pub resume : (ℕ → List (ℕ × ℕ) → Walk) → List (ℕ × List ℕ) → List (ℕ × ℕ) → Walk
 resume at [] s = found [] s
-resume at (f ∷ fs) s = goOn (overDependencies at f.0 f.1 s) (λ ps u. before (map (upAll fs) ps) (resume at fs u))
+resume at (f ∷ fs) s = go_on (over_dependencies at f.0 f.1 s) (λ ps u. before (map (up_all fs) ps) (resume at fs u))
 
 -- a walk whose orderings go up a way down, and what is left after it
 unfoldable pub upward : (ℕ → List (ℕ × ℕ) → Walk) → List (ℕ × List ℕ) → Walk → Walk
-upward at fs w = goOn w (λ ps u. before (map (upAll fs) ps) (resume at fs u))
+upward at fs w = go_on w (λ ps u. before (map (up_all fs) ps) (resume at fs u))
 
 -- the way down of an account
 abbrev pub way_of : DependencyMap → DependencyEnumerator → List (ℕ × List ℕ)
-way_of m e = framesOf m e e.depth
+way_of m e = frames_of m e e.depth
 
 -- the walk from each key of a map
-abbrev pub walkFrom : DependencyMap → ℕ → List (ℕ × ℕ) → Walk
-walkFrom m = constructOrderings (decode m)
+abbrev pub walk_from : DependencyMap → ℕ → List (ℕ × ℕ) → Walk
+walk_from m = construct_orderings (decode m)
 
 -- Turns
 
 -- the orderings that a turn found
 pub record Emits (t : Turned) (os : List (List ℕ)) : Type 0 where
   pub nothing : t.leaf ≡ false → os ≡ []
-  pub one : t.leaf ≡ true → (o : List ℕ) × (os ≡ o ∷ []) × (t.row ≡ extendedOf o)
+  pub one : t.leaf ≡ true → (o : List ℕ) × (os ≡ o ∷ []) × (t.row ≡ extended_of o)
 
 -- a turn begins a walk w: it stops it, or what it found comes before what is left
 pub record Turns (m : DependencyMap) (w : Walk) (t : Turned) : Type 0 where
   pub stops : (t.number ≡ 0 → ⊥) → w ≡ stopped t.number
-  pub goes : t.number ≡ 0 → (os : List (List ℕ)) × Emits t os × ((s : List (ℕ × ℕ)) × Told m t.walk s × (w ≡ before os (resume (walkFrom m) (way_of m t.walk) s)))
+  pub goes : t.number ≡ 0 → (os : List (List ℕ)) × Emits t os × ((s : List (ℕ × ℕ)) × Told m t.walk s × (w ≡ before os (resume (walk_from m) (way_of m t.walk) s)))
 
 -- a stopped walk has no way down
 pub record Sound (m : DependencyMap) (t : Turned) : Type 0 where
@@ -158,26 +158,26 @@ pub record Visited (m : DependencyMap) (e : DependencyEnumerator) (i : ℕ) (t :
   pub sound : Sound m t
   pub seen : t.walk.seen ≡ e.seen
   pub deep : t.walk.depth ≤ e.depth + 1
-  pub turns : (s : List (ℕ × ℕ)) → Told m e s → Turns m (upward (walkFrom m) (way_of m e) (at_entry (walkFrom m) (entry_at (decode m) i).target (entry_at (decode m) i).dependencies s)) t
+  pub turns : (s : List (ℕ × ℕ)) → Told m e s → Turns m (upward (walk_from m) (way_of m e) (at_entry (walk_from m) (entry_at (decode m) i).target (entry_at (decode m) i).dependencies s)) t
 
 -- what coming to a key comes to
 pub record Entered (m : DependencyMap) (e : DependencyEnumerator) (k : ℕ) (t : Turned) : Type 0 where
   pub sound : Sound m t
   pub seen : t.walk.seen ≡ e.seen
   pub deep : t.walk.depth ≤ e.depth + 1
-  pub turns : (s : List (ℕ × ℕ)) → Told m e s → Turns m (upward (walkFrom m) (way_of m e) (walkFrom m k s)) t
+  pub turns : (s : List (ℕ × ℕ)) → Told m e s → Turns m (upward (walk_from m) (way_of m e) (walk_from m k s)) t
 
 -- what one turn comes to
 pub record Went (m : DependencyMap) (e : DependencyEnumerator) (t : Turned) : Type 0 where
   pub sound : Sound m t
   pub less : 2 * left t.walk + t.walk.depth < 2 * left e + e.depth
-  pub turns : (s : List (ℕ × ℕ)) → Told m e s → Turns m (resume (walkFrom m) (way_of m e) s) t
+  pub turns : (s : List (ℕ × ℕ)) → Told m e s → Turns m (resume (walk_from m) (way_of m e) s) t
 
 -- Orderings that are found
 
 -- no orderings
-abbrev pub noneFound : Found
-noneFound = record { over = false; count = 0; rows = replicate 1024 (row []) }
+abbrev pub none_found : Found
+none_found = record { over = false; count = 0; rows = replicate 1024 (row []) }
 
 -- the struct has room for its orderings
 pub record Room (f : Found) : Type 0 where
@@ -195,7 +195,7 @@ kept f leaf o =
 pub record Rows (f : Found) (os : List (List ℕ)) : Type 0 where
   pub over : f.over ≡ not (fitting os)
   pub count : fitting os ≡ true → f.count ≡ length os
-  pub rows : fitting os ≡ true → (i : ℕ) → i < length os → get_or f.rows i (row []) ≡ row (orderingAt os i)
+  pub rows : fitting os ≡ true → (i : ℕ) → i < length os → get_or f.rows i (row []) ≡ row (ordering_at os i)
 
 -- a walk w came to a number; where it is 0, its orderings stand behind those before
 pub record Came (w : Walk) (number : ℕ) (os : List (List ℕ)) (f : Found) (P : List (ℕ × ℕ) → Type 0) : Type 0 where
@@ -207,9 +207,9 @@ pub record Walked (m : DependencyMap) (e : DependencyEnumerator) (f : Found) (k 
   pub walking : Walking m r.walk
   pub ended : r.walk.depth ≡ 0
   pub room : Room r.found
-  pub came : (s : List (ℕ × ℕ)) (os : List (List ℕ)) → Told m e s → Rows f os → Came (walkFrom m k s) r.number os r.found (λ u. Told m r.walk u)
+  pub came : (s : List (ℕ × ℕ)) (os : List (List ℕ)) → Told m e s → Rows f os → Came (walk_from m k s) r.number os r.found (λ u. Told m r.walk u)
 
 -- what the walks from a key's dependencies come to
 pub record Began (m : DependencyMap) (i : ℕ) (f : Found) (r : Prefixed) : Type 0 where
   pub room : Room r.found
-  pub came : (os : List (List ℕ)) → Rows f os → Came (overStart (decode m) (entry_at (decode m) i).dependencies []) r.number os r.found (λ u. Unit {0})
+  pub came : (os : List (List ℕ)) → Rows f os → Came (over_start (decode m) (entry_at (decode m) i).dependencies []) r.number os r.found (λ u. Unit {0})

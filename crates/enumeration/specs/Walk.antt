@@ -11,31 +11,31 @@ pub data Walk : Type 0 where
   stopped : ℕ → Walk
 
 -- a walk goes on after another, unless that stopped
-unfoldable pub goOn : Walk → (List (List ℕ) → List (ℕ × ℕ) → Walk) → Walk
-goOn (found os seen) f = f os seen
-goOn (stopped k) f = stopped k
+unfoldable pub go_on : Walk → (List (List ℕ) → List (ℕ × ℕ) → Walk) → Walk
+go_on (found os seen) f = f os seen
+go_on (stopped k) f = stopped k
 
 -- a pair was expanded
-unfoldable pub isSeen : ℕ → ℕ → List (ℕ × ℕ) → Bool
-isSeen t d [] = false
-isSeen t d (p ∷ ps) = (eqb p.0 t && eqb p.1 d) || isSeen t d ps
+unfoldable pub is_seen : ℕ → ℕ → List (ℕ × ℕ) → Bool
+is_seen t d [] = false
+is_seen t d (p ∷ ps) = (eqb p.0 t && eqb p.1 d) || is_seen t d ps
 
 -- over the dependencies of a target, by an account `at` of the walk from each: a pair that was expanded gives nothing, another is expanded, and the target is pushed to what is found
-unfoldable pub overDependencies : (ℕ → List (ℕ × ℕ) → Walk) → ℕ → List ℕ → List (ℕ × ℕ) → Walk
-overDependencies at t [] seen = found [] seen
-overDependencies at t (d ∷ ds) seen =
-    if isSeen t d seen then overDependencies at t ds seen
-    else goOn (at d (seen ++ ((t, d) ∷ []))) (λ os s. goOn (overDependencies at t ds s) (λ ps u. found (map (λ (o : List ℕ). pushed o t) os ++ ps) u))
+unfoldable pub over_dependencies : (ℕ → List (ℕ × ℕ) → Walk) → ℕ → List ℕ → List (ℕ × ℕ) → Walk
+over_dependencies at t [] seen = found [] seen
+over_dependencies at t (d ∷ ds) seen =
+    if is_seen t d seen then over_dependencies at t ds seen
+    else go_on (at d (seen ++ ((t, d) ∷ []))) (λ os s. go_on (over_dependencies at t ds s) (λ ps u. found (map (λ (o : List ℕ). pushed o t) os ++ ps) u))
 
 -- at a key with a target: the target alone where it depends on nothing
-unfoldable pub atTarget : (ℕ → List (ℕ × ℕ) → Walk) → ℕ → List ℕ → List (ℕ × ℕ) → Walk
-atTarget at t [] seen = found ((t ∷ []) ∷ []) seen
-atTarget at t (d ∷ ds) seen = overDependencies at t (d ∷ ds) seen
+unfoldable pub at_target : (ℕ → List (ℕ × ℕ) → Walk) → ℕ → List ℕ → List (ℕ × ℕ) → Walk
+at_target at t [] seen = found ((t ∷ []) ∷ []) seen
+at_target at t (d ∷ ds) seen = over_dependencies at t (d ∷ ds) seen
 
 -- at an entry: 7 where it has no target
 unfoldable pub at_entry : (ℕ → List (ℕ × ℕ) → Walk) → Option ℕ → List ℕ → List (ℕ × ℕ) → Walk
 at_entry at none ds seen = stopped 7
-at_entry at (some t) ds seen = atTarget at t ds seen
+at_entry at (some t) ds seen = at_target at t ds seen
 
 -- at a place of the map: 6 where the key has none
 unfoldable pub at_place : (ℕ → List (ℕ × ℕ) → Walk) → List Dependent → Option ℕ → List (ℕ × ℕ) → Walk
@@ -53,18 +53,18 @@ pairs [] = 0
 pairs (d ∷ ds) = length d.dependencies + pairs ds
 
 -- the walk from a key: each pair is expanded once, so no way down is longer than there are pairs
-unfoldable pub constructOrderings : List Dependent → ℕ → List (ℕ × ℕ) → Walk
-constructOrderings m k seen = constructed (suc (pairs m)) m k seen
+unfoldable pub construct_orderings : List Dependent → ℕ → List (ℕ × ℕ) → Walk
+construct_orderings m k seen = constructed (suc (pairs m)) m k seen
 
 -- from each of some keys, one after the other, by one account of the pairs
-unfoldable pub overStart : List Dependent → List ℕ → List (ℕ × ℕ) → Walk
-overStart m [] seen = found [] seen
-overStart m (d ∷ ds) seen = goOn (constructOrderings m d seen) (λ os s. goOn (overStart m ds s) (λ ps u. found (os ++ ps) u))
+unfoldable pub over_start : List Dependent → List ℕ → List (ℕ × ℕ) → Walk
+over_start m [] seen = found [] seen
+over_start m (d ∷ ds) seen = go_on (construct_orderings m d seen) (λ os s. go_on (over_start m ds s) (λ ps u. found (os ++ ps) u))
 
 -- the prefix orderings of a key: it must be in the map (6) but needs no target
-unfoldable pub prefixOrderings : List Dependent → ℕ → Walk
-prefixOrderings m k = start_at (place_of m k)
+unfoldable pub prefix_orderings : List Dependent → ℕ → Walk
+prefix_orderings m k = start_at (place_of m k)
   where
     start_at : Option ℕ → Walk
     start_at none = stopped 6
-    start_at (some i) = overStart m (entry_at m i).dependencies []
+    start_at (some i) = over_start m (entry_at m i).dependencies []

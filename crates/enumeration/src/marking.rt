@@ -1,6 +1,6 @@
 // The account of expanded pairs: a pair of target and dependency is marked wherever it stands in the map.
 ghost use Rattle.std.specs.Prelude.{false, ◌||◌, ◌≡◌, ◌≤◌, ◌<◌, get_or};
-ghost use Rattle.enumeration.specs.Inner.{hits, markedNode, marked, fresh, Opened};
+ghost use Rattle.enumeration.specs.Inner.{hits, marked_node, marked, fresh, Opened};
 
 use crate::{DependencyEnumerator, Frame, Seen};
 use dependencies::{DependencyMap, DependencyNode};
@@ -43,7 +43,7 @@ fn told_after(node: DependencyNode, seen: Seen, k: usize, target: u16, dependenc
 
 // The marks of an entry after a pair is marked.
 fn mark_node(node: DependencyNode, seen: Seen, target: u16, dependency: u16) -> Seen
-    ensures { result ≡ markedNode node seen target dependency }
+    ensures { result ≡ marked_node node seen target dependency }
 {
     let mut out = Seen { told: [false; 16] };
     let mut k = 0;

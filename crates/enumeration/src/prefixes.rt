@@ -1,7 +1,7 @@
 // The prefix orderings of a key of the map: the orderings that lead to its dependencies, by one account of the pairs.
 ghost use Rattle.std.specs.Prelude.{◌≡◌, ◌<◌};
 ghost use Rattle.dependencies.specs.Inner.{Held};
-ghost use Rattle.enumeration.specs.Inner.{Room, noneFound, Began};
+ghost use Rattle.enumeration.specs.Inner.{Room, none_found, Began};
 
 use crate::marking::new_enumerator;
 use crate::walking::construct_orderings;
@@ -11,7 +11,7 @@ use orderings::making::nothing;
 
 // No orderings.
 pub fn nothing_found() -> Found
-    ensures { result ≡ noneFound }
+    ensures { result ≡ none_found }
 {
     Found {
         over: false,

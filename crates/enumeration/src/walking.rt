@@ -1,7 +1,7 @@
 // The walk from a key (`construct_orderings`): turn by turn, each pair of target and dependency expanded once.
 ghost use Rattle.std.specs.Prelude.{true, false, [], ◌∷◌, ◌≡◌, ◌≤◌, ◌<◌, ◌+◌};
-ghost use Rattle.orderings.specs.Inner.{extendedOf};
-ghost use Rattle.enumeration.specs.Inner.{Walking, Room, upAll, framesOf, left, deeper, Visited, Entered, Went, kept, Walked};
+ghost use Rattle.orderings.specs.Inner.{extended_of};
+ghost use Rattle.enumeration.specs.Inner.{Walking, Room, up_all, frames_of, left, deeper, Visited, Entered, Went, kept, Walked};
 
 use crate::marking::{mark, next_open};
 use crate::{Constructed, DependencyEnumerator, Found, Frame, Turned};
@@ -15,7 +15,7 @@ use orderings::pushing::push;
 // The ordering that a target at the end of the way down begins: it, and the targets on the way up.
 fn way_up(m: DependencyMap, walk: DependencyEnumerator, target: u16) -> Extended
     requires { Walking m walk }
-    ensures { result ≡ extendedOf (upAll (framesOf m walk walk.depth) (target ∷ [])) }
+    ensures { result ≡ extended_of (up_all (frames_of m walk walk.depth) (target ∷ [])) }
 {
     let first = push(nothing(), target);
     let mut out = first.ordering;
@@ -39,7 +39,7 @@ fn way_up(m: DependencyMap, walk: DependencyEnumerator, target: u16) -> Extended
 
 // The walk stops with a number.
 fn stop(walk: DependencyEnumerator, number: u32) -> Turned
-    ensures { result ≡ record { number = number; leaf = false; row = extendedOf []; walk = record { depth = 0; frames = walk.frames; seen = walk.seen } } }
+    ensures { result ≡ record { number = number; leaf = false; row = extended_of []; walk = record { depth = 0; frames = walk.frames; seen = walk.seen } } }
 {
     let mut ended = walk;
     ended.depth = 0;
@@ -56,7 +56,7 @@ fn stop(walk: DependencyEnumerator, number: u32) -> Turned
 
 // The walk goes on, and nothing was found.
 fn go_on(walk: DependencyEnumerator) -> Turned
-    ensures { result ≡ record { number = 0; leaf = false; row = extendedOf []; walk = walk } }
+    ensures { result ≡ record { number = 0; leaf = false; row = extended_of []; walk = walk } }
 {
     Turned {
         number: 0,
@@ -72,7 +72,7 @@ fn go_on(walk: DependencyEnumerator) -> Turned
 // The walk goes one key down.
 fn go_down(walk: DependencyEnumerator, place: usize) -> Turned
     requires { walk.depth < 1025 }
-    ensures { result ≡ record { number = 0; leaf = false; row = extendedOf []; walk = deeper walk place } }
+    ensures { result ≡ record { number = 0; leaf = false; row = extended_of []; walk = deeper walk place } }
 {
     let at = walk.depth;
     let mut next = walk;

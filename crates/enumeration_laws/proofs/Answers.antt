@@ -17,38 +17,38 @@ use Rattle.laws.proofs.Table.{table_is}
 use Rattle.arena.specs.Layout.{count, lawful}
 use Rattle.classes.specs.Group.{among}
 use Rattle.classes.proofs.Places.{among-place, among-left, among-right, one-among}
-use Rattle.orderings.specs.Ordering.{exprOf, optionsOf}
-use Rattle.orderings.specs.Lists.{orderingAt}
+use Rattle.orderings.specs.Ordering.{expr_of, options_of}
+use Rattle.orderings.specs.Lists.{ordering_at}
 use Rattle.orderings.proofs.OneOrdering.{NoneTwice}
-use Rattle.reduction.specs.Lent.{keyCount, exprLent, optionsLent, nextList, eachRest, each-end, each_next, eachList, optionsKnown, whole, keysLent, listsRest, lists-end, lists-next, listsLent}
-use Rattle.sort_keys.specs.Layout.{noneCut, optionsKnown as keyOptionsKnown}
+use Rattle.reduction.specs.Lent.{key_count, expr_lent, options_lent, next_list, each_rest, each_end, each_next, each_list, options_known, whole, keys_lent, lists_rest, lists_end, lists-next, lists_lent}
+use Rattle.sort_keys.specs.Layout.{none_cut, options_known as key_options_known}
 use Rattle.dependencies.specs.Map.{Dependent}
-use Rattle.dependencies.specs.Layout.{decode, lawfulMap, keysInside}
-use Rattle.dependencies.specs.Calls.{mapNumber}
+use Rattle.dependencies.specs.Layout.{decode, lawful_map, keys_inside}
+use Rattle.dependencies.specs.Calls.{map_number}
 use Rattle.dependencies.specs.declared.DependencyMap.{DependencyMap}
-use Rattle.enumeration.specs.Walk.{Walk, found, stopped, prefixOrderings}
+use Rattle.enumeration.specs.Walk.{Walk, found, stopped, prefix_orderings}
 use Rattle.enumeration.specs.Bounds.{fitting}
 use Rattle.products.specs.Generate.{Lists, lists, stops, with_list, contributing, generated}
 use Rattle.dependency_orderings.proofs.WrittenLaws.{numbers-length}
-use Rattle.dependency_orderings.specs.Output.{numbersOf, written, writtenAll}
-use Rattle.dependency_orderings.specs.Calls.{refusedWith, writes, answered, walkAnswer, prefixNumber, prefixAnswer, generateNumber, gatheredAnswer, different, generateAnswer}
+use Rattle.dependency_orderings.specs.Output.{numbers_of, written, written_all}
+use Rattle.dependency_orderings.specs.Calls.{refused_with, writes, answered, walk_answer, prefix_number, prefix_answer, generate_number, gathered_answer, different, generate_answer}
 use Rattle.dependency_orderings.specs.declared.Enumerated.{Enumerated}
 use Rattle.enumeration_laws.proofs.Walked.{prefix-stops, contributing-stops, All, IsTarget, keys-are-targets, expressions-once}
-use Rattle.enumeration_laws.proofs.Generated.{keys-from-lists, expressions-once as generated-once}
+use Rattle.enumeration_laws.proofs.Generated.{keys_from-lists, expressions-once as generated-once}
 
 -- ---- what a call comes to
 
 -- the numbers that a call can answer: 0, or a refusal's, in document 01's order
-abbrev pub answerNumbers : List ℕ
-answerNumbers = 0 ∷ 12 ∷ 11 ∷ 1 ∷ 6 ∷ 7 ∷ 5 ∷ 8 ∷ []
+abbrev pub answer_numbers : List ℕ
+answer_numbers = 0 ∷ 12 ∷ 11 ∷ 1 ∷ 6 ∷ 7 ∷ 5 ∷ 8 ∷ []
 
 -- what a call comes to: orderings with a certain origin, written; or a refusal, with the output as it was
 data Comes (Origin : List (List ℕ) → Type 0) (out : List ℕ) : Enumerated × List ℕ → Type 0 where
-  wrote : (os : List (List ℕ)) → Origin os → fitting os ≡ true → length (writtenAll os) ≤ length out → Comes Origin out (writes os out)
-  refused : (k : ℕ) → (k ≡ 0 → ⊥) → among k answerNumbers ≡ true → Comes Origin out (refusedWith k, out)
+  wrote : (os : List (List ℕ)) → Origin os → fitting os ≡ true → length (written_all os) ≤ length out → Comes Origin out (writes os out)
+  refused : (k : ℕ) → (k ≡ 0 → ⊥) → among k answer_numbers ≡ true → Comes Origin out (refused_with k, out)
 
 -- what a walk stops with
-walk_refused : (Origin : List (List ℕ) → Type 0) (out : List ℕ) (k : ℕ) → (k ≡ 6) ⊎ (k ≡ 7) → Comes Origin out (refusedWith k, out)
+walk_refused : (Origin : List (List ℕ) → Type 0) (out : List ℕ) (k : ℕ) → (k ≡ 6) ⊎ (k ≡ 7) → Comes Origin out (refused_with k, out)
 unfolding among
 walk_refused Origin out k (inl e) = refused k (λ z. omega arith) (rw e)
 walk_refused Origin out k (inr e) = refused k (λ z. omega arith) (rw e)
@@ -56,20 +56,20 @@ walk_refused Origin out k (inr e) = refused k (λ z. omega arith) (rw e)
 -- the answer with some orderings
 answered-comes : (Origin : List (List ℕ) → Type 0) (out : List ℕ) (os : List (List ℕ)) → Origin os → Comes Origin out (answered os out)
 unfolding answered among
-answered-comes Origin out os from = go (fitting os) (leb (length (writtenAll os)) (length out)) refl refl
+answered-comes Origin out os from = go (fitting os) (leb (length (written_all os)) (length out)) refl refl
   where
-    go : (a b : Bool) → fitting os ≡ a → leb (length (writtenAll os)) (length out) ≡ b
-        → Comes Origin out (if a then (if b then writes os out else (refusedWith 8, out)) else (refusedWith 5, out))
-    go true true p q = wrote os from p (leb-true (length (writtenAll os)) (length out) q)
+    go : (a b : Bool) → fitting os ≡ a → leb (length (written_all os)) (length out) ≡ b
+        → Comes Origin out (if a then (if b then writes os out else (refused_with 8, out)) else (refused_with 5, out))
+    go true true p q = wrote os from p (leb-true (length (written_all os)) (length out) q)
     go true false p q = refused 8 (λ z. omega arith) refl
     go false b p q = refused 5 (λ z. omega arith) refl
 
 -- the number of a map's check is one of them
-map-known : (cells : List ℕ) (m : DependencyMap) → among (mapNumber cells m) answerNumbers ≡ true
-unfolding mapNumber among
-map-known cells m = go (lawful cells && lawfulMap m) (keysInside (count cells) m)
+map-known : (cells : List ℕ) (m : DependencyMap) → among (map_number cells m) answer_numbers ≡ true
+unfolding map_number among
+map-known cells m = go (lawful cells && lawful_map m) (keys_inside (count cells) m)
   where
-    go : (a b : Bool) → among (if a then (if b then 0 else 1) else 11) answerNumbers ≡ true
+    go : (a b : Bool) → among (if a then (if b then 0 else 1) else 11) answer_numbers ≡ true
     go true true = refl
     go true false = refl
     go false b = refl
@@ -79,38 +79,38 @@ map-known cells m = go (lawful cells && lawfulMap m) (keysInside (count cells) m
 -- orderings are the prefix orderings of a key, by an account of the pairs that were expanded
 pub record PrefixesOf (m : List Dependent) (k : ℕ) (os : List (List ℕ)) : Type 0 where
   pub account : List (ℕ × ℕ)
-  pub are : prefixOrderings m k ≡ found os account
+  pub are : prefix_orderings m k ≡ found os account
 
 -- the number of the check is one of them
-prefix-known : (cells : List ℕ) (m : DependencyMap) (e options : ℕ) → among (prefixNumber cells m e options) answerNumbers ≡ true
-unfolding prefixNumber among
-prefix-known cells m e options = go (leb options 3) (eqb (mapNumber cells m) 0) (ltb e (count cells))
+prefix-known : (cells : List ℕ) (m : DependencyMap) (e options : ℕ) → among (prefix_number cells m e options) answer_numbers ≡ true
+unfolding prefix_number among
+prefix-known cells m e options = go (leb options 3) (eqb (map_number cells m) 0) (ltb e (count cells))
   where
-    go : (a b c : Bool) → among (if a then (if b then (if c then 0 else 1) else mapNumber cells m) else 12) answerNumbers ≡ true
+    go : (a b c : Bool) → among (if a then (if b then (if c then 0 else 1) else map_number cells m) else 12) answer_numbers ≡ true
     go true true true = refl
     go true true false = refl
     go true false c = map-known cells m
     go false b c = refl
 
 -- the answer with what the walk came to
-walk-comes : (m : List Dependent) (k : ℕ) (out : List ℕ) (w : Walk) → prefixOrderings m k ≡ w → Comes (PrefixesOf m k) out (walkAnswer w out)
-unfolding walkAnswer
+walk-comes : (m : List Dependent) (k : ℕ) (out : List ℕ) (w : Walk) → prefix_orderings m k ≡ w → Comes (PrefixesOf m k) out (walk_answer w out)
+unfolding walk_answer
 walk-comes m k out (stopped j) e = walk_refused (PrefixesOf m k) out j (prefix-stops m k j e)
 walk-comes m k out (found os s) e = answered-comes (PrefixesOf m k) out os (record { account = s; are = e })
 
 -- what the call on one key comes to
-prefix-comes : (cells : List ℕ) (m : DependencyMap) (e options : ℕ) (out : List ℕ) → Comes (PrefixesOf (decode m) (e * 4 + options)) out (prefixAnswer cells m e options out)
-unfolding prefixAnswer
+prefix-comes : (cells : List ℕ) (m : DependencyMap) (e options : ℕ) (out : List ℕ) → Comes (PrefixesOf (decode m) (e * 4 + options)) out (prefix_answer cells m e options out)
+unfolding prefix_answer
 prefix-comes cells m e options out = go (eqb n 0) refl
   where
     n : ℕ
-    n = prefixNumber cells m e options
+    n = prefix_number cells m e options
 
     k : ℕ
     k = e * 4 + options
 
-    go : (b : Bool) → eqb n 0 ≡ b → Comes (PrefixesOf (decode m) k) out (if b then walkAnswer (prefixOrderings (decode m) k) out else (refusedWith n, out))
-    go true q = walk-comes (decode m) k out (prefixOrderings (decode m) k) refl
+    go : (b : Bool) → eqb n 0 ≡ b → Comes (PrefixesOf (decode m) k) out (if b then walk_answer (prefix_orderings (decode m) k) out else (refused_with n, out))
+    go true q = walk-comes (decode m) k out (prefix_orderings (decode m) k) refl
     go false q = refused n (eqb-false n 0 q) (prefix-known cells m e options)
 
 -- ---- generated orderings
@@ -124,12 +124,12 @@ pub record GeneratedBy (m : List Dependent) (ks : List ℕ) (os : List (List ℕ
   pub are : os ≡ generated contributed
 
 -- the number of the check is one of them
-generate-known : (cells : List ℕ) (m : DependencyMap) (numbers : List ℕ) → among (generateNumber cells m numbers) answerNumbers ≡ true
-unfolding generateNumber among
-generate-known cells m numbers =
-    go (keyOptionsKnown numbers) (noneCut numbers) (eqb (mapNumber cells m) 0) (each (λ k. ltb (get_or numbers (2 * k) 0) (count cells)) (length numbers / 2))
+generate_known : (cells : List ℕ) (m : DependencyMap) (numbers : List ℕ) → among (generate_number cells m numbers) answer_numbers ≡ true
+unfolding generate_number among
+generate_known cells m numbers =
+    go (key_options_known numbers) (none_cut numbers) (eqb (map_number cells m) 0) (each (λ k. ltb (get_or numbers (2 * k) 0) (count cells)) (length numbers / 2))
   where
-    go : (a b c d : Bool) → among (if a then (if b then (if c then (if d then 0 else 1) else mapNumber cells m) else 11) else 12) answerNumbers ≡ true
+    go : (a b c d : Bool) → among (if a then (if b then (if c then (if d then 0 else 1) else map_number cells m) else 11) else 12) answer_numbers ≡ true
     go true true true true = refl
     go true true true false = refl
     go true true false d = map-known cells m
@@ -137,32 +137,32 @@ generate-known cells m numbers =
     go false b c d = refl
 
 -- the answer with what the walks came to
-gathered-comes : (m : List Dependent) (ks out : List ℕ) (x : Lists) → contributing m ks ≡ x → Comes (GeneratedBy m ks) out (gatheredAnswer x (length ks) out)
-unfolding gatheredAnswer among
-gathered-comes m ks out (stops j) e = walk_refused (GeneratedBy m ks) out j (contributing-stops m ks j e)
-gathered-comes m ks out (lists ls) e = go (leb (length ks) 16 && leb (length ls) 6) refl
+gathered_comes : (m : List Dependent) (ks out : List ℕ) (x : Lists) → contributing m ks ≡ x → Comes (GeneratedBy m ks) out (gathered_answer x (length ks) out)
+unfolding gathered_answer among
+gathered_comes m ks out (stops j) e = walk_refused (GeneratedBy m ks) out j (contributing-stops m ks j e)
+gathered_comes m ks out (lists ls) e = go (leb (length ks) 16 && leb (length ls) 6) refl
   where
     go : (b : Bool) → (leb (length ks) 16 && leb (length ls) 6) ≡ b
-        → Comes (GeneratedBy m ks) out (if b then answered (generated ls) out else (refusedWith 5, out))
+        → Comes (GeneratedBy m ks) out (if b then answered (generated ls) out else (refused_with 5, out))
     go true q =
         answered-comes (GeneratedBy m ks) out (generated ls)
         (record { few-keys = leb-true (length ks) 16 (and_left (leb (length ks) 16) (leb (length ls) 6) q); contributed = ls; contribute = e; few-lists = leb-true (length ls) 6 (and_right (leb (length ks) 16) (leb (length ls) 6) q); are = refl })
     go false q = refused 5 (λ z. omega arith) refl
 
 -- what the call on several keys comes to
-generate-comes : (cells : List ℕ) (m : DependencyMap) (numbers out : List ℕ) → Comes (GeneratedBy (decode m) (different numbers)) out (generateAnswer cells m numbers out)
-unfolding generateAnswer
-generate-comes cells m numbers out = go (eqb n 0) refl
+generate_comes : (cells : List ℕ) (m : DependencyMap) (numbers out : List ℕ) → Comes (GeneratedBy (decode m) (different numbers)) out (generate_answer cells m numbers out)
+unfolding generate_answer
+generate_comes cells m numbers out = go (eqb n 0) refl
   where
     n : ℕ
-    n = generateNumber cells m numbers
+    n = generate_number cells m numbers
 
     ks : List ℕ
     ks = different numbers
 
-    go : (b : Bool) → eqb n 0 ≡ b → Comes (GeneratedBy (decode m) ks) out (if b then gatheredAnswer (contributing (decode m) ks) (length ks) out else (refusedWith n, out))
-    go true q = gathered-comes (decode m) ks out (contributing (decode m) ks) refl
-    go false q = refused n (eqb-false n 0 q) (generate-known cells m numbers)
+    go : (b : Bool) → eqb n 0 ≡ b → Comes (GeneratedBy (decode m) ks) out (if b then gathered_answer (contributing (decode m) ks) (length ks) out else (refused_with n, out))
+    go true q = gathered_comes (decode m) ks out (contributing (decode m) ks) refl
+    go false q = refused n (eqb-false n 0 q) (generate_known cells m numbers)
 
 -- ---- what is written, what stays, what a refusal is
 
@@ -172,9 +172,9 @@ pub record Written (Origin : List (List ℕ) → Type 0) (out : List ℕ) (r : E
   pub origin : Origin orderings
   pub fits : fitting orderings ≡ true
   pub counted : r.0.count ≡ length orderings
-  pub places : r.0.used ≡ length (writtenAll orderings)
+  pub places : r.0.used ≡ length (written_all orderings)
   pub room : r.0.used ≤ length out
-  pub output : r.1 ≡ writtenAll orderings ++ drop r.0.used out
+  pub output : r.1 ≡ written_all orderings ++ drop r.0.used out
 
 -- what stays: the output has its length, and each place past those that are used is as it was
 pub record RestKept (out : List ℕ) (r : Enumerated × List ℕ) : Type 0 where
@@ -200,7 +200,7 @@ comes-refused Origin out r (wrote os from f l) n = absurd (n refl)
 comes-refused Origin out r (refused k n h) z = record { unchanged = refl; none-counted = refl; none-used = refl }
 
 -- and which it can be
-comes-numbers : (Origin : List (List ℕ) → Type 0) (out : List ℕ) (r : Enumerated × List ℕ) → Comes Origin out r → among r.0.number answerNumbers ≡ true
+comes-numbers : (Origin : List (List ℕ) → Type 0) (out : List ℕ) (r : Enumerated × List ℕ) → Comes Origin out r → among r.0.number answer_numbers ≡ true
 unfolding writes among
 comes-numbers Origin out r (wrote os from f l) = refl
 comes-numbers Origin out r (refused k n h) = h
@@ -220,7 +220,7 @@ written_keeps Origin out r w = record {
     n = r.0.used
 
     ws : List ℕ
-    ws = writtenAll w.orderings
+    ws = written_all w.orderings
 
     rest : List ℕ
     rest = drop n out
@@ -229,36 +229,36 @@ written_keeps Origin out r w = record {
 
 module _ (cells : List ℕ) (m : DependencyMap) (out : List ℕ) where
   -- where the number is 0, the prefix orderings of the key are written
-  pub prefix-written : (e options : ℕ) → (prefixAnswer cells m e options out).0.number ≡ 0 → Written (PrefixesOf (decode m) (e * 4 + options)) out (prefixAnswer cells m e options out)
-  prefix-written e options = comes-written (PrefixesOf (decode m) (e * 4 + options)) out (prefixAnswer cells m e options out) (prefix-comes cells m e options out)
+  pub prefix-written : (e options : ℕ) → (prefix_answer cells m e options out).0.number ≡ 0 → Written (PrefixesOf (decode m) (e * 4 + options)) out (prefix_answer cells m e options out)
+  prefix-written e options = comes-written (PrefixesOf (decode m) (e * 4 + options)) out (prefix_answer cells m e options out) (prefix-comes cells m e options out)
 
   -- where the number is 0, the orderings that the different keys among those given generate are written
-  pub generate-written : (numbers : List ℕ) → (generateAnswer cells m numbers out).0.number ≡ 0 → Written (GeneratedBy (decode m) (different numbers)) out (generateAnswer cells m numbers out)
-  generate-written numbers = comes-written (GeneratedBy (decode m) (different numbers)) out (generateAnswer cells m numbers out) (generate-comes cells m numbers out)
+  pub generate_written : (numbers : List ℕ) → (generate_answer cells m numbers out).0.number ≡ 0 → Written (GeneratedBy (decode m) (different numbers)) out (generate_answer cells m numbers out)
+  generate_written numbers = comes-written (GeneratedBy (decode m) (different numbers)) out (generate_answer cells m numbers out) (generate_comes cells m numbers out)
 
   -- where the number is 0, the output has its length and each place past those that are used is as it was: of both calls
-  pub rest-kept : ((e options : ℕ) → (prefixAnswer cells m e options out).0.number ≡ 0 → RestKept out (prefixAnswer cells m e options out))
-      × ((numbers : List ℕ) → (generateAnswer cells m numbers out).0.number ≡ 0 → RestKept out (generateAnswer cells m numbers out))
+  pub rest-kept : ((e options : ℕ) → (prefix_answer cells m e options out).0.number ≡ 0 → RestKept out (prefix_answer cells m e options out))
+      × ((numbers : List ℕ) → (generate_answer cells m numbers out).0.number ≡ 0 → RestKept out (generate_answer cells m numbers out))
   rest-kept = (
-    (λ e options z. written_keeps (PrefixesOf (decode m) (e * 4 + options)) out (prefixAnswer cells m e options out) (prefix-written e options z)),
-    (λ numbers z. written_keeps (GeneratedBy (decode m) (different numbers)) out (generateAnswer cells m numbers out) (generate-written numbers z)),
+    (λ e options z. written_keeps (PrefixesOf (decode m) (e * 4 + options)) out (prefix_answer cells m e options out) (prefix-written e options z)),
+    (λ numbers z. written_keeps (GeneratedBy (decode m) (different numbers)) out (generate_answer cells m numbers out) (generate_written numbers z)),
   )
 
   -- where the number is not 0, nothing is written and nothing reported
-  pub prefix-refused : (e options : ℕ) → ((prefixAnswer cells m e options out).0.number ≡ 0 → ⊥) → Refused out (prefixAnswer cells m e options out)
-  prefix-refused e options = comes-refused (PrefixesOf (decode m) (e * 4 + options)) out (prefixAnswer cells m e options out) (prefix-comes cells m e options out)
+  pub prefix-refused : (e options : ℕ) → ((prefix_answer cells m e options out).0.number ≡ 0 → ⊥) → Refused out (prefix_answer cells m e options out)
+  prefix-refused e options = comes-refused (PrefixesOf (decode m) (e * 4 + options)) out (prefix_answer cells m e options out) (prefix-comes cells m e options out)
 
   -- likewise with several keys
-  pub generate-refused : (numbers : List ℕ) → ((generateAnswer cells m numbers out).0.number ≡ 0 → ⊥) → Refused out (generateAnswer cells m numbers out)
-  generate-refused numbers = comes-refused (GeneratedBy (decode m) (different numbers)) out (generateAnswer cells m numbers out) (generate-comes cells m numbers out)
+  pub generate_refused : (numbers : List ℕ) → ((generate_answer cells m numbers out).0.number ≡ 0 → ⊥) → Refused out (generate_answer cells m numbers out)
+  generate_refused numbers = comes-refused (GeneratedBy (decode m) (different numbers)) out (generate_answer cells m numbers out) (generate_comes cells m numbers out)
 
   -- the number is 0, 12, 11, 1, 6, 7, 5 or 8
-  pub prefix-numbers : (e options : ℕ) → among (prefixAnswer cells m e options out).0.number answerNumbers ≡ true
-  prefix-numbers e options = comes-numbers (PrefixesOf (decode m) (e * 4 + options)) out (prefixAnswer cells m e options out) (prefix-comes cells m e options out)
+  pub prefix-numbers : (e options : ℕ) → among (prefix_answer cells m e options out).0.number answer_numbers ≡ true
+  prefix-numbers e options = comes-numbers (PrefixesOf (decode m) (e * 4 + options)) out (prefix_answer cells m e options out) (prefix-comes cells m e options out)
 
   -- likewise with several keys
-  pub generate-numbers : (numbers : List ℕ) → among (generateAnswer cells m numbers out).0.number answerNumbers ≡ true
-  generate-numbers numbers = comes-numbers (GeneratedBy (decode m) (different numbers)) out (generateAnswer cells m numbers out) (generate-comes cells m numbers out)
+  pub generate_numbers : (numbers : List ℕ) → among (generate_answer cells m numbers out).0.number answer_numbers ≡ true
+  generate_numbers numbers = comes-numbers (GeneratedBy (decode m) (different numbers)) out (generate_answer cells m numbers out) (generate_comes cells m numbers out)
 
 -- ---- the keys of an answer
 
@@ -285,20 +285,20 @@ abbrev pub AllPrefixes : List Dependent → List ℕ → List (List (List ℕ)) 
 AllPrefixes m ks ls = (j : ℕ) → j < length ls → PrefixesOfOne m ks (get_or ls j [])
 
 -- with one key more, the lists of the others are still
-others-still : (m : List Dependent) (k : ℕ) (ks : List ℕ) (ls : List (List (List ℕ))) → AllPrefixes m ks ls → AllPrefixes m (k ∷ ks) ls
-others-still m k ks ls a j l = let r = a j l in record { key = r.key; is_one = among-right r.key (k ∷ []) ks r.is_one; prefixes = r.prefixes }
+others_still : (m : List Dependent) (k : ℕ) (ks : List ℕ) (ls : List (List (List ℕ))) → AllPrefixes m ks ls → AllPrefixes m (k ∷ ks) ls
+others_still m k ks ls a j l = let r = a j l in record { key = r.key; is_one = among-right r.key (k ∷ []) ks r.is_one; prefixes = r.prefixes }
 
 -- and so is the key's own list before them
 with_first : (m : List Dependent) (k : ℕ) (ks : List ℕ) (os : List (List ℕ)) (ls : List (List (List ℕ))) → PrefixesOf m k os → AllPrefixes m ks ls → AllPrefixes m (k ∷ ks) (os ∷ ls)
 with_first m k ks os ls r a zero l = record { key = k; is_one = among-left k (k ∷ []) ks (one-among k); prefixes = r }
-with_first m k ks os ls r a (suc j) l = others-still m k ks ls a j (omega arith)
+with_first m k ks os ls r a (suc j) l = others_still m k ks ls a j (omega arith)
 
 -- the lists with what the walk of one more key came to
-one_more : (m : List Dependent) (k : ℕ) (ks : List ℕ) (w : Walk) (x : Lists) → prefixOrderings m k ≡ w → ((ls : List (List (List ℕ))) → x ≡ lists ls → AllPrefixes m ks ls)
+one_more : (m : List Dependent) (k : ℕ) (ks : List ℕ) (w : Walk) (x : Lists) → prefix_orderings m k ≡ w → ((ls : List (List (List ℕ))) → x ≡ lists ls → AllPrefixes m ks ls)
     → (ls : List (List (List ℕ))) → with_list w x ≡ lists ls → AllPrefixes m (k ∷ ks) ls
 unfolding with_list
 one_more m k ks (stopped i) x p h ls e = absurd (let z : ◌≡◌ {A = ℕ} 0 1 = cc in omega arith)
-one_more m k ks (found [] s) x p h ls e = others-still m k ks ls (h ls e)
+one_more m k ks (found [] s) x p h ls e = others_still m k ks ls (h ls e)
 one_more m k ks (found (o ∷ os) s) (stops i) p h ls e = absurd (let z : ◌≡◌ {A = ℕ} 0 1 = cc in omega arith)
 one_more m k ks (found (o ∷ os) s) (lists qs) p h ls e =
     let q : (o ∷ os) ∷ qs ≡ ls = cc in
@@ -308,14 +308,14 @@ one_more m k ks (found (o ∷ os) s) (lists qs) p h ls e =
 pub lists-are-prefixes : (m : List Dependent) (ks : List ℕ) (ls : List (List (List ℕ))) → contributing m ks ≡ lists ls → AllPrefixes m ks ls
 unfolding contributing
 lists-are-prefixes m [] ls e = let q : [] ≡ ls = cc in subst (AllPrefixes m []) q (λ j l. absurd (omega arith))
-lists-are-prefixes m (k ∷ ks) ls e = one_more m k ks (prefixOrderings m k) (contributing m ks) refl (lists-are-prefixes m ks) ls e
+lists-are-prefixes m (k ∷ ks) ls e = one_more m k ks (prefix_orderings m k) (contributing m ks) refl (lists-are-prefixes m ks) ls e
 
 -- it is known of what such lists generate
 generated-known : (m : List Dependent) (ks : List ℕ) (ls : List (List (List ℕ))) → AllPrefixes m ks ls → KeysKnown m (generated ls)
 generated-known m ks ls a = record {
   targets = λ i l k b.
-      let f = keys-from-lists ls i k l b in
-      let p = among-place (get_or (orderingAt (generated ls) i) k 0) (orderingAt (get_or ls f.list []) f.place) f.has in
+      let f = keys_from-lists ls i k l b in
+      let p = among-place (get_or (ordering_at (generated ls) i) k 0) (ordering_at (get_or ls f.list []) f.place) f.has in
       subst (IsTarget m) p.2 ((known f.list f.list-below).targets f.place f.place-below p.0 p.1);
   once = generated-once ls (λ j l. (known j l).once);
 }
@@ -325,53 +325,53 @@ generated-known m ks ls a = record {
 
 module _ (cells : List ℕ) (m : DependencyMap) (out : List ℕ) where
   -- every key of every prefix ordering that is written is a target of the map, and none of these orderings holds an expression twice
-  pub prefix-keys : (e options : ℕ) (z : (prefixAnswer cells m e options out).0.number ≡ 0) → KeysKnown (decode m) (prefix-written cells m out e options z).orderings
+  pub prefix-keys : (e options : ℕ) (z : (prefix_answer cells m e options out).0.number ≡ 0) → KeysKnown (decode m) (prefix-written cells m out e options z).orderings
   prefix-keys e options z =
       let w = prefix-written cells m out e options z in
       prefixes-known (decode m) (e * 4 + options) w.orderings w.origin
 
   -- likewise of the generated orderings that are written
-  pub generated-keys : (numbers : List ℕ) (z : (generateAnswer cells m numbers out).0.number ≡ 0) → KeysKnown (decode m) (generate-written cells m out numbers z).orderings
+  pub generated-keys : (numbers : List ℕ) (z : (generate_answer cells m numbers out).0.number ≡ 0) → KeysKnown (decode m) (generate_written cells m out numbers z).orderings
   generated-keys numbers z =
-      let w = generate-written cells m out numbers z in
+      let w = generate_written cells m out numbers z in
       let g = w.origin in
       subst (KeysKnown (decode m)) (sym g.are) (generated-known (decode m) (different numbers) g.contributed (lists-are-prefixes (decode m) (different numbers) g.contributed g.contribute))
 
 -- ---- reading back
 
 -- the first is the key's expression
-numbers-expr : (o rest : List ℕ) (k : ℕ) → k < length o → get_or (numbersOf o ++ rest) (2 * k) 0 ≡ exprOf (get_or o k 0)
-unfolding numbersOf
+numbers-expr : (o rest : List ℕ) (k : ℕ) → k < length o → get_or (numbers_of o ++ rest) (2 * k) 0 ≡ expr_of (get_or o k 0)
+unfolding numbers_of
 numbers-expr [] rest k l = absurd (omega arith)
 numbers-expr (x ∷ o) rest zero l = refl
 numbers-expr (x ∷ o) rest (suc k) l =
     let e : 2 * suc k ≡ suc (suc (2 * k)) = omega arith in
-    ap (λ (i : ℕ). get_or (numbersOf (x ∷ o) ++ rest) i 0) e ∙ numbers-expr o rest k (omega arith)
+    ap (λ (i : ℕ). get_or (numbers_of (x ∷ o) ++ rest) i 0) e ∙ numbers-expr o rest k (omega arith)
 
 -- the second its options
-numbers-options : (o rest : List ℕ) (k : ℕ) → k < length o → get_or (numbersOf o ++ rest) (2 * k + 1) 0 ≡ optionsOf (get_or o k 0)
-unfolding numbersOf
+numbers-options : (o rest : List ℕ) (k : ℕ) → k < length o → get_or (numbers_of o ++ rest) (2 * k + 1) 0 ≡ options_of (get_or o k 0)
+unfolding numbers_of
 numbers-options [] rest k l = absurd (omega arith)
 numbers-options (x ∷ o) rest zero l = refl
 numbers-options (x ∷ o) rest (suc k) l =
     let e : 2 * suc k + 1 ≡ suc (suc (2 * k + 1)) = omega arith in
-    ap (λ (i : ℕ). get_or (numbersOf (x ∷ o) ++ rest) i 0) e ∙ numbers-options o rest k (omega arith)
+    ap (λ (i : ℕ). get_or (numbers_of (x ∷ o) ++ rest) i 0) e ∙ numbers-options o rest k (omega arith)
 
 -- a key from its expression and its options
-key-again : (k : ℕ) → k ≡ exprOf k * 4 + optionsOf k
-unfolding exprOf optionsOf
+key-again : (k : ℕ) → k ≡ expr_of k * 4 + options_of k
+unfolding expr_of options_of
 key-again k = omega arith
 
 -- options are 0 to 3
-options-few : (k : ℕ) → optionsOf k ≤ 3
-unfolding optionsOf
+options-few : (k : ℕ) → options_of k ≤ 3
+unfolding options_of
 options-few k = omega arith
 
 -- an ordering that is written after some numbers, with more after it, is read at its place
 module _ (before o : List ℕ) (os : List (List ℕ)) where
   -- all the numbers
   abbrev all : List ℕ
-  all = before ++ writtenAll (o ∷ os)
+  all = before ++ written_all (o ∷ os)
 
   -- the ordering's place
   abbrev at : ℕ
@@ -379,103 +379,103 @@ module _ (before o : List ℕ) (os : List (List ℕ)) where
 
   -- the ordering ends within them
   place-there : at + 1 + 2 * length o ≤ length all
-  unfolding writtenAll written
-  place-there = omega (arith, length-append before (writtenAll (o ∷ os)), length-append (numbersOf o) (writtenAll os), numbers-length o)
+  unfolding written_all written
+  place-there = omega (arith, length-append before (written_all (o ∷ os)), length-append (numbers_of o) (written_all os), numbers-length o)
 
   -- its key count stands at its place
-  count-read : keyCount all at ≡ length o
-  unfolding writtenAll written
-  count-read = get_or_at before (length o) (numbersOf o ++ writtenAll os) 0 at refl
+  count-read : key_count all at ≡ length o
+  unfolding written_all written
+  count-read = get_or_at before (length o) (numbers_of o ++ written_all os) 0 at refl
 
   -- the expression of each key stands after it
-  expr-read : (k : ℕ) → k < length o → exprLent all at k ≡ exprOf (get_or o k 0)
-  unfolding writtenAll written
+  expr-read : (k : ℕ) → k < length o → expr_lent all at k ≡ expr_of (get_or o k 0)
+  unfolding written_all written
   expr-read k l =
       let e : at + 1 + 2 * k ≡ at + suc (2 * k) = omega arith in
-      ap (λ (i : ℕ). get_or all i 0) e ∙ get_or-append-add before (writtenAll (o ∷ os)) (suc (2 * k)) 0 ∙ numbers-expr o (writtenAll os) k l
+      ap (λ (i : ℕ). get_or all i 0) e ∙ get_or-append-add before (written_all (o ∷ os)) (suc (2 * k)) 0 ∙ numbers-expr o (written_all os) k l
 
   -- and so do the options
-  options-read : (k : ℕ) → k < length o → optionsLent all at k ≡ optionsOf (get_or o k 0)
-  unfolding writtenAll written
+  options-read : (k : ℕ) → k < length o → options_lent all at k ≡ options_of (get_or o k 0)
+  unfolding written_all written
   options-read k l =
       let e : at + 2 + 2 * k ≡ at + suc (2 * k + 1) = omega arith in
-      ap (λ (i : ℕ). get_or all i 0) e ∙ get_or-append-add before (writtenAll (o ∷ os)) (suc (2 * k + 1)) 0 ∙ numbers-options o (writtenAll os) k l
+      ap (λ (i : ℕ). get_or all i 0) e ∙ get_or-append-add before (written_all (o ∷ os)) (suc (2 * k + 1)) 0 ∙ numbers-options o (written_all os) k l
 
   -- so the keys are read
-  keys-read : keysLent all at ≡ o
-  unfolding keysLent
+  keys-read : keys_lent all at ≡ o
+  unfolding keys_lent
   keys-read =
-      sym (table_is (λ k. exprLent all at k * 4 + optionsLent all at k) (keyCount all at) o 0 (sym count-read)
+      sym (table_is (λ k. expr_lent all at k * 4 + options_lent all at k) (key_count all at) o 0 (sym count-read)
       (λ k l. let b : k < length o = omega (arith, count-read) in key-again (get_or o k 0) ∙ rw (expr-read k b, options-read k b)))
 
   -- the next ordering stands directly after it
-  next-read : nextList all at ≡ length (before ++ written o)
-  unfolding nextList written
+  next-read : next_list all at ≡ length (before ++ written o)
+  unfolding next_list written
   next-read = omega (arith, count-read, length-append before (written o), numbers-length o)
 
   -- all is also what is before the next ordering, and the others after it
-  all-again : all ≡ (before ++ written o) ++ writtenAll os
-  unfolding writtenAll
-  all-again = sym (append_assoc before (written o) (writtenAll os))
+  all-again : all ≡ (before ++ written o) ++ written_all os
+  unfolding written_all
+  all-again = sym (append_assoc before (written o) (written_all os))
 
 -- numbers in which, after some, orderings stand to the end
 module _ (numbers : List ℕ) where
   -- past the last ordering the numbers end
-  ends : (before : List ℕ) → numbers ≡ before ++ writtenAll [] → length numbers ≤ length before
-  unfolding writtenAll
+  ends : (before : List ℕ) → numbers ≡ before ++ written_all [] → length numbers ≤ length before
+  unfolding written_all
   ends before e = let l = ap (λ (l : List ℕ). length l) (e ∙ append-nil before) in omega arith
 
   -- one that is left is there
-  there : (before o : List ℕ) (os : List (List ℕ)) → numbers ≡ before ++ writtenAll (o ∷ os) → length before < length numbers
+  there : (before o : List ℕ) (os : List (List ℕ)) → numbers ≡ before ++ written_all (o ∷ os) → length before < length numbers
   there before o os e = let l = ap (λ (l : List ℕ). length l) e in omega (arith, place-there before o os)
 
   -- and the next is directly after it
-  next : (before o : List ℕ) (os : List (List ℕ)) → numbers ≡ before ++ writtenAll (o ∷ os) → nextList numbers (length before) ≡ length (before ++ written o)
-  next before o os e = ap (λ (l : List ℕ). nextList l (length before)) e ∙ next-read before o os
+  next : (before o : List ℕ) (os : List (List ℕ)) → numbers ≡ before ++ written_all (o ∷ os) → next_list numbers (length before) ≡ length (before ++ written o)
+  next before o os e = ap (λ (l : List ℕ). next_list l (length before)) e ∙ next-read before o os
 
   -- a test that passes at each ordering passes for all lists
-  each_read : (p : ℕ → Bool) → ((before o : List ℕ) (os : List (List ℕ)) → numbers ≡ before ++ writtenAll (o ∷ os) → p (length before) ≡ true)
-      → (before : List ℕ) (os : List (List ℕ)) → numbers ≡ before ++ writtenAll os → eachRest p numbers (length before) ≡ true
-  each_read p h before [] e = each-end p numbers (length before) (ends before e)
+  each_read : (p : ℕ → Bool) → ((before o : List ℕ) (os : List (List ℕ)) → numbers ≡ before ++ written_all (o ∷ os) → p (length before) ≡ true)
+      → (before : List ℕ) (os : List (List ℕ)) → numbers ≡ before ++ written_all os → each_rest p numbers (length before) ≡ true
+  each_read p h before [] e = each_end p numbers (length before) (ends before e)
   each_read p h before (o ∷ os) e =
       each_next p numbers (length before) (there before o os e)
-      ∙ and_both (h before o os e) (ap (eachRest p numbers) (next before o os e) ∙ each_read p h (before ++ written o) os (e ∙ all-again before o os))
+      ∙ and_both (h before o os e) (ap (each_rest p numbers) (next before o os e) ∙ each_read p h (before ++ written o) os (e ∙ all-again before o os))
 
   -- the lists that are read are the orderings
-  lists-read : (before : List ℕ) (os : List (List ℕ)) → numbers ≡ before ++ writtenAll os → listsRest numbers (length before) ≡ os
-  lists-read before [] e = lists-end numbers (length before) (ends before e)
+  lists-read : (before : List ℕ) (os : List (List ℕ)) → numbers ≡ before ++ written_all os → lists_rest numbers (length before) ≡ os
+  lists-read before [] e = lists_end numbers (length before) (ends before e)
   lists-read before (o ∷ os) e =
       lists-next numbers (length before) (there before o os e)
-      ∙ ap₂ {C = List (List ℕ)} (λ k ks. k ∷ ks) (ap (λ (l : List ℕ). keysLent l (length before)) e ∙ keys-read before o os)
-      (ap (listsRest numbers) (next before o os e) ∙ lists-read (before ++ written o) os (e ∙ all-again before o os))
+      ∙ ap₂ {C = List (List ℕ)} (λ k ks. k ∷ ks) (ap (λ (l : List ℕ). keys_lent l (length before)) e ∙ keys-read before o os)
+      (ap (lists_rest numbers) (next before o os e) ∙ lists-read (before ++ written o) os (e ∙ all-again before o os))
 
   -- no count runs past the end
-  whole-at : (before o : List ℕ) (os : List (List ℕ)) → numbers ≡ before ++ writtenAll (o ∷ os) → leb (nextList numbers (length before)) (length numbers) ≡ true
-  unfolding nextList
+  whole-at : (before o : List ℕ) (os : List (List ℕ)) → numbers ≡ before ++ written_all (o ∷ os) → leb (next_list numbers (length before)) (length numbers) ≡ true
+  unfolding next_list
   whole-at before o os e =
-      subst (λ (l : List ℕ). leb (nextList l (length before)) (length l) ≡ true) (sym e)
-      (le-leb (nextList (before ++ writtenAll (o ∷ os)) (length before)) (length (before ++ writtenAll (o ∷ os))) (omega (arith, place-there before o os, count-read before o os)))
+      subst (λ (l : List ℕ). leb (next_list l (length before)) (length l) ≡ true) (sym e)
+      (le-leb (next_list (before ++ written_all (o ∷ os)) (length before)) (length (before ++ written_all (o ∷ os))) (omega (arith, place-there before o os, count-read before o os)))
 
   -- the options of each key are 0 to 3
-  options-at : (before o : List ℕ) (os : List (List ℕ)) → numbers ≡ before ++ writtenAll (o ∷ os) → each (λ k. leb (optionsLent numbers (length before) k) 3) (keyCount numbers (length before)) ≡ true
+  options-at : (before o : List ℕ) (os : List (List ℕ)) → numbers ≡ before ++ written_all (o ∷ os) → each (λ k. leb (options_lent numbers (length before) k) 3) (key_count numbers (length before)) ≡ true
   options-at before o os e =
-      subst (λ (l : List ℕ). each (λ k. leb (optionsLent l (length before) k) 3) (keyCount l (length before)) ≡ true) (sym e)
-      (each_all (λ k. leb (optionsLent (before ++ writtenAll (o ∷ os)) (length before) k) 3) (keyCount (before ++ writtenAll (o ∷ os)) (length before))
-      (λ k l. le-leb (optionsLent (before ++ writtenAll (o ∷ os)) (length before) k) 3 (omega (arith, options-read before o os k (omega (arith, count-read before o os)), options-few (get_or o k 0)))))
+      subst (λ (l : List ℕ). each (λ k. leb (options_lent l (length before) k) 3) (key_count l (length before)) ≡ true) (sym e)
+      (each_all (λ k. leb (options_lent (before ++ written_all (o ∷ os)) (length before) k) 3) (key_count (before ++ written_all (o ∷ os)) (length before))
+      (λ k l. le-leb (options_lent (before ++ written_all (o ∷ os)) (length before) k) 3 (omega (arith, options-read before o os k (omega (arith, count-read before o os)), options-few (get_or o k 0)))))
 
 -- orderings that are written, read as lent lists of keys: every list is whole, every key's options are known, and the lists are the orderings
 pub record ReadsBack (os : List (List ℕ)) : Type 0 where
-  pub all_whole : whole (writtenAll os) ≡ true
-  pub options-known : optionsKnown (writtenAll os) ≡ true
-  pub same : listsLent (writtenAll os) ≡ os
+  pub all_whole : whole (written_all os) ≡ true
+  pub options-known : options_known (written_all os) ≡ true
+  pub same : lists_lent (written_all os) ≡ os
 
 -- whatever is written reads back, an ordering of no keys too: what is written can be lent as lists of keys as it stands
 pub read_back : (os : List (List ℕ)) → ReadsBack os
-unfolding whole optionsKnown listsLent eachList
+unfolding whole options_known lists_lent each_list
 read_back os =
-    let ws : List ℕ = writtenAll os in
+    let ws : List ℕ = written_all os in
     record {
-      all_whole = each_read ws (λ at. leb (nextList ws at) (length ws)) (whole-at ws) [] os refl;
-      options-known = each_read ws (λ at. each (λ k. leb (optionsLent ws at k) 3) (keyCount ws at)) (options-at ws) [] os refl;
+      all_whole = each_read ws (λ at. leb (next_list ws at) (length ws)) (whole-at ws) [] os refl;
+      options-known = each_read ws (λ at. each (λ k. leb (options_lent ws at k) 3) (key_count ws at)) (options-at ws) [] os refl;
       same = lists-read ws [] os refl;
     }

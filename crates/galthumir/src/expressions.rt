@@ -1,11 +1,11 @@
 // The calls on expressions, exported.
 ghost use Rattle.std.specs.Prelude.{◌≡◌};
-ghost use Rattle.arena.specs.Calls.{checked, lent, onLent, addColumn, addLiteral, addOperation, read_node, readChild};
-ghost use Rattle.shifting.specs.Calls.{addOffset};
+ghost use Rattle.arena.specs.Calls.{checked, lent, on_lent, add_column, add_literal, add_operation, read_node, read_child};
+ghost use Rattle.shifting.specs.Calls.{add_offset};
 ghost use Rattle.arena.specs.declared.Read.{Read};
 ghost use Rattle.arena.specs.declared.Child.{Child};
-ghost use Rattle.answers.specs.Answers.{onFirst};
-ghost use Rattle.group_answers.specs.Answers.{addedIn, readIn, childIn};
+ghost use Rattle.answers.specs.Answers.{on_first};
+ghost use Rattle.group_answers.specs.Answers.{added_in, read_in, child_in};
 
 use group_answers::{put_added, put_child, put_read};
 
@@ -25,7 +25,7 @@ pub extern "C" fn galthumir_add_column(
     index: u16,
     answer: &mut [u32; 1],
 ) -> u32
-    ensures { ((result, answer.new), arena.new) ≡ onFirst (addedIn answer.old) (lent (addColumn name index) arena.old) }
+    ensures { ((result, answer.new), arena.new) ≡ on_first (added_in answer.old) (lent (add_column name index) arena.old) }
 {
     let added = arena::add_column(arena, name, index);
     put_added(added, answer)
@@ -38,7 +38,7 @@ pub extern "C" fn galthumir_add_literal(
     value: u32,
     answer: &mut [u32; 1],
 ) -> u32
-    ensures { ((result, answer.new), arena.new) ≡ onFirst (addedIn answer.old) (lent (addLiteral value) arena.old) }
+    ensures { ((result, answer.new), arena.new) ≡ on_first (added_in answer.old) (lent (add_literal value) arena.old) }
 {
     let added = arena::add_literal(arena, value);
     put_added(added, answer)
@@ -52,7 +52,7 @@ pub extern "C" fn galthumir_add_operation(
     children: &[u32],
     answer: &mut [u32; 1],
 ) -> u32
-    ensures { ((result, answer.new), arena.new) ≡ onFirst (addedIn answer.old) (lent (addOperation label children.now) arena.old) }
+    ensures { ((result, answer.new), arena.new) ≡ on_first (added_in answer.old) (lent (add_operation label children.now) arena.old) }
 {
     let added = arena::add_operation(arena, label, children);
     put_added(added, answer)
@@ -61,7 +61,7 @@ pub extern "C" fn galthumir_add_operation(
 // Reads a node. Refusals: 11, 1.
 #[unsafe(no_mangle)]
 pub extern "C" fn galthumir_read_node(arena: &[u32; 11265], expr: u32, answer: &mut [u32; 3]) -> u32
-    ensures { (result, answer.new) ≡ readIn answer.old (onLent (Read.Refused 11) (read_node expr) arena.now) }
+    ensures { (result, answer.new) ≡ read_in answer.old (on_lent (Read.Refused 11) (read_node expr) arena.now) }
 {
     put_read(arena::read_node(arena, expr), answer)
 }
@@ -74,7 +74,7 @@ pub extern "C" fn galthumir_read_child(
     place: u32,
     answer: &mut [u32; 2],
 ) -> u32
-    ensures { (result, answer.new) ≡ childIn answer.old (onLent (Child.Refused 11) (readChild expr place) arena.now) }
+    ensures { (result, answer.new) ≡ child_in answer.old (on_lent (Child.Refused 11) (read_child expr place) arena.now) }
 {
     put_child(arena::read_child(arena, expr, place), answer)
 }
@@ -87,7 +87,7 @@ pub extern "C" fn galthumir_add_offset_to_expr(
     offset: i64,
     answer: &mut [u32; 1],
 ) -> u32
-    ensures { ((result, answer.new), arena.new) ≡ onFirst (addedIn answer.old) (lent (addOffset expr offset) arena.old) }
+    ensures { ((result, answer.new), arena.new) ≡ on_first (added_in answer.old) (lent (add_offset expr offset) arena.old) }
 {
     let added = shifting::add_offset_to_expr(arena, expr, offset);
     put_added(added, answer)

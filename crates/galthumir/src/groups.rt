@@ -1,22 +1,22 @@
 // The calls on groups, exported.
 ghost use Rattle.std.specs.Prelude.{◌≡◌};
-ghost use Rattle.classes.specs.Calls.{groupNumber, onGroup, askGroup};
-ghost use Rattle.group_checks.specs.Calls.{opened, classAnswer};
+ghost use Rattle.classes.specs.Calls.{group_number, on_group, ask_group};
+ghost use Rattle.group_checks.specs.Calls.{opened, class_answer};
 ghost use Rattle.group_checks.specs.declared.ClassIs.{ClassIs};
-ghost use Rattle.conditions.specs.Steps.{addEqual, clear};
-ghost use Rattle.conditions.specs.Calls.{onConstant};
-ghost use Rattle.questions.specs.Calls.{equalAnswer, constantAnswer};
+ghost use Rattle.conditions.specs.Steps.{add_equal, clear};
+ghost use Rattle.conditions.specs.Calls.{on_constant};
+ghost use Rattle.questions.specs.Calls.{equal_answer, constant_answer};
 ghost use Rattle.questions.specs.declared.Answer.{Answer};
 ghost use Rattle.questions.specs.declared.ConstantIs.{ConstantIs};
 ghost use Rattle.normal.specs.Calls.{normalized};
-ghost use Rattle.sort_keys.specs.Calls.{normalizedKey, normalizedKeys};
-ghost use Rattle.merging.specs.Calls.{newAnswer};
-ghost use Rattle.joins.specs.Calls.{joinAnswer};
-ghost use Rattle.group_projection.specs.Calls.{projectAnswer};
-ghost use Rattle.projection.specs.Calls.{projectedExpr, projectedExpressions};
-ghost use Rattle.group_states.specs.Groups.{groupFrom, storedGroup};
-ghost use Rattle.answers.specs.Answers.{onFirst};
-ghost use Rattle.group_answers.specs.Answers.{addedIn, classIn, changedIn, answer_in, constantIn, keyIn, sortedIn, projectedIn};
+ghost use Rattle.sort_keys.specs.Calls.{normalized_key, normalized_keys};
+ghost use Rattle.merging.specs.Calls.{new_answer};
+ghost use Rattle.joins.specs.Calls.{join_answer};
+ghost use Rattle.group_projection.specs.Calls.{project_answer};
+ghost use Rattle.projection.specs.Calls.{projected_expr, projected_expressions};
+ghost use Rattle.group_states.specs.Groups.{group_from, stored_group};
+ghost use Rattle.answers.specs.Answers.{on_first};
+ghost use Rattle.group_answers.specs.Answers.{added_in, class_in, changed_in, answer_in, constant_in, key_in, sorted_in, projected_in};
 
 use arena::cells::wide;
 use group_answers::{
@@ -28,7 +28,7 @@ use group_states::groups::{load_group, store_group};
 // Makes an empty group with a member limit of 1 to 256. Refusal: 12.
 #[unsafe(no_mangle)]
 pub extern "C" fn galthumir_open_group(limit: u32, made: &mut [u32; 451]) -> u32
-    ensures { (result, made.new) ≡ storedGroup made.old (opened limit) }
+    ensures { (result, made.new) ≡ stored_group made.old (opened limit) }
 {
     let opened = group_checks::open_group(wide(limit));
     store_group(opened, made)
@@ -37,7 +37,7 @@ pub extern "C" fn galthumir_open_group(limit: u32, made: &mut [u32; 451]) -> u32
 // The check of a group over an arena. Refusals: 12, 11, 1.
 #[unsafe(no_mangle)]
 pub extern "C" fn galthumir_check_group(arena: &[u32; 11265], group: &[u32; 451]) -> u32
-    ensures { result ≡ groupNumber arena.now (groupFrom group.now) }
+    ensures { result ≡ group_number arena.now (group_from group.now) }
 {
     group_checks::check(arena, load_group(group))
 }
@@ -50,7 +50,7 @@ pub extern "C" fn galthumir_get_equivalence_class(
     expr: u32,
     answer: &mut [usize; 6],
 ) -> u32
-    ensures { (result, answer.new) ≡ classIn answer.old (askGroup (λ k. ClassIs.Refused k) (classAnswer expr) arena.now (groupFrom group.now)) }
+    ensures { (result, answer.new) ≡ class_in answer.old (ask_group (λ k. ClassIs.Refused k) (class_answer expr) arena.now (group_from group.now)) }
 {
     put_class_is(
         group_checks::get_equivalence_class(arena, load_group(group), expr),
@@ -67,7 +67,7 @@ pub extern "C" fn galthumir_add_equal_conditions(
     right: u32,
     answer: &mut [u32; 1],
 ) -> u32
-    ensures { ((result, answer.new), group.new) ≡ changedIn answer.old group.old (onGroup (λ ns cs. addEqual (groupFrom group.old).limit ns left right cs) arena.now (groupFrom group.old)) }
+    ensures { ((result, answer.new), group.new) ≡ changed_in answer.old group.old (on_group (λ ns cs. add_equal (group_from group.old).limit ns left right cs) arena.now (group_from group.old)) }
 {
     let changed = conditions::add_equal_conditions(arena, load_group(group), left, right);
     put_changed(changed, group, answer)
@@ -82,7 +82,7 @@ pub extern "C" fn galthumir_add_constant(
     flavour: u32,
     value: u32,
 ) -> u32
-    ensures { (result, group.new) ≡ storedGroup group.old (onConstant expr flavour value arena.now (groupFrom group.old)) }
+    ensures { (result, group.new) ≡ stored_group group.old (on_constant expr flavour value arena.now (group_from group.old)) }
 {
     let changed = conditions::add_constant(arena, load_group(group), expr, flavour, value);
     store_group(changed, group)
@@ -95,7 +95,7 @@ pub extern "C" fn galthumir_clear_per_partition_constants(
     group: &mut [u32; 451],
     answer: &mut [u32; 1],
 ) -> u32
-    ensures { ((result, answer.new), group.new) ≡ changedIn answer.old group.old (onGroup (λ ns cs. clear cs) arena.now (groupFrom group.old)) }
+    ensures { ((result, answer.new), group.new) ≡ changed_in answer.old group.old (on_group (λ ns cs. clear cs) arena.now (group_from group.old)) }
 {
     let changed = conditions::clear_per_partition_constants(arena, load_group(group));
     put_changed(changed, group, answer)
@@ -110,7 +110,7 @@ pub extern "C" fn galthumir_exprs_equal(
     right: u32,
     answer: &mut [u32; 1],
 ) -> u32
-    ensures { (result, answer.new) ≡ answer_in answer.old (askGroup (λ k. Answer.Refused k) (equalAnswer left right) arena.now (groupFrom group.now)) }
+    ensures { (result, answer.new) ≡ answer_in answer.old (ask_group (λ k. Answer.Refused k) (equal_answer left right) arena.now (group_from group.now)) }
 {
     put_answer(
         questions::exprs_equal(arena, load_group(group), left, right),
@@ -126,7 +126,7 @@ pub extern "C" fn galthumir_is_expr_constant(
     expr: u32,
     answer: &mut [u32; 2],
 ) -> u32
-    ensures { (result, answer.new) ≡ constantIn answer.old (askGroup (λ k. ConstantIs.Refused k) (constantAnswer expr) arena.now (groupFrom group.now)) }
+    ensures { (result, answer.new) ≡ constant_in answer.old (ask_group (λ k. ConstantIs.Refused k) (constant_answer expr) arena.now (group_from group.now)) }
 {
     put_constant(
         questions::is_expr_constant(arena, load_group(group), expr),
@@ -142,7 +142,7 @@ pub extern "C" fn galthumir_normalize_expr(
     expr: u32,
     answer: &mut [u32; 1],
 ) -> u32
-    ensures { ((result, answer.new), arena.new) ≡ onFirst (addedIn answer.old) (normalized expr arena.old (groupFrom group.now)) }
+    ensures { ((result, answer.new), arena.new) ≡ on_first (added_in answer.old) (normalized expr arena.old (group_from group.now)) }
 {
     let added = normal::normalize_expr(arena, load_group(group), expr);
     put_added(added, answer)
@@ -157,7 +157,7 @@ pub extern "C" fn galthumir_normalize_sort_expr(
     options: u32,
     answer: &mut [u32; 2],
 ) -> u32
-    ensures { ((result, answer.new), arena.new) ≡ onFirst (keyIn answer.old) (normalizedKey expr options arena.old (groupFrom group.now)) }
+    ensures { ((result, answer.new), arena.new) ≡ on_first (key_in answer.old) (normalized_key expr options arena.old (group_from group.now)) }
 {
     let key = sort_keys::normalize_sort_expr(arena, load_group(group), expr, options);
     put_key(key, answer)
@@ -171,7 +171,7 @@ pub extern "C" fn galthumir_normalize_sort_exprs(
     keys: &[u32],
     answer: &mut [u16; 17],
 ) -> u32
-    ensures { ((result, answer.new), arena.new) ≡ onFirst (sortedIn answer.old) (normalizedKeys keys.now arena.old (groupFrom group.now)) }
+    ensures { ((result, answer.new), arena.new) ≡ on_first (sorted_in answer.old) (normalized_keys keys.now arena.old (group_from group.now)) }
 {
     let sorted = sort_keys::normalize_sort_exprs(arena, load_group(group), keys);
     put_sorted(sorted, answer)
@@ -184,7 +184,7 @@ pub extern "C" fn galthumir_new_group(
     classes: &[u32],
     made: &mut [u32; 451],
 ) -> u32
-    ensures { (result, made.new) ≡ storedGroup made.old (newAnswer arena.now classes.now) }
+    ensures { (result, made.new) ≡ stored_group made.old (new_answer arena.now classes.now) }
 {
     let changed = merging::new(arena, classes);
     store_group(changed, made)
@@ -201,7 +201,7 @@ pub extern "C" fn galthumir_join(
     pairs: &[u32],
     made: &mut [u32; 451],
 ) -> u32
-    ensures { ((result, made.new), arena.new) ≡ onFirst (storedGroup made.old) (joinAnswer arena.old (groupFrom left.now) (groupFrom right.now) kind left_size pairs.now) }
+    ensures { ((result, made.new), arena.new) ≡ on_first (stored_group made.old) (join_answer arena.old (group_from left.now) (group_from right.now) kind left_size pairs.now) }
 {
     let changed = joins::join(
         arena,
@@ -222,7 +222,7 @@ pub extern "C" fn galthumir_project(
     mapping: &[u32],
     made: &mut [u32; 451],
 ) -> u32
-    ensures { ((result, made.new), arena.new) ≡ onFirst (storedGroup made.old) (projectAnswer arena.old (groupFrom group.now) mapping.now) }
+    ensures { ((result, made.new), arena.new) ≡ on_first (stored_group made.old) (project_answer arena.old (group_from group.now) mapping.now) }
 {
     let changed = group_projection::project(arena, load_group(group), mapping);
     store_group(changed, made)
@@ -237,7 +237,7 @@ pub extern "C" fn galthumir_project_expr(
     expr: u32,
     answer: &mut [u32; 2],
 ) -> u32
-    ensures { ((result, answer.new), arena.new) ≡ onFirst (projectedIn answer.old) (projectedExpr expr mapping.now arena.old (groupFrom group.now)) }
+    ensures { ((result, answer.new), arena.new) ≡ on_first (projected_in answer.old) (projected_expr expr mapping.now arena.old (group_from group.now)) }
 {
     let projected = projection::project_expr(arena, load_group(group), mapping, expr);
     put_projected(projected, answer)
@@ -252,7 +252,7 @@ pub extern "C" fn galthumir_project_expressions(
     exprs: &[u32],
     output: &mut [u32],
 ) -> u32
-    ensures { ((result, output.new), arena.new) ≡ projectedExpressions exprs.now output.old mapping.now arena.old (groupFrom group.now) }
+    ensures { ((result, output.new), arena.new) ≡ projected_expressions exprs.now output.old mapping.now arena.old (group_from group.now) }
 {
     projection::project_expressions(arena, load_group(group), mapping, exprs, output)
 }

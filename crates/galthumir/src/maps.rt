@@ -1,9 +1,9 @@
 // The calls on dependency maps, exported.
 ghost use Rattle.std.specs.Prelude.{◌≡◌};
-ghost use Rattle.dependencies.specs.Calls.{mapNumber, insertAnswer};
-ghost use Rattle.dependency_orderings.specs.Calls.{prefixAnswer, generateAnswer};
-ghost use Rattle.states.specs.Maps.{mapFrom, storedMap};
-ghost use Rattle.answers.specs.Answers.{onFirst, enumeratedIn, givenFrom};
+ghost use Rattle.dependencies.specs.Calls.{map_number, insert_answer};
+ghost use Rattle.dependency_orderings.specs.Calls.{prefix_answer, generate_answer};
+ghost use Rattle.states.specs.Maps.{map_from, stored_map};
+ghost use Rattle.answers.specs.Answers.{on_first, enumerated_in, given_from};
 
 use answers::{given_from, put_enumerated};
 use states::maps::{load_map, store_map};
@@ -11,7 +11,7 @@ use states::maps::{load_map, store_map};
 // The check of a dependency map over an arena. Refusals: 11, 1.
 #[unsafe(no_mangle)]
 pub extern "C" fn galthumir_check_map(arena: &[u32; 11265], map: &[u16; 1217]) -> u32
-    ensures { result ≡ mapNumber arena.now (mapFrom map.now) }
+    ensures { result ≡ map_number arena.now (map_from map.now) }
 {
     dependencies::check(arena, load_map(map))
 }
@@ -28,7 +28,7 @@ pub extern "C" fn galthumir_insert(
     dependency_expr: u32,
     dependency_options: u32,
 ) -> u32
-    ensures { (result, map.new) ≡ storedMap map.old (insertAnswer arena.now (mapFrom map.old) expr options (givenFrom target_expr target_options) (givenFrom dependency_expr dependency_options)) }
+    ensures { (result, map.new) ≡ stored_map map.old (insert_answer arena.now (map_from map.old) expr options (given_from target_expr target_options) (given_from dependency_expr dependency_options)) }
 {
     let inserted = dependencies::insert(
         arena,
@@ -51,7 +51,7 @@ pub extern "C" fn galthumir_construct_prefix_orderings(
     output: &mut [u16],
     answer: &mut [usize; 2],
 ) -> u32
-    ensures { ((result, answer.new), output.new) ≡ onFirst (enumeratedIn answer.old) (prefixAnswer arena.now (mapFrom map.now) expr options output.old) }
+    ensures { ((result, answer.new), output.new) ≡ on_first (enumerated_in answer.old) (prefix_answer arena.now (map_from map.now) expr options output.old) }
 {
     let enumerated = dependency_orderings::construct_prefix_orderings(
         arena,
@@ -72,7 +72,7 @@ pub extern "C" fn galthumir_generate_dependency_orderings(
     output: &mut [u16],
     answer: &mut [usize; 2],
 ) -> u32
-    ensures { ((result, answer.new), output.new) ≡ onFirst (enumeratedIn answer.old) (generateAnswer arena.now (mapFrom map.now) keys.now output.old) }
+    ensures { ((result, answer.new), output.new) ≡ on_first (enumerated_in answer.old) (generate_answer arena.now (map_from map.now) keys.now output.old) }
 {
     let enumerated = dependency_orderings::generate_dependency_orderings(
         arena,

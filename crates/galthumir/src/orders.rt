@@ -1,14 +1,14 @@
 // The calls on lists of orderings, exported.
 ghost use Rattle.std.specs.Prelude.{◌≡◌};
 ghost use Rattle.arena.specs.Layout.{count};
-ghost use Rattle.orderings.specs.Calls.{listNumber, askList, clearAnswer};
-ghost use Rattle.ordering_questions.specs.Calls.{optionsAnswer, partialAnswer};
+ghost use Rattle.orderings.specs.Calls.{list_number, ask_list, clear_answer};
+ghost use Rattle.ordering_questions.specs.Calls.{options_answer, partial_answer};
 ghost use Rattle.ordering_questions.specs.declared.OptionsAre.{OptionsAre};
 ghost use Rattle.ordering_questions.specs.declared.PartialIs.{PartialIs};
-ghost use Rattle.reduction.specs.Calls.{addAnswer, newAnswer, extendAnswer};
-ghost use Rattle.ordering_joins.specs.Calls.{offsetAnswer, outputAnswer, joinAnswer};
-ghost use Rattle.states.specs.Orders.{orderingsFrom, storedList};
-ghost use Rattle.answers.specs.Answers.{onFirst, optionsIn, partialIn, outputIn};
+ghost use Rattle.reduction.specs.Calls.{add_answer, new_answer, extend_answer};
+ghost use Rattle.ordering_joins.specs.Calls.{offset_answer, output_answer, join_answer};
+ghost use Rattle.states.specs.Orders.{orderings_from, stored_list};
+ghost use Rattle.answers.specs.Answers.{on_first, options_in, partial_in, output_in};
 
 use answers::{put_options, put_output, put_partial};
 use states::orders::{load_orderings, store_orderings};
@@ -16,7 +16,7 @@ use states::orders::{load_orderings, store_orderings};
 // The check of a list of orderings over an arena. Refusals: 11, 1.
 #[unsafe(no_mangle)]
 pub extern "C" fn galthumir_check_orderings(arena: &[u32; 11265], orderings: &[u16; 545]) -> u32
-    ensures { result ≡ listNumber arena.now (orderingsFrom orderings.now) }
+    ensures { result ≡ list_number arena.now (orderings_from orderings.now) }
 {
     orderings::check(arena, load_orderings(orderings))
 }
@@ -28,7 +28,7 @@ pub extern "C" fn galthumir_new_orderings(
     numbers: &[u16],
     made: &mut [u16; 545],
 ) -> u32
-    ensures { (result, made.new) ≡ storedList made.old (newAnswer arena.now numbers.now) }
+    ensures { (result, made.new) ≡ stored_list made.old (new_answer arena.now numbers.now) }
 {
     let listed = reduction::new(arena, numbers);
     store_orderings(listed, made)
@@ -41,7 +41,7 @@ pub extern "C" fn galthumir_add_orderings(
     orderings: &mut [u16; 545],
     numbers: &[u16],
 ) -> u32
-    ensures { (result, orderings.new) ≡ storedList orderings.old (addAnswer arena.now (orderingsFrom orderings.old) numbers.now) }
+    ensures { (result, orderings.new) ≡ stored_list orderings.old (add_answer arena.now (orderings_from orderings.old) numbers.now) }
 {
     let listed = reduction::add_orderings(arena, load_orderings(orderings), numbers);
     store_orderings(listed, orderings)
@@ -54,7 +54,7 @@ pub extern "C" fn galthumir_extend_orderings(
     orderings: &mut [u16; 545],
     numbers: &[u16],
 ) -> u32
-    ensures { (result, orderings.new) ≡ storedList orderings.old (extendAnswer arena.now (orderingsFrom orderings.old) numbers.now) }
+    ensures { (result, orderings.new) ≡ stored_list orderings.old (extend_answer arena.now (orderings_from orderings.old) numbers.now) }
 {
     let listed = reduction::extend(arena, load_orderings(orderings), numbers);
     store_orderings(listed, orderings)
@@ -63,7 +63,7 @@ pub extern "C" fn galthumir_extend_orderings(
 // Empties a list of orderings. Refusals: 11, 1.
 #[unsafe(no_mangle)]
 pub extern "C" fn galthumir_clear_orderings(arena: &[u32; 11265], orderings: &mut [u16; 545]) -> u32
-    ensures { (result, orderings.new) ≡ storedList orderings.old (clearAnswer arena.now (orderingsFrom orderings.old)) }
+    ensures { (result, orderings.new) ≡ stored_list orderings.old (clear_answer arena.now (orderings_from orderings.old)) }
 {
     let listed = orderings::clear(arena, load_orderings(orderings));
     store_orderings(listed, orderings)
@@ -77,7 +77,7 @@ pub extern "C" fn galthumir_get_options(
     expr: u32,
     answer: &mut [u32; 2],
 ) -> u32
-    ensures { (result, answer.new) ≡ optionsIn answer.old (askList (λ k. OptionsAre.Refused k) (optionsAnswer (count arena.now) expr) arena.now (orderingsFrom orderings.now)) }
+    ensures { (result, answer.new) ≡ options_in answer.old (ask_list (λ k. OptionsAre.Refused k) (options_answer (count arena.now) expr) arena.now (orderings_from orderings.now)) }
 {
     put_options(
         ordering_questions::get_options(arena, load_orderings(orderings), expr),
@@ -93,7 +93,7 @@ pub extern "C" fn galthumir_is_expr_partial_const(
     expr: u32,
     answer: &mut [u32; 1],
 ) -> u32
-    ensures { (result, answer.new) ≡ partialIn answer.old (askList (λ k. PartialIs.Refused k) (partialAnswer (count arena.now) expr) arena.now (orderingsFrom orderings.now)) }
+    ensures { (result, answer.new) ≡ partial_in answer.old (ask_list (λ k. PartialIs.Refused k) (partial_answer (count arena.now) expr) arena.now (orderings_from orderings.now)) }
 {
     put_partial(
         ordering_questions::is_expr_partial_const(arena, load_orderings(orderings), expr),
@@ -108,7 +108,7 @@ pub extern "C" fn galthumir_output_ordering(
     orderings: &[u16; 545],
     answer: &mut [u16; 17],
 ) -> u32
-    ensures { (result, answer.new) ≡ outputIn answer.old (outputAnswer arena.now (orderingsFrom orderings.now)) }
+    ensures { (result, answer.new) ≡ output_in answer.old (output_answer arena.now (orderings_from orderings.now)) }
 {
     put_output(
         ordering_joins::output_ordering(arena, load_orderings(orderings)),
@@ -124,7 +124,7 @@ pub extern "C" fn galthumir_join_suffix(
     other: &[u16; 545],
     made: &mut [u16; 545],
 ) -> u32
-    ensures { (result, made.new) ≡ storedList made.old (joinAnswer arena.now (orderingsFrom orderings.now) (orderingsFrom other.now)) }
+    ensures { (result, made.new) ≡ stored_list made.old (join_answer arena.now (orderings_from orderings.now) (orderings_from other.now)) }
 {
     let listed = ordering_joins::join_suffix(
         arena,
@@ -141,7 +141,7 @@ pub extern "C" fn galthumir_add_offset(
     orderings: &mut [u16; 545],
     offset: i64,
 ) -> u32
-    ensures { ((result, orderings.new), arena.new) ≡ onFirst (storedList orderings.old) (offsetAnswer offset arena.old (orderingsFrom orderings.old)) }
+    ensures { ((result, orderings.new), arena.new) ≡ on_first (stored_list orderings.old) (offset_answer offset arena.old (orderings_from orderings.old)) }
 {
     let listed = ordering_joins::add_offset(arena, load_orderings(orderings), offset);
     store_orderings(listed, orderings)

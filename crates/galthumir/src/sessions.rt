@@ -1,10 +1,10 @@
 // The calls on records, and the session, exported.
 ghost use Rattle.std.specs.Prelude.{◌≡◌};
-ghost use Rattle.records.specs.Record.{readRecord, item_of};
-ghost use Rattle.group_records.specs.GroupRecord.{groupRead};
+ghost use Rattle.records.specs.Record.{read_record, item_of};
+ghost use Rattle.group_records.specs.GroupRecord.{group_read};
 ghost use Rattle.transcript.specs.Session.{session};
-ghost use Rattle.group_states.specs.Groups.{storedGroup};
-ghost use Rattle.answers.specs.Answers.{onFirst, itemIn, writtenIn, side, chosenIn};
+ghost use Rattle.group_states.specs.Groups.{stored_group};
+ghost use Rattle.answers.specs.Answers.{on_first, item_in, written_in, side, chosen_in};
 
 use answers::{put_record, put_sizes, put_written};
 use arena::cells::wide;
@@ -14,7 +14,7 @@ use states::numbers::short;
 // Reads the record at the start of some bytes. Refusal: 9.
 #[unsafe(no_mangle)]
 pub extern "C" fn galthumir_read_record(bytes: &[u8], answer: &mut [usize; 4]) -> u32
-    ensures { (result, answer.new) ≡ itemIn answer.old (item_of (readRecord bytes.now)) }
+    ensures { (result, answer.new) ≡ item_in answer.old (item_of (read_record bytes.now)) }
 {
     put_record(records::read_record(bytes), answer)
 }
@@ -26,7 +26,7 @@ pub extern "C" fn galthumir_read_group(
     bytes: &[u8],
     made: &mut [u32; 451],
 ) -> u32
-    ensures { (result, made.new) ≡ storedGroup made.old (groupRead arena.now bytes.now) }
+    ensures { (result, made.new) ≡ stored_group made.old (group_read arena.now bytes.now) }
 {
     let changed = group_records::read_group(arena, bytes);
     store_group(changed, made)
@@ -47,7 +47,7 @@ pub extern "C" fn galthumir_chosen<'a>(
     right: &'a [u8],
     answer: &mut [usize; 2],
 ) -> u32
-    ensures { (result, answer.new) ≡ chosenIn answer.old kind left.now right.now }
+    ensures { (result, answer.new) ≡ chosen_in answer.old kind left.now right.now }
 {
     if 9 < kind {
         return 12;
@@ -65,7 +65,7 @@ pub extern "C" fn galthumir_chosen<'a>(
 // Runs a session. Refusal: 8.
 #[unsafe(no_mangle)]
 pub extern "C" fn galthumir_session(input: &[u8], output: &mut [u8], answer: &mut [usize; 1]) -> u32
-    ensures { ((result, answer.new), output.new) ≡ onFirst (writtenIn answer.old) (session input.now output.old) }
+    ensures { ((result, answer.new), output.new) ≡ on_first (written_in answer.old) (session input.now output.old) }
 {
     let written = transcript::session(input, output);
     put_written(written, answer)

@@ -2,7 +2,7 @@
 // caller's array, and the number that is returned.
 ghost use Rattle.std.specs.Prelude.{[], ◌∷◌, ◌≡◌, ◌<◌};
 ghost use Rattle.group_states.specs.Inner.{FitsIfDone};
-ghost use Rattle.group_answers.specs.Answers.{addedIn, readIn, childIn, classIn, changedIn, answer_in, constantIn, keyIn, sortedIn, projectedIn, bit};
+ghost use Rattle.group_answers.specs.Answers.{added_in, read_in, child_in, class_in, changed_in, answer_in, constant_in, key_in, sorted_in, projected_in, bit};
 
 use answers::{put_1, put_2, put_one};
 use arena::cells::wide;
@@ -47,7 +47,7 @@ fn put_class(
 
 // An addition: the node's number.
 pub fn put_added(added: Added, answer: &mut [u32; 1]) -> u32
-    ensures { (result, answer.new) ≡ addedIn answer.old added }
+    ensures { (result, answer.new) ≡ added_in answer.old added }
 {
     match added {
         Added::Number(i) => {
@@ -60,7 +60,7 @@ pub fn put_added(added: Added, answer: &mut [u32; 1]) -> u32
 
 // A node that was read: its kind and two numbers.
 pub fn put_read(read: Read, answer: &mut [u32; 3]) -> u32
-    ensures { (result, answer.new) ≡ readIn answer.old read }
+    ensures { (result, answer.new) ≡ read_in answer.old read }
 {
     match read {
         Read::Column(name, index) => {
@@ -81,7 +81,7 @@ pub fn put_read(read: Read, answer: &mut [u32; 3]) -> u32
 
 // A child that was read: whether it is there, and its number.
 pub fn put_child(child: Child, answer: &mut [u32; 2]) -> u32
-    ensures { (result, answer.new) ≡ childIn answer.old child }
+    ensures { (result, answer.new) ≡ child_in answer.old child }
 {
     match child {
         Child::Number(i) => {
@@ -98,7 +98,7 @@ pub fn put_child(child: Child, answer: &mut [u32; 2]) -> u32
 
 // The class of an expression: whether there is one, its place, its size, its first member and its constant.
 pub fn put_class_is(is: ClassIs, answer: &mut [usize; 6]) -> u32
-    ensures { (result, answer.new) ≡ classIn answer.old is }
+    ensures { (result, answer.new) ≡ class_in answer.old is }
 {
     match is {
         ClassIs::At(place, size, first, mark) => {
@@ -124,7 +124,7 @@ pub fn put_class_is(is: ClassIs, answer: &mut [usize; 6]) -> u32
 // A call that changes a group: its answer, and the group in its cells.
 pub fn put_changed(changed: Changed, group: &mut [u32; 451], answer: &mut [u32; 1]) -> u32
     requires { FitsIfDone changed }
-    ensures { ((result, answer.new), group.new) ≡ changedIn answer.old group.old changed }
+    ensures { ((result, answer.new), group.new) ≡ changed_in answer.old group.old changed }
 {
     let number = store_group(changed, group);
     if number != 0 {
@@ -153,7 +153,7 @@ pub fn put_answer(said: Answer, answer: &mut [u32; 1]) -> u32
 
 // The constant question: flavour and value.
 pub fn put_constant(is: ConstantIs, answer: &mut [u32; 2]) -> u32
-    ensures { (result, answer.new) ≡ constantIn answer.old is }
+    ensures { (result, answer.new) ≡ constant_in answer.old is }
 {
     match is {
         ConstantIs::Is(mark) => {
@@ -166,7 +166,7 @@ pub fn put_constant(is: ConstantIs, answer: &mut [u32; 2]) -> u32
 
 // The normal form of a sort key: expression and options.
 pub fn put_key(is: KeyIs, answer: &mut [u32; 2]) -> u32
-    ensures { (result, answer.new) ≡ keyIn answer.old is }
+    ensures { (result, answer.new) ≡ key_in answer.old is }
 {
     match is {
         KeyIs::Is(expr, options) => {
@@ -180,7 +180,7 @@ pub fn put_key(is: KeyIs, answer: &mut [u32; 2]) -> u32
 // The normal forms of sort keys: how many, and the keys.
 pub fn put_sorted(sorted: Sorted, answer: &mut [u16; 17]) -> u32
     requires { sorted.size < 65536 }
-    ensures { (result, answer.new) ≡ sortedIn answer.old sorted }
+    ensures { (result, answer.new) ≡ sorted_in answer.old sorted }
 {
     if sorted.number != 0 {
         return sorted.number;
@@ -198,7 +198,7 @@ pub fn put_sorted(sorted: Sorted, answer: &mut [u16; 17]) -> u32
 
 // The projection of an expression: whether there is one, and its number.
 pub fn put_projected(projected: Projected, answer: &mut [u32; 2]) -> u32
-    ensures { (result, answer.new) ≡ projectedIn answer.old projected }
+    ensures { (result, answer.new) ≡ projected_in answer.old projected }
 {
     match projected {
         Projected::Number(i) => {

@@ -15,43 +15,43 @@ use Rattle.classes.specs.Class.{Class}
 use Rattle.classes.specs.Group.{class_at, class_of}
 use Rattle.classes.specs.Steps.{Outcome}
 use Rattle.classes.specs.Layout.{encode, decode, mark_of}
-use Rattle.classes.specs.Calls.{groupNumber, changed, onGroup, askGroup}
-use Rattle.group_checks.specs.Calls.{opened, classAnswer, classIs}
+use Rattle.classes.specs.Calls.{group_number, changed, on_group, ask_group}
+use Rattle.group_checks.specs.Calls.{opened, class_answer, class_is}
 use Rattle.classes.specs.declared.Group.{Group}
 use Rattle.group_checks.specs.declared.ClassIs.TheVariants.{At as Class-At, Nowhere as NoClass, Refused as Class-Refused}
 use Rattle.group_checks.proofs.HeldLaws.{number-lawful}
-use Rattle.classes.proofs.Judging.{handedBack}
+use Rattle.classes.proofs.Judging.{handed_back}
 
 module _ (cells : List ℕ) (g : Group) where
   -- a group that the check lets pass
-  pub group-done : (call : List Node → List Class → Outcome) → groupNumber cells g ≡ 0 → onGroup call cells g ≡ changed g.limit (call (nodes cells) (decode g))
-  unfolding onGroup
+  pub group-done : (call : List Node → List Class → Outcome) → group_number cells g ≡ 0 → on_group call cells g ≡ changed g.limit (call (nodes cells) (decode g))
+  unfolding on_group
   group-done call e = rw (eq-eqb _ _ e)
 
   -- one that it refuses
-  pub group-refused : (call : List Node → List Class → Outcome) (k : ℕ) → k ≡ groupNumber cells g → (k ≡ 0 → ⊥) → handedBack k g ≡ onGroup call cells g
-  unfolding onGroup
+  pub group-refused : (call : List Node → List Class → Outcome) (k : ℕ) → k ≡ group_number cells g → (k ≡ 0 → ⊥) → handed_back k g ≡ on_group call cells g
+  unfolding on_group
   group-refused call k e z = rw (ne_eqb _ _ (λ q. z (e ∙ q)), e)
 
   -- the same for a question
-  pub ask-done : {A : Type 0} (f : ℕ → A) (call : List Node → List Class → A) → groupNumber cells g ≡ 0 → askGroup f call cells g ≡ call (nodes cells) (decode g)
-  unfolding askGroup
-  ask-done f call e = rw (eq-eqb _ _ e)
+  pub ask_done : {A : Type 0} (f : ℕ → A) (call : List Node → List Class → A) → group_number cells g ≡ 0 → ask_group f call cells g ≡ call (nodes cells) (decode g)
+  unfolding ask_group
+  ask_done f call e = rw (eq-eqb _ _ e)
 
-  pub ask-refused : {A : Type 0} (f : ℕ → A) (call : List Node → List Class → A) (k : ℕ) → k ≡ groupNumber cells g → (k ≡ 0 → ⊥) → f k ≡ askGroup f call cells g
-  unfolding askGroup
-  ask-refused f call k e z = rw (ne_eqb _ _ (λ q. z (e ∙ q)), e)
+  pub ask_refused : {A : Type 0} (f : ℕ → A) (call : List Node → List Class → A) (k : ℕ) → k ≡ group_number cells g → (k ≡ 0 → ⊥) → f k ≡ ask_group f call cells g
+  unfolding ask_group
+  ask_refused f call k e z = rw (ne_eqb _ _ (λ q. z (e ∙ q)), e)
 
   -- a number below the count is a node's
-  pub number-known : (e : ℕ) → groupNumber cells g ≡ 0 → e < count cells → Known cells e
+  pub number-known : (e : ℕ) → group_number cells g ≡ 0 → e < count cells → Known cells e
   number-known e z b = record { holds = lawful-holds cells (number-lawful cells g z); below = b }
 
 -- opening a group, by its tests
-pub opened-none : (limit : ℕ) → limit ≡ 0 → opened limit ≡ handedBack 12 (encode 0 [])
+pub opened-none : (limit : ℕ) → limit ≡ 0 → opened limit ≡ handed_back 12 (encode 0 [])
 unfolding opened
 opened-none limit e = let h : limit ≤ 0 = omega arith in rw (le-ltb 0 limit h)
 
-pub opened-over : (limit : ℕ) → 256 < limit → opened limit ≡ handedBack 12 (encode 0 [])
+pub opened-over : (limit : ℕ) → 256 < limit → opened limit ≡ handed_back 12 (encode 0 [])
 unfolding opened
 opened-over limit l = rw (lt-leb limit 256 l, and-false)
 
@@ -61,14 +61,14 @@ opened_in limit z l = let h : 0 < limit = omega arith in rw (lt-ltb 0 limit h, l
 
 -- the class of an expression, by its tests
 module _ (ns : List Node) (cs : List Class) (e : ℕ) where
-  pub class-unknown : length ns ≤ e → classAnswer e ns cs ≡ Class-Refused 1
-  unfolding classAnswer
+  pub class-unknown : length ns ≤ e → class_answer e ns cs ≡ Class-Refused 1
+  unfolding class_answer
   class-unknown l = rw (le-ltb _ _ l)
 
-  pub class-nowhere : e < length ns → class_of cs e ≡ none → classAnswer e ns cs ≡ NoClass
-  unfolding classAnswer classIs
+  pub class-nowhere : e < length ns → class_of cs e ≡ none → class_answer e ns cs ≡ NoClass
+  unfolding class_answer class_is
   class-nowhere l o = rw (lt-ltb _ _ l, o)
 
-  pub class-at : e < length ns → (i : ℕ) → class_of cs e ≡ some i → classAnswer e ns cs ≡ Class-At i (length (class_at cs i).members) (get_or (class_at cs i).members 0 0) (mark_of (class_at cs i).constant)
-  unfolding classAnswer classIs
+  pub class-at : e < length ns → (i : ℕ) → class_of cs e ≡ some i → class_answer e ns cs ≡ Class-At i (length (class_at cs i).members) (get_or (class_at cs i).members 0 0) (mark_of (class_at cs i).constant)
+  unfolding class_answer class_is
   class-at l i o = rw (lt-ltb _ _ l, o)

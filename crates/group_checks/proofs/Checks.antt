@@ -11,11 +11,11 @@ use lib.ListN.{get_or}
 use Rattle.laws.specs.Tests.{each}
 use Rattle.laws.proofs.Booleans.{and_left, and_right}
 use Rattle.laws.proofs.Each.{each_none, each_more, each-stops, each-ends}
-use Rattle.arena.specs.Node.{Node, nodeAt}
-use Rattle.arena.specs.Layout.{count, cell_of, rowOf, node_of, decode as nodes}
+use Rattle.arena.specs.Node.{Node, node_at}
+use Rattle.arena.specs.Layout.{count, cell_of, row_of, node_of, decode as nodes}
 use Rattle.arena.proofs.NodeCells.{node-column, node-literal, node-operation}
-use Rattle.arena.proofs.Layouts.{node-decode, at-row-of}
-use Rattle.classes.specs.Layout.{sum_to, knownFlavour, in_set, fresh, isLiteral, uniformAt, unusedFrom, lawfulCounts, lawfulGroup}
+use Rattle.arena.proofs.Layouts.{node-decode, at-row_of}
+use Rattle.classes.specs.Layout.{sum_to, known_flavour, in_set, fresh, is_literal, uniform_at, unused_from, lawful_counts, lawful_group}
 use Rattle.classes.specs.declared.Group.{Group}
 
 -- what passed counts say
@@ -24,8 +24,8 @@ pub record Counts (g : Group) : Type 0 where
   pub within : g.used ≤ g.limit
   pub agree : sum_to g.sizes g.count ≡ g.used
 
-pub counts : (g : Group) → lawfulCounts g ≡ true → Counts g
-unfolding lawfulCounts
+pub counts : (g : Group) → lawful_counts g ≡ true → Counts g
+unfolding lawful_counts
 counts g e = record {
   few = leb-true g.count 64 (and_left few? within? bounds);
   within = leb-true g.used g.limit (and_right few? within? bounds);
@@ -53,17 +53,17 @@ unfolding in_set
 limit-few g e =
     leb-true g.limit 256
     (and_right (ltb 0 g.limit) (leb g.limit 256)
-    (and_left (ltb 0 g.limit && leb g.limit 256) (each (λ j. not (ltb j g.count) || knownFlavour (get_or g.flavours j 0) (get_or g.values j 0)) 64) e))
+    (and_left (ltb 0 g.limit && leb g.limit 256) (each (λ j. not (ltb j g.count) || known_flavour (get_or g.flavours j 0) (get_or g.values j 0)) 64) e))
 
 -- a lawful group's counts passed
-pub group-counts : (ns : List Node) (g : Group) → lawfulGroup ns g ≡ true → Counts g
-unfolding lawfulGroup
+pub group-counts : (ns : List Node) (g : Group) → lawful_group ns g ≡ true → Counts g
+unfolding lawful_group
 group-counts ns g e =
     counts g
-    (and_left (lawfulCounts g) (each (λ k. fresh g.members k) g.used)
-    (and_left (lawfulCounts g && each (λ k. fresh g.members k) g.used) (each (λ j. uniformAt ns g j) g.count)
-    (and_left (lawfulCounts g && each (λ k. fresh g.members k) g.used && each (λ j. uniformAt ns g j) g.count)
-    (unusedFrom g.count 64 g.sizes && unusedFrom g.count 64 g.flavours && unusedFrom g.count 64 g.values && unusedFrom g.used 256 g.members)
+    (and_left (lawful_counts g) (each (λ k. fresh g.members k) g.used)
+    (and_left (lawful_counts g && each (λ k. fresh g.members k) g.used) (each (λ j. uniform_at ns g j) g.count)
+    (and_left (lawful_counts g && each (λ k. fresh g.members k) g.used && each (λ j. uniform_at ns g j) g.count)
+    (unused_from g.count 64 g.sizes && unused_from g.count 64 g.flavours && unused_from g.count 64 g.values && unused_from g.used 256 g.members)
     e)))
 
 -- the first k places of a table after its first n, of those below its room, are 0
@@ -84,26 +84,26 @@ module _ (n room : ℕ) (xs : List ℕ) where
   unused-more k l u e = (omega arith, each_more zero? k u.1 (eq-eqb (get_or xs (n + k) 0) 0 e))
 
   -- it stops at another number
-  pub unused-stops : (k : ℕ) → k < room - n → (get_or xs (n + k) 0 ≡ 0 → ⊥) → false ≡ unusedFrom n room xs
-  unfolding unusedFrom
+  pub unused-stops : (k : ℕ) → k < room - n → (get_or xs (n + k) 0 ≡ 0 → ⊥) → false ≡ unused_from n room xs
+  unfolding unused_from
   unused-stops k l e = each-stops zero? (room - n) k l (ne_eqb (get_or xs (n + k) 0) 0 e)
 
   -- it passes the last place
-  pub unused-ends : (k : ℕ) → room - n ≤ k → UnusedTo n room xs k → true ≡ unusedFrom n room xs
-  unfolding unusedFrom
+  pub unused-ends : (k : ℕ) → room - n ≤ k → UnusedTo n room xs k → true ≡ unused_from n room xs
+  unfolding unused_from
   unused-ends k l u = each-ends zero? (room - n) k u.0 l u.1
 
 -- a row is a literal's exactly where its kind is 2
-literal-row : (r : List ℕ) → isLiteral (node_of r) ≡ eqb (get_or r 0 0) 2
-unfolding isLiteral
+literal-row : (r : List ℕ) → is_literal (node_of r) ≡ eqb (get_or r 0 0) 2
+unfolding is_literal
 literal-row r = at (ℕ_discrete (get_or r 0 0) 1) (ℕ_discrete (get_or r 0 0) 2)
   where
-    at : Dec (get_or r 0 0 ≡ 1) → Dec (get_or r 0 0 ≡ 2) → isLiteral (node_of r) ≡ eqb (get_or r 0 0) 2
-    at (yes p) d = ap isLiteral (node-column r p) ∙ sym (ne_eqb (get_or r 0 0) 2 (λ q. omega arith))
-    at (no p) (yes q) = ap isLiteral (node-literal r q) ∙ sym (eq-eqb (get_or r 0 0) 2 q)
-    at (no p) (no q) = ap isLiteral (node-operation r p q) ∙ sym (ne_eqb (get_or r 0 0) 2 q)
+    at : Dec (get_or r 0 0 ≡ 1) → Dec (get_or r 0 0 ≡ 2) → is_literal (node_of r) ≡ eqb (get_or r 0 0) 2
+    at (yes p) d = ap is_literal (node-column r p) ∙ sym (ne_eqb (get_or r 0 0) 2 (λ q. omega arith))
+    at (no p) (yes q) = ap is_literal (node-literal r q) ∙ sym (eq-eqb (get_or r 0 0) 2 q)
+    at (no p) (no q) = ap is_literal (node-operation r p q) ∙ sym (ne_eqb (get_or r 0 0) 2 q)
 
 -- a node is a literal exactly where its cell 0 is 2
-pub literal-cell : (cells : List ℕ) (e : ℕ) → e < count cells → isLiteral (nodeAt (nodes cells) e) ≡ eqb (cell_of cells e 0) 2
+pub literal-cell : (cells : List ℕ) (e : ℕ) → e < count cells → is_literal (node_at (nodes cells) e) ≡ eqb (cell_of cells e 0) 2
 literal-cell cells e l =
-    ap isLiteral (node-decode cells e l) ∙ literal-row (rowOf cells e) ∙ ap (λ (k : ℕ). eqb k 2) (at-row-of cells e 0 (omega arith))
+    ap is_literal (node-decode cells e l) ∙ literal-row (row_of cells e) ∙ ap (λ (k : ℕ). eqb k 2) (at-row_of cells e 0 (omega arith))

@@ -17,22 +17,22 @@ opened limit =
     else record { number = 12; answer = false; group = encode 0 [] }
 
 -- the class at a place: how many members it has, the first of them, and its constant; or that there is none
-unfoldable pub classIs : List Class → Option ℕ → ClassIs
-classIs cs none = NoClass
-classIs cs (some i) = Class-At i (length (class_at cs i).members) (get_or (class_at cs i).members 0 0) (mark_of (class_at cs i).constant)
+unfoldable pub class_is : List Class → Option ℕ → ClassIs
+class_is cs none = NoClass
+class_is cs (some i) = Class-At i (length (class_at cs i).members) (get_or (class_at cs i).members 0 0) (mark_of (class_at cs i).constant)
 
 -- the class of an expression
-unfoldable pub classAnswer : ℕ → List Node → List Class → ClassIs
-classAnswer e ns cs = if ltb e (length ns) then classIs cs (class_of cs e) else Class-Refused 1
+unfoldable pub class_answer : ℕ → List Node → List Class → ClassIs
+class_answer e ns cs = if ltb e (length ns) then class_is cs (class_of cs e) else Class-Refused 1
 
 -- document 01's number of the answer: 0 is done. The number of a call that changes a group stands in what it hands back
-abbrev pub classIsNumber : ClassIs → ℕ
-classIsNumber (Class-At place size first mark) = 0
-classIsNumber NoClass = 0
-classIsNumber (Class-Refused k) = k
+abbrev pub class_is_number : ClassIs → ℕ
+class_is_number (Class-At place size first mark) = 0
+class_is_number NoClass = 0
+class_is_number (Class-Refused k) = k
 
 -- the values of the answer: a class's numbers in their order; a refusal has none
-abbrev pub classIsValues : ClassIs → List ℕ
-classIsValues (Class-At place size first mark) = place ∷ size ∷ first ∷ mark.flavour ∷ mark.value ∷ []
-classIsValues NoClass = []
-classIsValues (Class-Refused k) = []
+abbrev pub class_is_values : ClassIs → List ℕ
+class_is_values (Class-At place size first mark) = place ∷ size ∷ first ∷ mark.flavour ∷ mark.value ∷ []
+class_is_values NoClass = []
+class_is_values (Class-Refused k) = []

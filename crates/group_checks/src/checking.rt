@@ -1,11 +1,11 @@
 // The check of a lent group: document 01's rules 12, 11 and 1, in that order.
 ghost use Rattle.std.specs.Prelude.{Bool, true, false, not, ◌&&◌, ◌||◌, ◌≡◌, ◌≤◌, ◌<◌, ◌+◌, eqb, ltb, leb, length, get_or};
 ghost use Rattle.laws.specs.Tests.{each};
-ghost use Rattle.arena.specs.Node.{nodeAt};
+ghost use Rattle.arena.specs.Node.{node_at};
 ghost use Rattle.arena.specs.Layout.{decode as nodes};
 ghost use Rattle.arena.specs.Inner.{Holds};
-ghost use Rattle.classes.specs.Layout.{knownFlavour, in_set, fresh, isLiteral, uniformAt, unusedFrom, lawfulCounts, lawfulGroup, membersInside, sum_to};
-ghost use Rattle.classes.specs.Calls.{groupNumber};
+ghost use Rattle.classes.specs.Layout.{known_flavour, in_set, fresh, is_literal, uniform_at, unused_from, lawful_counts, lawful_group, members_inside, sum_to};
+ghost use Rattle.classes.specs.Calls.{group_number};
 
 use arena::cells::{cell_of, node_count, wide};
 use arena::checking::lawful_arena;
@@ -13,7 +13,7 @@ use classes::Group;
 
 // A flavour is one of the four, and a value other than 0 stands only where one is known.
 pub fn known_flavour(flavour: u32, value: u32) -> bool
-    ensures { result ≡ knownFlavour flavour value }
+    ensures { result ≡ known_flavour flavour value }
 {
     if 3 < flavour {
         return false;
@@ -27,7 +27,7 @@ pub fn known_flavour(flavour: u32, value: u32) -> bool
 // The flavour and value of class j, if there is one, are in their sets.
 fn known_class(g: Group, j: usize) -> bool
     requires { j < 64 }
-    ensures { result ≡ (not (ltb j g.count) || knownFlavour (get_or g.flavours j 0) (get_or g.values j 0)) }
+    ensures { result ≡ (not (ltb j g.count) || known_flavour (get_or g.flavours j 0) (get_or g.values j 0)) }
 {
     if g.count <= j {
         return true;
@@ -90,7 +90,7 @@ fn sizes_agree(sizes: [usize; 64], n: usize, used: usize) -> bool
 
 // The counts are within their bounds and agree.
 fn lawful_counts(g: Group) -> bool
-    ensures { result ≡ lawfulCounts g }
+    ensures { result ≡ lawful_counts g }
 {
     if 64 < g.count {
         return false;
@@ -153,7 +153,7 @@ pub fn members_below(members: [u32; 256], used: usize, n: usize) -> bool
 // A number is that of a literal.
 fn literal_at(cells: &[u32; 11265], e: u32) -> bool
     requires { Holds cells.now }
-    ensures { result ≡ (ltb e (length (nodes cells.now)) && isLiteral (nodeAt (nodes cells.now) e)) }
+    ensures { result ≡ (ltb e (length (nodes cells.now)) && is_literal (node_at (nodes cells.now) e)) }
 {
     let n = node_count(cells);
     let i = wide(e);
@@ -166,7 +166,7 @@ fn literal_at(cells: &[u32; 11265], e: u32) -> bool
 // A member may stand in a class of a flavour: a literal only in a uniform one.
 pub fn member_fits(cells: &[u32; 11265], e: u32, flavour: u32) -> bool
     requires { Holds cells.now }
-    ensures { result ≡ (not (ltb e (length (nodes cells.now)) && isLiteral (nodeAt (nodes cells.now) e)) || leb 2 flavour) }
+    ensures { result ≡ (not (ltb e (length (nodes cells.now)) && is_literal (node_at (nodes cells.now) e)) || leb 2 flavour) }
 {
     if !literal_at(cells, e) {
         return true;
@@ -177,7 +177,7 @@ pub fn member_fits(cells: &[u32; 11265], e: u32, flavour: u32) -> bool
 // A literal's class is uniform: of class j, whose members start at a place.
 fn uniform_class(cells: &[u32; 11265], g: Group, j: usize, start: usize) -> bool
     requires { (Holds cells.now × (j < 64)) × ((start ≡ sum_to g.sizes j) × (start + get_or g.sizes j 0 ≤ 256)) }
-    ensures { result ≡ uniformAt (nodes cells.now) g j }
+    ensures { result ≡ uniform_at (nodes cells.now) g j }
 {
     let flavour = g.flavours[j];
     let n = g.sizes[j];
@@ -194,7 +194,7 @@ fn uniform_class(cells: &[u32; 11265], g: Group, j: usize, start: usize) -> bool
 // Every literal's class is uniform.
 fn classes_uniform(cells: &[u32; 11265], g: Group) -> bool
     requires { Holds cells.now × ((g.count ≤ 64) × (sum_to g.sizes g.count ≤ 256)) }
-    ensures { result ≡ each (λ j. uniformAt (nodes cells.now) g j) g.count }
+    ensures { result ≡ each (λ j. uniform_at (nodes cells.now) g j) g.count }
 {
     let mut start = 0;
     let mut j = 0;
@@ -211,7 +211,7 @@ fn classes_uniform(cells: &[u32; 11265], g: Group) -> bool
 // The places of a table of sizes after the first n are 0.
 fn sizes_unused(xs: [usize; 64], n: usize) -> bool
     requires { n ≤ 64 }
-    ensures { result ≡ unusedFrom n 64 xs }
+    ensures { result ≡ unused_from n 64 xs }
 {
     let mut k = 0;
     while k < 64 - n {
@@ -226,7 +226,7 @@ fn sizes_unused(xs: [usize; 64], n: usize) -> bool
 // The places of a table of flavours or values after the first n are 0.
 fn marks_unused(xs: [u32; 64], n: usize) -> bool
     requires { n ≤ 64 }
-    ensures { result ≡ unusedFrom n 64 xs }
+    ensures { result ≡ unused_from n 64 xs }
 {
     let mut k = 0;
     while k < 64 - n {
@@ -241,7 +241,7 @@ fn marks_unused(xs: [u32; 64], n: usize) -> bool
 // The places of the table of members after the first n are 0.
 fn members_unused(xs: [u32; 256], n: usize) -> bool
     requires { n ≤ 256 }
-    ensures { result ≡ unusedFrom n 256 xs }
+    ensures { result ≡ unused_from n 256 xs }
 {
     let mut k = 0;
     while k < 256 - n {
@@ -256,7 +256,7 @@ fn members_unused(xs: [u32; 256], n: usize) -> bool
 // Every unused place of the group is 0.
 fn group_unused(g: Group) -> bool
     requires { (g.count ≤ 64) × (g.used ≤ 256) }
-    ensures { result ≡ (unusedFrom g.count 64 g.sizes && unusedFrom g.count 64 g.flavours && unusedFrom g.count 64 g.values && unusedFrom g.used 256 g.members) }
+    ensures { result ≡ (unused_from g.count 64 g.sizes && unused_from g.count 64 g.flavours && unused_from g.count 64 g.values && unused_from g.used 256 g.members) }
 {
     let sizes = g.sizes;
     if !sizes_unused(sizes, g.count) {
@@ -277,7 +277,7 @@ fn group_unused(g: Group) -> bool
 // The group obeys rule 11.
 pub fn lawful_group(cells: &[u32; 11265], g: Group) -> bool
     requires { Holds cells.now × (g.limit ≤ 256) }
-    ensures { result ≡ lawfulGroup (nodes cells.now) g }
+    ensures { result ≡ lawful_group (nodes cells.now) g }
 {
     if !lawful_counts(g) {
         return false;
@@ -294,7 +294,7 @@ pub fn lawful_group(cells: &[u32; 11265], g: Group) -> bool
 
 // The check of a lent group over a lent arena: 0, or 12, 11 or 1, whichever is first.
 pub fn check_group(cells: &[u32; 11265], g: Group) -> u32
-    ensures { result ≡ groupNumber cells.now g }
+    ensures { result ≡ group_number cells.now g }
 {
     if !in_set(g) {
         return 12;

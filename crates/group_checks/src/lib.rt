@@ -7,8 +7,8 @@
 pub mod checking;
 
 ghost use Rattle.std.specs.Prelude.{◌≡◌};
-ghost use Rattle.classes.specs.Calls.{groupNumber, askGroup};
-ghost use Rattle.group_checks.specs.Calls.{opened, classAnswer};
+ghost use Rattle.classes.specs.Calls.{group_number, ask_group};
+ghost use Rattle.group_checks.specs.Calls.{opened, class_answer};
 
 use arena::cells::{node_count, wide};
 use checking::check_group;
@@ -45,14 +45,14 @@ pub fn open_group(limit: usize) -> Changed
 
 // The check of a lent group: 0, or 12, 11 or 1, whichever is first.
 pub fn check(cells: &[u32; 11265], group: Group) -> u32
-    ensures { result ≡ groupNumber cells.now group }
+    ensures { result ≡ group_number cells.now group }
 {
     check_group(cells, group)
 }
 
 // The class of an expression. Refusals: 12, 11, 1.
 pub fn get_equivalence_class(cells: &[u32; 11265], group: Group, expr: u32) -> ClassIs
-    ensures { result ≡ askGroup (λ k. ClassIs.Refused k) (classAnswer expr) cells.now group }
+    ensures { result ≡ ask_group (λ k. ClassIs.Refused k) (class_answer expr) cells.now group }
 {
     let number = check_group(cells, group);
     if number != 0 {

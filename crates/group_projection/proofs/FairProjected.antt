@@ -16,27 +16,27 @@ use Rattle.classes.specs.Class.{Class}
 use Rattle.classes.specs.Good.{flat}
 use Rattle.classes.specs.Steps.{fits}
 use Rattle.classes.specs.Layout.{fresh, encode, decode}
-use Rattle.classes.specs.Calls.{noGroup}
+use Rattle.classes.specs.Calls.{no_group}
 use Rattle.classes.specs.Inner.{Coded}
 use Rattle.classes.specs.declared.Group.{Group}
 use Rattle.classes.specs.declared.Changed.{Changed}
 use Rattle.classes.proofs.Places.{All, length-flat}
 use Rattle.classes.proofs.Codec.{at-padded, built-classes, members-is, used-is}
 use Rattle.conditions.proofs.ConstantLaws.{fits_both}
-use Rattle.merging.specs.Extending.{classFrom, isTrivial}
-use Rattle.merging.specs.Merging.{fromClasses}
+use Rattle.merging.specs.Extending.{class_from, is_trivial}
+use Rattle.merging.specs.Merging.{from_classes}
 use Rattle.merging.specs.Inner.{Fair, AllBelow}
 use Rattle.lent_classes.proofs.ListCounts.{fits-few, fits-small}
 use Rattle.merging.proofs.Smaller.{from-few, from-small}
-use Rattle.merging.proofs.Reaching.{Sane, sane-fair, from-good, sane-from, all_append}
-use Rattle.mappings.specs.Mapping.{Mapped, mappedAt}
+use Rattle.merging.proofs.Reaching.{Sane, sane_fair, from-good, sane_from, all_append}
+use Rattle.mappings.specs.Mapping.{Mapped, mapped_at}
 use Rattle.mappings.specs.Layout.{place_in, decode as mapping, Checked}
 use Rattle.mappings.specs.declared.Mapping.{Mapping}
 use Rattle.mappings.proofs.Targets.{targets-below, decode-length, decode-at}
-use Rattle.projection.specs.Inner.{answer_of, answersIn}
+use Rattle.projection.specs.Inner.{answer_of, answers_in}
 use Rattle.projection_table.proofs.TableLaws.{none-some}
-use Rattle.group_projection.specs.Group.{there, projectedClasses, targetsOf, sourceClasses, telling, projectedList, newConstants, constantsSaid, projectedGroup}
-use Rattle.group_projection.specs.Inner.{listed, madeOrNone, Made, Entries}
+use Rattle.group_projection.specs.Group.{there, projected_classes, targets_of, source_classes, telling, projected_list, new_constants, constants_said, projected_group}
+use Rattle.group_projection.specs.Inner.{listed, made_or_none, Made, Entries}
 use Rattle.group_projection.proofs.ListedLaws.{Lists, lists-coded, lists-classes, lists-list, answer-lists, answer-over}
 use Rattle.group_projection.proofs.MadeGroups.{Within, within-made}
 
@@ -48,7 +48,7 @@ ThereBelow n ks = (k i : ℕ) → get_or ks k none ≡ some i → i < n
 
 -- every target is below n
 abbrev pub TargetsBelow : ℕ → List Mapped → Type 0
-TargetsBelow n ps = (i : ℕ) → i < length ps → AllBelow n (mappedAt ps i).targets
+TargetsBelow n ps = (i : ℕ) → i < length ps → AllBelow n (mapped_at ps i).targets
 
 -- a number that there is stands at some place
 pub there-place : (ks : List (Option ℕ)) (k : ℕ) → k < length (there ks) → (j : ℕ) × (j < length ks) × (get_or ks j none ≡ some (get_or (there ks) k 0))
@@ -80,12 +80,12 @@ pub record TargetOf (j : ℕ) (js : List ℕ) (ps : List Mapped) (x : ℕ) : Typ
   pub below : place < length ps
   pub form : get_or js place 0 ≡ j
   pub target : ℕ
-  pub inside : target < length (mappedAt ps place).targets
-  pub is : get_or (mappedAt ps place).targets target 0 ≡ x
+  pub inside : target < length (mapped_at ps place).targets
+  pub is : get_or (mapped_at ps place).targets target 0 ≡ x
 
 -- so is each of those that are collected for j
-pub targets-place : (j : ℕ) (js : List ℕ) (ps : List Mapped) (k : ℕ) → k < length (targetsOf j js ps) → TargetOf j js ps (get_or (targetsOf j js ps) k 0)
-unfolding targetsOf
+pub targets-place : (j : ℕ) (js : List ℕ) (ps : List Mapped) (k : ℕ) → k < length (targets_of j js ps) → TargetOf j js ps (get_or (targets_of j js ps) k 0)
+unfolding targets_of
 targets-place j [] ps k l = absurd (omega arith)
 targets-place j (i ∷ js) [] k l = absurd (omega arith)
 targets-place j (i ∷ js) (p ∷ ps) k l = go (eqb i j) refl l (targets-place j js ps)
@@ -96,33 +96,33 @@ targets-place j (i ∷ js) (p ∷ ps) k l = go (eqb i j) refl l (targets-place j
     after : (x : ℕ) → TargetOf j js ps x → TargetOf j (i ∷ js) (p ∷ ps) x
     after x t = record { place = suc t.place; below = omega (arith, t.below); form = t.form; target = t.target; inside = t.inside; is = t.is }
 
-    here : eqb i j ≡ true → ((n : ℕ) → n < length (targetsOf j js ps) → TargetOf j js ps (get_or (targetsOf j js ps) n 0)) → Dec (k < length p.targets) → k < length (p.targets ++ targetsOf j js ps)
-        → TargetOf j (i ∷ js) (p ∷ ps) (get_or (p.targets ++ targetsOf j js ps) k 0)
-    here q r (yes b) m = record { place = 0; below = omega arith; form = eqb-true i j q; target = k; inside = b; is = sym (get_or-append p.targets (targetsOf j js ps) 0 k b) }
+    here : eqb i j ≡ true → ((n : ℕ) → n < length (targets_of j js ps) → TargetOf j js ps (get_or (targets_of j js ps) n 0)) → Dec (k < length p.targets) → k < length (p.targets ++ targets_of j js ps)
+        → TargetOf j (i ∷ js) (p ∷ ps) (get_or (p.targets ++ targets_of j js ps) k 0)
+    here q r (yes b) m = record { place = 0; below = omega arith; form = eqb-true i j q; target = k; inside = b; is = sym (get_or-append p.targets (targets_of j js ps) 0 k b) }
     here q r (no b) m =
         let n = k - length p.targets in
         let e : length p.targets + n ≡ k = omega arith in
-        let w : get_or (targetsOf j js ps) n 0 ≡ get_or (p.targets ++ targetsOf j js ps) k 0 =
-        sym (get_or-append-add p.targets (targetsOf j js ps) n 0) ∙ ap (λ (a : ℕ). get_or (p.targets ++ targetsOf j js ps) a 0) e in
-        subst (TargetOf j (i ∷ js) (p ∷ ps)) w (after (get_or (targetsOf j js ps) n 0) (r n (omega (arith, length-append p.targets (targetsOf j js ps)))))
+        let w : get_or (targets_of j js ps) n 0 ≡ get_or (p.targets ++ targets_of j js ps) k 0 =
+        sym (get_or-append-add p.targets (targets_of j js ps) n 0) ∙ ap (λ (a : ℕ). get_or (p.targets ++ targets_of j js ps) a 0) e in
+        subst (TargetOf j (i ∷ js) (p ∷ ps)) w (after (get_or (targets_of j js ps) n 0) (r n (omega (arith, length-append p.targets (targets_of j js ps)))))
 
-    go : (b : Bool) → eqb i j ≡ b → k < length (own b ++ targetsOf j js ps) → ((n : ℕ) → n < length (targetsOf j js ps) → TargetOf j js ps (get_or (targetsOf j js ps) n 0))
-        → TargetOf j (i ∷ js) (p ∷ ps) (get_or (own b ++ targetsOf j js ps) k 0)
+    go : (b : Bool) → eqb i j ≡ b → k < length (own b ++ targets_of j js ps) → ((n : ℕ) → n < length (targets_of j js ps) → TargetOf j js ps (get_or (targets_of j js ps) n 0))
+        → TargetOf j (i ∷ js) (p ∷ ps) (get_or (own b ++ targets_of j js ps) k 0)
     go true q m r = here q r (dec_lt k (length p.targets)) m
-    go false q m r = after (get_or (targetsOf j js ps) k 0) (r k m)
+    go false q m r = after (get_or (targets_of j js ps) k 0) (r k m)
 
 -- they are below what every target is below
-targets-of-below : (n j : ℕ) (js : List ℕ) (ps : List Mapped) → TargetsBelow n ps → AllBelow n (targetsOf j js ps)
-targets-of-below n j js ps h k l = let t = targets-place j js ps k l in subst (λ (x : ℕ). x < n) t.is (h t.place t.below t.target t.inside)
+targets_of-below : (n j : ℕ) (js : List ℕ) (ps : List Mapped) → TargetsBelow n ps → AllBelow n (targets_of j js ps)
+targets_of-below n j js ps h k l = let t = targets-place j js ps k l in subst (λ (x : ℕ). x < n) t.is (h t.place t.below t.target t.inside)
 
 -- what holds of the class of the targets with any normal form holds of each class of sources
-pub all-sources : (Q : Class → Type 0) (ns : List Node) (js : List ℕ) (ps : List Mapped) → ((j : ℕ) → Q (classFrom ns (targetsOf j js ps))) → (n : ℕ) → All Q (sourceClasses ns js ps n)
-unfolding sourceClasses
+pub all-sources : (Q : Class → Type 0) (ns : List Node) (js : List ℕ) (ps : List Mapped) → ((j : ℕ) → Q (class_from ns (targets_of j js ps))) → (n : ℕ) → All Q (source_classes ns js ps n)
+unfolding source_classes
 all-sources Q ns js ps h zero = λ i l. absurd (omega arith)
 all-sources Q ns js ps h (suc n) =
-    all_append Q (sourceClasses ns js ps n) (if fresh js n then classFrom ns (targetsOf (get_or js n 0) js ps) ∷ [] else []) (all-sources Q ns js ps h n) (go (fresh js n))
+    all_append Q (source_classes ns js ps n) (if fresh js n then class_from ns (targets_of (get_or js n 0) js ps) ∷ [] else []) (all-sources Q ns js ps h n) (go (fresh js n))
   where
-    go : (b : Bool) → All Q (if b then classFrom ns (targetsOf (get_or js n 0) js ps) ∷ [] else [])
+    go : (b : Bool) → All Q (if b then class_from ns (targets_of (get_or js n 0) js ps) ∷ [] else [])
     go true zero l = h (get_or js n 0)
     go true (suc i) l = absurd (omega arith)
     go false i l = absurd (omega arith)
@@ -131,24 +131,24 @@ all-sources Q ns js ps h (suc n) =
 
 module _ (ns : List Node) where
   -- for each class
-  sane-projected : (cs : List Class) (ks : List (Option ℕ)) → ThereBelow (length ns) ks → All (Sane ns) (projectedClasses ns cs ks)
-  unfolding projectedClasses
-  sane-projected [] ks h i l = absurd (omega arith)
-  sane-projected (c ∷ cs) ks h zero l =
+  sane_projected : (cs : List Class) (ks : List (Option ℕ)) → ThereBelow (length ns) ks → All (Sane ns) (projected_classes ns cs ks)
+  unfolding projected_classes
+  sane_projected [] ks h i l = absurd (omega arith)
+  sane_projected (c ∷ cs) ks h zero l =
       let n = length c.members in
-      sane-from ns (there (take n ks)) (there-below (length ns) (take n ks) (there-take (length ns) n ks h))
-  sane-projected (c ∷ cs) ks h (suc i) l =
-      sane-projected cs (drop (length c.members) ks) (there-drop (length ns) (length c.members) ks h) i (omega arith)
+      sane_from ns (there (take n ks)) (there-below (length ns) (take n ks) (there-take (length ns) n ks h))
+  sane_projected (c ∷ cs) ks h (suc i) l =
+      sane_projected cs (drop (length c.members) ks) (there-drop (length ns) (length c.members) ks h) i (omega arith)
 
   -- for each normal form
-  sane-sources : (js : List ℕ) (ps : List Mapped) → TargetsBelow (length ns) ps → (n : ℕ) → All (Sane ns) (sourceClasses ns js ps n)
-  sane-sources js ps h = all-sources (Sane ns) ns js ps (λ j. sane-from ns (targetsOf j js ps) (targets-of-below (length ns) j js ps h))
+  sane_sources : (js : List ℕ) (ps : List Mapped) → TargetsBelow (length ns) ps → (n : ℕ) → All (Sane ns) (source_classes ns js ps n)
+  sane_sources js ps h = all-sources (Sane ns) ns js ps (λ j. sane_from ns (targets_of j js ps) (targets_of-below (length ns) j js ps h))
 
 -- what holds for every class holds for every class that says something
 pub all-telling : (Q : Class → Type 0) (cs : List Class) → All Q cs → All Q (telling cs)
 unfolding telling
 all-telling Q [] h = λ i l. absurd (omega arith)
-all-telling Q (c ∷ cs) h = go (isTrivial c) (all-telling Q cs (λ i l. h (suc i) (omega arith)))
+all-telling Q (c ∷ cs) h = go (is_trivial c) (all-telling Q cs (λ i l. h (suc i) (omega arith)))
   where
     go : (b : Bool) → All Q (telling cs) → All Q (if b then telling cs else c ∷ telling cs)
     go true r i l = r i l
@@ -156,13 +156,13 @@ all-telling Q (c ∷ cs) h = go (isTrivial c) (all-telling Q cs (λ i l. h (suc 
     go false r (suc i) l = r i (omega arith)
 
 -- no expression twice in a class, a literal's class uniform, every member in the arena
-pub list-fair-projected : (ns : List Node) (cs : List Class) (ps : List Mapped) (ks : List (Option ℕ)) (js : List ℕ)
-    → ThereBelow (length ns) ks → TargetsBelow (length ns) ps → Fair ns (projectedList ns cs ps ks js)
-unfolding projectedList
-list-fair-projected ns cs ps ks js h t =
-    sane-fair ns (telling (projectedClasses ns cs ks ++ sourceClasses ns js ps (length js)))
-    (all-telling (Sane ns) (projectedClasses ns cs ks ++ sourceClasses ns js ps (length js))
-    (all_append (Sane ns) (projectedClasses ns cs ks) (sourceClasses ns js ps (length js)) (sane-projected ns cs ks h) (sane-sources ns js ps t (length js))))
+pub list_fair_projected : (ns : List Node) (cs : List Class) (ps : List Mapped) (ks : List (Option ℕ)) (js : List ℕ)
+    → ThereBelow (length ns) ks → TargetsBelow (length ns) ps → Fair ns (projected_list ns cs ps ks js)
+unfolding projected_list
+list_fair_projected ns cs ps ks js h t =
+    sane_fair ns (telling (projected_classes ns cs ks ++ source_classes ns js ps (length js)))
+    (all-telling (Sane ns) (projected_classes ns cs ks ++ source_classes ns js ps (length js))
+    (all_append (Sane ns) (projected_classes ns cs ks) (source_classes ns js ps (length js)) (sane_projected ns cs ks h) (sane_sources ns js ps t (length js))))
 
 -- ---- by a table and a struct
 
@@ -174,7 +174,7 @@ answer-below n (suc zero) i l e = absurd (none-some refl e)
 answer-below n (suc (suc x)) i l e = let y : x ≡ i = cc e in omega arith
 
 -- the answers of a table for expressions
-answers-below : (n : ℕ) (table es : List ℕ) → ((k : ℕ) → k < length es → get_or table (get_or es k 0) 0 < n + 2) → ThereBelow n (answersIn table es)
+answers-below : (n : ℕ) (table es : List ℕ) → ((k : ℕ) → k < length es → get_or table (get_or es k 0) 0 < n + 2) → ThereBelow n (answers_in table es)
 answers-below n table [] h k i e = absurd (none-some refl e)
 answers-below n table (x ∷ es) h zero i e = answer-below n (get_or table x 0) i (h 0 (omega arith)) e
 answers-below n table (x ∷ es) h (suc k) i e = answers-below n table es (λ j l. h (suc j) (omega arith)) k i e
@@ -184,7 +184,7 @@ pub member-at : (g : Group) → Coded g → (k : ℕ) → get_or g.members k 0 �
 member-at g c k = ap (λ (l : List ℕ). get_or l k 0) (members-is g c) ∙ at-padded 256 (flat (decode g)) k
 
 -- the answers for the members of a group
-pub members-answers : (n : ℕ) (table : List ℕ) (g : Group) → Coded g → Entries n table g.members g.used → ThereBelow n (answersIn table (flat (decode g)))
+pub members-answers : (n : ℕ) (table : List ℕ) (g : Group) → Coded g → Entries n table g.members g.used → ThereBelow n (answers_in table (flat (decode g)))
 members-answers n table g c h =
     answers-below n table (flat (decode g))
     (λ k l. subst (λ (x : ℕ). get_or table x 0 < n + 2) (member-at g c k) (h k (omega (arith, length-flat (decode g), used-is g c))).1)
@@ -198,46 +198,46 @@ checked-targets n m c i l =
 -- ---- the group
 
 -- a fair list that fits becomes classes that fit
-pub from-within : (ns : List Node) (cs : List Class) → Fair ns cs → fits 256 cs ≡ true → Within ns (fromClasses cs)
+pub from-within : (ns : List Node) (cs : List Class) → Fair ns cs → fits 256 cs ≡ true → Within ns (from_classes cs)
 from-within ns cs f e =
     record {
-      room = fits_both 256 (fromClasses cs) (omega (arith, from-small cs, fits-small cs e)) (omega (arith, from-few cs, fits-few cs e));
+      room = fits_both 256 (from_classes cs) (omega (arith, from-small cs, fits-small cs e)) (omega (arith, from-few cs, fits-few cs e));
       good = from-good ns cs f;
     }
 
 module _ (ns : List Node) (cs : List Class) (ps : List Mapped) (ks : List (Option ℕ)) (js : List ℕ)
-    (list : Changed) (p : list ≡ listed (projectedList ns cs ps ks js)) where
+    (list : Changed) (p : list ≡ listed (projected_list ns cs ps ks js)) where
   -- it exceeds the bounds
-  pub projected-over : (list.number ≡ 0 → ⊥) → (r : Changed) → r ≡ noGroup 4 → r ≡ madeOrNone (projectedGroup ns cs ps ks js)
-  unfolding madeOrNone projectedGroup
-  projected-over n r e = e ∙ rw (answer-over list (projectedList ns cs ps ks js) p n)
+  pub projected-over : (list.number ≡ 0 → ⊥) → (r : Changed) → r ≡ no_group 4 → r ≡ made_or_none (projected_group ns cs ps ks js)
+  unfolding made_or_none projected_group
+  projected-over n r e = e ∙ rw (answer-over list (projected_list ns cs ps ks js) p n)
 
   module _ (z : list.number ≡ 0) where
     -- the list fits
-    lists : Lists list.group (projectedList ns cs ps ks js)
-    lists = answer-lists list (projectedList ns cs ps ks js) p z
+    lists : Lists list.group (projected_list ns cs ps ks js)
+    lists = answer-lists list (projected_list ns cs ps ks js) p z
 
     -- so it can reach `new`
     pub list-coded : Coded list.group
-    list-coded = lists-coded list.group (projectedList ns cs ps ks js) lists
+    list-coded = lists-coded list.group (projected_list ns cs ps ks js) lists
 
-    module _ (out : Group) (q : out ≡ encode list.group.limit (fromClasses (decode list.group))) where
+    module _ (out : Group) (q : out ≡ encode list.group.limit (from_classes (decode list.group))) where
       -- what comes of it
-      out-is : out ≡ encode 256 (fromClasses (projectedList ns cs ps ks js))
+      out-is : out ≡ encode 256 (from_classes (projected_list ns cs ps ks js))
       out-is =
           q
-          ∙ ap (λ (n : ℕ). encode n (fromClasses (decode list.group))) (lists-list list.group (projectedList ns cs ps ks js) lists).limit
-          ∙ ap (λ (ds : List Class). encode 256 (fromClasses ds)) (lists-classes list.group (projectedList ns cs ps ks js) lists)
+          ∙ ap (λ (n : ℕ). encode n (from_classes (decode list.group))) (lists-list list.group (projected_list ns cs ps ks js) lists).limit
+          ∙ ap (λ (ds : List Class). encode 256 (from_classes ds)) (lists-classes list.group (projected_list ns cs ps ks js) lists)
 
       -- is a group
       pub projected-made : (n : ℕ) → n ≡ length ns → ThereBelow n ks → TargetsBelow n ps → Made ns out
       projected-made n e h t =
-          within-made ns out (fromClasses (projectedList ns cs ps ks js)) out-is
-          (from-within ns (projectedList ns cs ps ks js) (list-fair-projected ns cs ps ks js (subst (λ (k : ℕ). ThereBelow k ks) e h) (subst (λ (k : ℕ). TargetsBelow k ps) e t)) lists.room)
+          within-made ns out (from_classes (projected_list ns cs ps ks js)) out-is
+          (from-within ns (projected_list ns cs ps ks js) (list_fair_projected ns cs ps ks js (subst (λ (k : ℕ). ThereBelow k ks) e h) (subst (λ (k : ℕ). TargetsBelow k ps) e t)) lists.room)
 
       -- and then the constants are said
-      pub projected-done : (r : Changed) → r ≡ madeOrNone (constantsSaid true ns (newConstants ns cs ps) (decode out)) → r ≡ madeOrNone (projectedGroup ns cs ps ks js)
-      unfolding projectedGroup
+      pub projected-done : (r : Changed) → r ≡ made_or_none (constants_said true ns (new_constants ns cs ps) (decode out)) → r ≡ made_or_none (projected_group ns cs ps ks js)
+      unfolding projected_group
       projected-done r e =
-          e ∙ ap (λ (ds : List Class). madeOrNone (constantsSaid true ns (newConstants ns cs ps) ds)) (built-classes 256 (fromClasses (projectedList ns cs ps ks js)) out out-is)
+          e ∙ ap (λ (ds : List Class). made_or_none (constants_said true ns (new_constants ns cs ps) ds)) (built-classes 256 (from_classes (projected_list ns cs ps ks js)) out out-is)
           ∙ rw lists.room

@@ -8,10 +8,10 @@ use native.Mathlib.Omega.{arith}
 use lib.ListN.{length, set, take, drop, length-set}
 use lib.Seq.{drop-cons, drop-length, take-suc-set}
 use Rattle.arena.specs.Node.{Node}
-use Rattle.arena.specs.Expression.{Expression, Expressions, expressions, expressionAt, those}
-use Rattle.arena.specs.Arena.{Extends, Placed, placed, and_then, addExpression, addExpressions}
+use Rattle.arena.specs.Expression.{Expression, Expressions, expressions, expression_at, those}
+use Rattle.arena.specs.Arena.{Extends, Placed, placed, and_then, add_expression, add_expressions}
 use Rattle.arena.specs.Layout.{decode as nodes}
-use Rattle.arena.specs.Inner.{Holds, told, Memo, Walked, mapAll}
+use Rattle.arena.specs.Inner.{Holds, told, Memo, Walked, map_all}
 use Rattle.arena.specs.declared.Added.{Added}
 use Rattle.arena.specs.declared.Added.TheVariants.{Number, Refused}
 use Rattle.arena.proofs.Nodes.{extends-none, extends-both, extends-longer}
@@ -25,16 +25,16 @@ use Rattle.mappings.specs.Layout.{decode as mapping}
 use Rattle.mappings.specs.declared.Mapping.{Mapping}
 use Rattle.group_projection.specs.Inner.{FormsReady, Formed}
 use Rattle.mappings.proofs.Targets.{decode-sources}
-use Rattle.mappings.proofs.PlaceReads.{readIn, read-source}
+use Rattle.mappings.proofs.PlaceReads.{read_in, read-source}
 
 -- k sources are done: their normal forms are in the arena, their numbers stand first in the table, and the rest is to be added
 pub record FormedTo (old : ℕ) (firsts s : List ℕ) (m : Mapping) (t memo numbers : List ℕ) (k : ℕ) : Type 0 where
   pub holds : Holds t
   pub extends : Extends (nodes s) (nodes t)
-  pub memo-true : Memo (rewriting old firsts s) (nodes t) memo
+  pub memo_true : Memo (rewriting old firsts s) (nodes t) memo
   pub long : length numbers ≡ 64
-  pub goes : addExpressions (mapAll (rewriting old firsts s) (those (expressions (nodes s)) (sources (mapping m)))) (nodes s)
-      ≡ prefixed (take k numbers) (addExpressions (mapAll (rewriting old firsts s) (those (expressions (nodes s)) (drop k (sources (mapping m))))) (nodes t))
+  pub goes : add_expressions (map_all (rewriting old firsts s) (those (expressions (nodes s)) (sources (mapping m)))) (nodes s)
+      ≡ prefixed (take k numbers) (add_expressions (map_all (rewriting old firsts s) (those (expressions (nodes s)) (drop k (sources (mapping m))))) (nodes t))
 
 module _ (old : ℕ) (firsts s : List ℕ) (m : Mapping) (d : FormsReady old firsts s m) where
   -- the expressions of the sources, and what they are rewritten to
@@ -44,8 +44,8 @@ module _ (old : ℕ) (firsts s : List ℕ) (m : Mapping) (d : FormsReady old fir
   abbrev F : Expression → Expression
   F x = rewriting old firsts s x
 
-  abbrev rewrittenFrom : ℕ → Expressions
-  rewrittenFrom k = mapAll F (those (expressions (nodes s)) (drop k exprs))
+  abbrev rewritten_from : ℕ → Expressions
+  rewritten_from k = map_all F (those (expressions (nodes s)) (drop k exprs))
 
   -- nothing done
   pub forms-begin : (memo numbers : List ℕ) → Memo F (nodes s) memo → length numbers ≡ 64 → FormedTo old firsts s m s memo numbers 0
@@ -53,15 +53,15 @@ module _ (old : ℕ) (firsts s : List ℕ) (m : Mapping) (d : FormsReady old fir
       record {
         holds = d.holds;
         extends = extends-none (nodes s);
-        memo-true = t;
+        memo_true = t;
         long = l;
-        goes = prefixed-none (addExpressions (rewrittenFrom 0) (nodes s));
+        goes = prefixed-none (add_expressions (rewritten_from 0) (nodes s));
       }
 
   -- source k
   module _ (t memo numbers : List ℕ) (k : ℕ) (h : FormedTo old firsts s m t memo numbers k) (l : k < m.count) where
     abbrev expr : ℕ
-    expr = (readIn m k).expr
+    expr = (read_in m k).expr
 
     -- it is an old node
     expr-below : expr < old
@@ -75,11 +75,11 @@ module _ (old : ℕ) (firsts s : List ℕ) (m : Mapping) (d : FormsReady old fir
           there = omega (arith, d.there, length-decode s, length-decode t, extends-longer h.extends);
           inside = d.inside;
           below = expr-below;
-          memo-true = subst (λ (G : Expression → Expression). Memo G (nodes t) memo) (sym (same-rewriting old s d.there firsts t h.extends)) h.memo-true;
+          memo_true = subst (λ (G : Expression → Expression). Memo G (nodes t) memo) (sym (same-rewriting old s d.there firsts t h.extends)) h.memo_true;
         }
 
     -- its expression is as it was
-    same : expressionAt (nodes t) expr ≡ expressionAt (nodes s) expr
+    same : expression_at (nodes t) expr ≡ expression_at (nodes s) expr
     same = expression-kept h.extends expr (omega (arith, expr-below, d.there, length-decode s))
 
     -- the rest begins with it
@@ -88,23 +88,23 @@ module _ (old : ℕ) (firsts s : List ℕ) (m : Mapping) (d : FormsReady old fir
 
     -- what is added after it
     abbrev after : ℕ → List Node → Placed (List ℕ)
-    after i ms = and_then (addExpressions (rewrittenFrom (k + 1)) ms) (λ ks os. placed (i ∷ ks) os)
+    after i ms = and_then (add_expressions (rewritten_from (k + 1)) ms) (λ ks os. placed (i ∷ ks) os)
 
     -- what is to be added, source k first
-    turn : addExpressions (rewrittenFrom k) (nodes t) ≡ and_then (addExpression (F (expressionAt (nodes s) expr)) (nodes t)) after
-    unfolding addExpressions mapAll those
+    turn : add_expressions (rewritten_from k) (nodes t) ≡ and_then (add_expression (F (expression_at (nodes s) expr)) (nodes t)) after
+    unfolding add_expressions map_all those
     turn = rw rest
 
     module _ (u memo₂ : List ℕ) (a : Added) (v : Walked (rewriting old firsts t) t u memo₂ expr a) where
       -- what was walked, by the rewriting of the beginning
-      added : addExpression (F (expressionAt (nodes s) expr)) (nodes t) ≡ told a (nodes u)
+      added : add_expression (F (expression_at (nodes s) expr)) (nodes t) ≡ told a (nodes u)
       added =
-          ap (λ (x : Expression). addExpression (F x) (nodes t)) (sym same)
-          ∙ ap (λ (G : Expression → Expression). addExpression (G (expressionAt (nodes t) expr)) (nodes t)) (sym (same-rewriting old s d.there firsts t h.extends))
+          ap (λ (x : Expression). add_expression (F x) (nodes t)) (sym same)
+          ∙ ap (λ (G : Expression → Expression). add_expression (G (expression_at (nodes t) expr)) (nodes t)) (sym (same-rewriting old s d.there firsts t h.extends))
           ∙ sym v.grew.is
 
       -- what is to be added, by its answer
-      goes_on : addExpressions (rewrittenFrom 0) (nodes s) ≡ prefixed (take k numbers) (and_then (told a (nodes u)) after)
+      goes_on : add_expressions (rewritten_from 0) (nodes s) ≡ prefixed (take k numbers) (and_then (told a (nodes u)) after)
       goes_on = h.goes ∙ ap (prefixed (take k numbers)) (turn ∙ ap (λ (z : Placed ℕ). and_then z after) added)
 
       -- one more is done
@@ -115,12 +115,12 @@ module _ (old : ℕ) (firsts s : List ℕ) (m : Mapping) (d : FormsReady old fir
           record {
             holds = v.grew.holds;
             extends = extends-both h.extends v.grew.extends;
-            memo-true = (same-walked old s d.there firsts t u memo₂ expr a h.extends v).memo-true;
+            memo_true = (same-walked old s d.there firsts t u memo₂ expr a h.extends v).memo_true;
             long = length-set numbers k i ∙ h.long;
             goes =
                 goes_on ∙ ap (λ (b : Added). prefixed (take k numbers) (and_then (told b (nodes u)) after)) q
-                ∙ prefixed-more (take k numbers) i (addExpressions (rewrittenFrom (k + 1)) (nodes u))
-                ∙ ap (λ (l : List ℕ). prefixed l (addExpressions (rewrittenFrom (k + 1)) (nodes u))) e;
+                ∙ prefixed-more (take k numbers) i (add_expressions (rewritten_from (k + 1)) (nodes u))
+                ∙ ap (λ (l : List ℕ). prefixed l (add_expressions (rewritten_from (k + 1)) (nodes u))) e;
           }
 
       -- there was no room
@@ -134,12 +134,12 @@ module _ (old : ℕ) (firsts s : List ℕ) (m : Mapping) (d : FormsReady old fir
           }
 
   -- all done
-  pub forms-end : (t memo numbers : List ℕ) (k : ℕ) → FormedTo old firsts s m t memo numbers k → k ≡ m.count → Formed old firsts s t exprs true (take m.count numbers)
-  unfolding prefixed addExpressions mapAll those
-  forms-end t memo numbers k h e =
+  pub forms_end : (t memo numbers : List ℕ) (k : ℕ) → FormedTo old firsts s m t memo numbers k → k ≡ m.count → Formed old firsts s t exprs true (take m.count numbers)
+  unfolding prefixed add_expressions map_all those
+  forms_end t memo numbers k h e =
       let c : k ≡ length exprs = e ∙ sym (decode-sources m) in
       let r : drop k exprs ≡ [] = rw c (drop-length exprs) in
-      let a : addExpressions (rewrittenFrom 0) (nodes s) ≡ placed (take k numbers) (nodes t) = h.goes ∙ rw (r, append-nil) in
+      let a : add_expressions (rewritten_from 0) (nodes s) ≡ placed (take k numbers) (nodes t) = h.goes ∙ rw (r, append-nil) in
       record {
         holds = h.holds;
         extends = h.extends;

@@ -6,19 +6,19 @@ use mathlib.Core.Path.{◌≡◌, refl, sym, ap, ◌∙◌, subst}
 use native.Mathlib.Omega.{arith}
 use lib.ListN.{length, length-append}
 use Rattle.laws.specs.Tests.{if◌then◌else◌}
-use Rattle.laws.proofs.Booleans.{true-not-false}
+use Rattle.laws.proofs.Booleans.{true_not_false}
 use Rattle.classes.specs.Class.{Class}
 use Rattle.classes.specs.Group.{class_at, total}
 use Rattle.classes.specs.Steps.{fits}
 use Rattle.classes.specs.Layout.{encode, decode}
-use Rattle.classes.specs.Calls.{noGroup}
+use Rattle.classes.specs.Calls.{no_group}
 use Rattle.classes.specs.Inner.{Coded, Room}
 use Rattle.classes.specs.declared.Group.{Group}
 use Rattle.classes.specs.declared.Changed.{Changed}
 use Rattle.classes.proofs.Codec.{built-count, built-limit, built-classes, built-coded, length-decode, used-is, size_is}
 use Rattle.conditions.proofs.ConstantLaws.{fits_both, more-many, more-full, more_room}
-use Rattle.merging.specs.Extending.{isTrivial}
-use Rattle.merging.specs.Calls.{madeGroup}
+use Rattle.merging.specs.Extending.{is_trivial}
+use Rattle.merging.specs.Calls.{made_group}
 use Rattle.lent_classes.proofs.ListCounts.{total-append, fits-few, fits-small}
 use Rattle.group_projection.specs.Group.{telling}
 use Rattle.group_projection.specs.Inner.{listed, One, List256}
@@ -30,7 +30,7 @@ pub over-larger : (cs ds : List Class) → total cs ≤ total ds → length cs �
 over-larger cs ds a b f = go (fits 256 ds) refl
   where
     go : (b : Bool) → fits 256 ds ≡ b → fits 256 ds ≡ false
-    go true h = absurd (true-not-false (fits_both 256 cs (omega (arith, fits-small ds h)) (omega (arith, fits-few ds h))) f)
+    go true h = absurd (true_not_false (fits_both 256 cs (omega (arith, fits-small ds h)) (omega (arith, fits-few ds h))) f)
     go false h = h
 
 -- and with classes after it
@@ -45,17 +45,17 @@ pub record Lists (g : Group) (cs : List Class) : Type 0 where
   pub room : fits 256 cs ≡ true
 
 -- where they fit, the group; else 4
-pub listed-fits : (cs : List Class) → fits 256 cs ≡ true → listed cs ≡ madeGroup cs
+pub listed-fits : (cs : List Class) → fits 256 cs ≡ true → listed cs ≡ made_group cs
 unfolding listed
 listed-fits cs f = rw f
 
-pub listed-over : (cs : List Class) → fits 256 cs ≡ false → (r : Changed) → r ≡ noGroup 4 → r ≡ listed cs
+pub listed-over : (cs : List Class) → fits 256 cs ≡ false → (r : Changed) → r ≡ no_group 4 → r ≡ listed cs
 unfolding listed
-listed-over cs f r q = q ∙ sym (let e : listed cs ≡ noGroup 4 = rw f in e)
+listed-over cs f r q = q ∙ sym (let e : listed cs ≡ no_group 4 = rw f in e)
 
 -- the same classes in other words
-pub lists-as : (g : Group) (cs ds : List Class) → cs ≡ ds → Lists g cs → Lists g ds
-lists-as g cs ds e v = subst (λ (l : List Class). Lists g l) e v
+pub lists_as : (g : Group) (cs ds : List Class) → cs ≡ ds → Lists g cs → Lists g ds
+lists_as g cs ds e v = subst (λ (l : List Class). Lists g l) e v
 
 module _ (g : Group) (cs : List Class) (v : Lists g cs) where
   pub lists-coded : Coded g
@@ -67,8 +67,8 @@ module _ (g : Group) (cs : List Class) (v : Lists g cs) where
   pub lists-list : List256 g
   lists-list = record { coded = lists-coded; limit = built-limit 256 cs g v.is }
 
-  pub lists-made : (r : Changed) → r ≡ madeGroup (decode g) → r ≡ listed cs
-  lists-made r q = q ∙ ap madeGroup lists-classes ∙ sym (listed-fits cs v.room)
+  pub lists-made : (r : Changed) → r ≡ made_group (decode g) → r ≡ listed cs
+  lists-made r q = q ∙ ap made_group lists-classes ∙ sym (listed-fits cs v.room)
 
 -- a group of one class
 pub lists-one : (g : Group) (c : Class) → Lists g (c ∷ []) → One g
@@ -77,15 +77,15 @@ lists-one g c v = record { coded = lists-coded g (c ∷ []) v; limit = built-lim
 -- what an answer says, by its number
 module _ (r : Changed) (cs : List Class) (q : r ≡ listed cs) where
   pub answer-lists : r.number ≡ 0 → Lists r.group cs
-  unfolding listed madeGroup noGroup
+  unfolding listed made_group no_group
   answer-lists n = go (fits 256 cs) refl
     where
       go : (b : Bool) → fits 256 cs ≡ b → Lists r.group cs
       go true f = record { is = ap (λ (c : Changed). c.group) (q ∙ listed-fits cs f); room = f }
-      go false f = absurd (let e : listed cs ≡ noGroup 4 = rw f in omega (arith, n, ap (λ (c : Changed). c.number) (q ∙ e)))
+      go false f = absurd (let e : listed cs ≡ no_group 4 = rw f in omega (arith, n, ap (λ (c : Changed). c.number) (q ∙ e)))
 
   pub answer-over : (r.number ≡ 0 → ⊥) → fits 256 cs ≡ false
-  unfolding listed madeGroup
+  unfolding listed made_group
   answer-over n = go (fits 256 cs) refl
     where
       go : (b : Bool) → fits 256 cs ≡ b → fits 256 cs ≡ false
@@ -109,7 +109,7 @@ list-lists g v = record {
 
 -- of its one class, where it has one
 pub one-lists : (g : Group) → One g → Lists g (class_at (decode g) 0 ∷ [])
-one-lists g v = lists-as g (decode g) (class_at (decode g) 0 ∷ []) (one_only (decode g) (length-decode g ∙ v.single)) (list-lists g (record { coded = v.coded; limit = v.limit }))
+one-lists g v = lists_as g (decode g) (class_at (decode g) 0 ∷ []) (one_only (decode g) (length-decode g ∙ v.single)) (list-lists g (record { coded = v.coded; limit = v.limit }))
 
 -- which has as many members as are used
 pub one-used : (g : Group) → One g → g.used ≡ length (class_at (decode g) 0).members
@@ -121,7 +121,7 @@ one-used g v = omega (arith, used-is g v.coded, ap total (one_only (decode g) (l
 pub telling-append : (cs ds : List Class) → telling (cs ++ ds) ≡ telling cs ++ telling ds
 unfolding telling
 telling-append [] ds = refl
-telling-append (c ∷ cs) ds = go (isTrivial c) (telling-append cs ds)
+telling-append (c ∷ cs) ds = go (is_trivial c) (telling-append cs ds)
   where
     go : (b : Bool) → telling (cs ++ ds) ≡ telling cs ++ telling ds → (if b then telling (cs ++ ds) else c ∷ telling (cs ++ ds)) ≡ (if b then telling cs else c ∷ telling cs) ++ telling ds
     go true r = r
@@ -133,21 +133,21 @@ unfolding telling
 telling-none = refl
 
 -- one class
-pub telling-not : (c : Class) → isTrivial c ≡ true → telling (c ∷ []) ≡ []
+pub telling-not : (c : Class) → is_trivial c ≡ true → telling (c ∷ []) ≡ []
 unfolding telling
 telling-not c t = rw t
 
-pub telling-one : (c : Class) → isTrivial c ≡ false → telling (c ∷ []) ≡ c ∷ []
+pub telling-one : (c : Class) → is_trivial c ≡ false → telling (c ∷ []) ≡ c ∷ []
 unfolding telling
 telling-one c t = rw t
 
 -- a class is kept at the end of a list where it says something
-module _ (out one : Group) (v : List256 out) (w : One one) (b : Bool) (t : b ≡ isTrivial (class_at (decode one) 0)) where
+module _ (out one : Group) (v : List256 out) (w : One one) (b : Bool) (t : b ≡ is_trivial (class_at (decode one) 0)) where
   abbrev last : Class
   last = class_at (decode one) 0
 
   -- it says nothing
-  pub keep-not : b ≡ true → (r : Changed) → r ≡ madeGroup (decode out) → r ≡ listed (decode out ++ telling (last ∷ []))
+  pub keep-not : b ≡ true → (r : Changed) → r ≡ made_group (decode out) → r ≡ listed (decode out ++ telling (last ∷ []))
   keep-not h r q =
       lists-made out (decode out) (list-lists out v) r q
       ∙ ap listed (sym (ap (λ (l : List Class). decode out ++ l) (telling-not last (sym t ∙ h)) ∙ append-nil (decode out)))
@@ -157,13 +157,13 @@ module _ (out one : Group) (v : List256 out) (w : One one) (b : Bool) (t : b ≡
   kept h = ap (λ (l : List Class). decode out ++ l) (telling-one last (sym t ∙ h))
 
   -- there are 64 classes already
-  pub keep-many : b ≡ false → 64 ≤ out.count → (r : Changed) → r ≡ noGroup 4 → r ≡ listed (decode out ++ telling (last ∷ []))
+  pub keep-many : b ≡ false → 64 ≤ out.count → (r : Changed) → r ≡ no_group 4 → r ≡ listed (decode out ++ telling (last ∷ []))
   keep-many h m r q =
       listed-over (decode out ++ (last ∷ [])) (subst (λ (l : ℕ). fits l (decode out ++ (last ∷ [])) ≡ false) v.limit (more-many out v.coded last m)) r q
       ∙ ap listed (sym (kept h))
 
   -- there are too many members
-  pub keep-full : b ≡ false → 256 < out.used + one.used → (r : Changed) → r ≡ noGroup 4 → r ≡ listed (decode out ++ telling (last ∷ []))
+  pub keep-full : b ≡ false → 256 < out.used + one.used → (r : Changed) → r ≡ no_group 4 → r ≡ listed (decode out ++ telling (last ∷ []))
   keep-full h m r q =
       listed-over (decode out ++ (last ∷ [])) (subst (λ (l : ℕ). fits l (decode out ++ (last ∷ [])) ≡ false) v.limit (more-full out v.coded last (omega (arith, v.limit, one-used one w)))) r q
       ∙ ap listed (sym (kept h))
@@ -171,7 +171,7 @@ module _ (out one : Group) (v : List256 out) (w : One one) (b : Bool) (t : b ≡
   -- there is room
   module _ (few : out.count < 64) (small : out.used + one.used ≤ 256) where
     pub keep-asks : Room out one 0 × (out.count < 64)
-    keep-asks = (record { out-coded = v.coded; src-coded = w.coded; there = omega (arith, w.single); members = omega (arith, size_is one w.coded 0, one-used one w) }, few)
+    keep-asks = (record { out-coded = v.coded; src_coded = w.coded; there = omega (arith, w.single); members = omega (arith, size_is one w.coded 0, one-used one w) }, few)
 
     keep-lists : (r : Group) → r ≡ encode out.limit (decode out ++ (last ∷ [])) → Lists r (decode out ++ (last ∷ []))
     keep-lists r q = record {
@@ -182,5 +182,5 @@ module _ (out one : Group) (v : List256 out) (w : One one) (b : Bool) (t : b ≡
     pub keep-coded : (r : Group) → r ≡ encode out.limit (decode out ++ (last ∷ [])) → Coded r
     keep-coded r q = lists-coded r (decode out ++ (last ∷ [])) (keep-lists r q)
 
-    pub keep-made : b ≡ false → (r : Group) → r ≡ encode out.limit (decode out ++ (last ∷ [])) → (s : Changed) → s ≡ madeGroup (decode r) → s ≡ listed (decode out ++ telling (last ∷ []))
+    pub keep-made : b ≡ false → (r : Group) → r ≡ encode out.limit (decode out ++ (last ∷ [])) → (s : Changed) → s ≡ made_group (decode r) → s ≡ listed (decode out ++ telling (last ∷ []))
     keep-made h r q s p = lists-made r (decode out ++ (last ∷ [])) (keep-lists r q) s p ∙ ap listed (sym (kept h))

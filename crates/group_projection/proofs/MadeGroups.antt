@@ -9,13 +9,13 @@ use Rattle.classes.specs.Class.{Class}
 use Rattle.classes.specs.Good.{Good}
 use Rattle.classes.specs.Steps.{fits}
 use Rattle.classes.specs.Layout.{encode, decode}
-use Rattle.classes.specs.Calls.{noGroup}
+use Rattle.classes.specs.Calls.{no_group}
 use Rattle.classes.specs.declared.Group.{Group}
 use Rattle.classes.specs.declared.Changed.{Changed}
 use Rattle.classes.proofs.Codec.{built-used, built-limit, built-classes}
-use Rattle.merging.specs.Calls.{madeGroup}
+use Rattle.merging.specs.Calls.{made_group}
 use Rattle.lent_classes.proofs.ListCounts.{fits-small}
-use Rattle.group_projection.specs.Inner.{madeOrNone, Made}
+use Rattle.group_projection.specs.Inner.{made_or_none, Made}
 use Rattle.group_projection.proofs.ListedLaws.{lists-coded, list-lists}
 
 -- classes that can be a group of limit 256
@@ -46,13 +46,13 @@ made-within ns g m = record { room = (list-lists g (record { coded = m.held.code
 -- ---- an answer by its number
 
 -- classes that were made are there, and the group is their layout
-pub made-done : (o : Option (List Class)) (r : Changed) → r ≡ madeOrNone o → r.number ≡ 0 → (cs : List Class) × ((o ≡ some cs) × (r.group ≡ encode 256 cs))
-unfolding madeOrNone madeGroup noGroup
+pub made-done : (o : Option (List Class)) (r : Changed) → r ≡ made_or_none o → r.number ≡ 0 → (cs : List Class) × ((o ≡ some cs) × (r.group ≡ encode 256 cs))
+unfolding made_or_none made_group no_group
 made-done (some cs) r e z = (cs, (refl, ap (λ (c : Changed). c.group) e))
 made-done none r e z = absurd (let n : r.number ≡ 4 = ap (λ (c : Changed). c.number) e in omega (arith, n, z))
 
 -- those that were not are not
-pub made-refused : (o : Option (List Class)) (r : Changed) → r ≡ madeOrNone o → (r.number ≡ 0 → ⊥) → o ≡ none
-unfolding madeOrNone madeGroup
+pub made-refused : (o : Option (List Class)) (r : Changed) → r ≡ made_or_none o → (r.number ≡ 0 → ⊥) → o ≡ none
+unfolding made_or_none made_group
 made-refused (some cs) r e n = absurd (n (ap (λ (c : Changed). c.number) e))
 made-refused none r e n = refl

@@ -11,43 +11,43 @@ use lib.Seq.{take_all, take-append-le}
 use Rattle.laws.specs.Tests.{if◌then◌else◌}
 use Rattle.arena.specs.Node.{Node}
 use Rattle.arena.specs.Expression.{Expression, Expressions, those, expressions}
-use Rattle.arena.specs.Arena.{Extends, Placed, placed, full, and_then, addExpressions}
+use Rattle.arena.specs.Arena.{Extends, Placed, placed, full, and_then, add_expressions}
 use Rattle.arena.specs.Layout.{count, decode as nodes}
-use Rattle.arena.specs.Calls.{inCells}
-use Rattle.arena.specs.Inner.{Holds, mapAll}
+use Rattle.arena.specs.Calls.{in_cells}
+use Rattle.arena.specs.Inner.{Holds, map_all}
 use Rattle.arena.proofs.Nodes.{extends-none, extends-both, extends-longer}
-use Rattle.arena.proofs.Trees.{those-cong, expression-kept}
+use Rattle.arena.proofs.Trees.{those_cong, expression-kept}
 use Rattle.arena.proofs.Layouts.{length-decode, coded-cells}
 use Rattle.classes.specs.Class.{Class}
 use Rattle.classes.specs.Good.{flat}
 use Rattle.classes.specs.Layout.{decode, padded}
-use Rattle.classes.specs.Calls.{noGroup}
+use Rattle.classes.specs.Calls.{no_group}
 use Rattle.classes.specs.Inner.{Coded, Held}
 use Rattle.classes.specs.declared.Group.{Group}
 use Rattle.classes.specs.declared.Changed.{Changed}
-use Rattle.classes.proofs.Places.{getD-among, length-flat}
+use Rattle.classes.proofs.Places.{get_or-among, length-flat}
 use Rattle.classes.proofs.Codec.{used-is, members-is}
-use Rattle.classes.proofs.Judging.{handedBack, refusal_is}
+use Rattle.classes.proofs.Judging.{handed_back, refusal_is}
 use Rattle.normal.specs.Normal.{normals}
 use Rattle.normal.specs.Inner.{Firsts, rewriting}
 use Rattle.normal.proofs.Calling.{table-inside, rewriting-normals}
 use Rattle.normal.proofs.Steps.{same-rewriting}
 use Rattle.normal.proofs.NormalValue.{good-extended}
-use Rattle.merging.specs.Calls.{madeGroup, refusedGroup, madeOrRefused}
+use Rattle.merging.specs.Calls.{made_group, refused_group, made_or_refused}
 use Rattle.mappings.specs.Mapping.{Mapped, sources}
-use Rattle.mappings.specs.Lent.{mappingLent}
+use Rattle.mappings.specs.Lent.{mapping_lent}
 use Rattle.mappings.specs.Layout.{decode as mapping, Checked}
-use Rattle.mappings.specs.Calls.{projectNumber}
+use Rattle.mappings.specs.Calls.{project_number}
 use Rattle.mappings.specs.declared.Mapping.{Mapping}
 use Rattle.mappings.proofs.Targets.{decode-sources, decode-source}
-use Rattle.projection_table.specs.Projecting.{projections, projectAll}
+use Rattle.projection_table.specs.Projecting.{projections, project_all}
 use Rattle.projection_table.specs.Inner.{Says, Tabled}
-use Rattle.projection.specs.Inner.{answersIn, toldAnswers, AddedAll, ReadyAll, WalkedAll}
+use Rattle.projection.specs.Inner.{answers_in, told_answers, AddedAll, ReadyAll, WalkedAll}
 use Rattle.projection_table.proofs.Sources.{checked-wider}
 use Rattle.projection.proofs.Written.{list-ready}
-use Rattle.group_projection.specs.Group.{projectedNumbers, projectedGroup}
-use Rattle.group_projection.specs.Calls.{projectPlaced, projectBy, projectAnswer}
-use Rattle.group_projection.specs.Inner.{madeOrNone, Entries, FormsReady, Formed, ProjectedOver}
+use Rattle.group_projection.specs.Group.{projected_numbers, projected_group}
+use Rattle.group_projection.specs.Calls.{project_placed, project_by, project_answer}
+use Rattle.group_projection.specs.Inner.{made_or_none, Entries, FormsReady, Formed, ProjectedOver}
 use Rattle.group_projection.proofs.FairProjected.{member-at}
 
 -- ---- what is given
@@ -78,8 +78,8 @@ says-below os xs ns e (suc (suc i)) h = omega (arith, h.0)
 -- ---- what the caller is told
 
 -- the group that was made, or 4
-told-made : (s u : List ℕ) (g : Group) (ps : List Mapped) (r : Changed) → Holds u → (o : Option (List Class)) → r ≡ madeOrNone o → projectBy ps g (nodes s) ≡ madeOrRefused g (nodes s) (nodes u) o → ProjectedOver s u g ps r
-unfolding madeOrNone madeOrRefused refusedGroup madeGroup noGroup
+told-made : (s u : List ℕ) (g : Group) (ps : List Mapped) (r : Changed) → Holds u → (o : Option (List Class)) → r ≡ made_or_none o → project_by ps g (nodes s) ≡ made_or_refused g (nodes s) (nodes u) o → ProjectedOver s u g ps r
+unfolding made_or_none made_or_refused refused_group made_group no_group
 told-made s u g ps r h (some cs) x y = record {
   holds = h;
   done = λ z. ap (λ (c : Changed). (c, nodes u)) x ∙ sym y;
@@ -88,29 +88,29 @@ told-made s u g ps r h (some cs) x y = record {
 told-made s u g ps r h none x y = record {
   holds = h;
   done = λ z. absurd (let n = ap (λ (c : Changed). c.number) x in omega (arith, n, z));
-  refused = λ z. ap (λ (n : ℕ). (handedBack n g, nodes s)) (ap (λ (c : Changed). c.number) x) ∙ sym y;
+  refused = λ z. ap (λ (n : ℕ). (handed_back n g, nodes s)) (ap (λ (c : Changed). c.number) x) ∙ sym y;
 }
 
 -- there was no room: 3
-told-full : (s u : List ℕ) (g : Group) (ps : List Mapped) (r : Changed) → Holds u → r ≡ noGroup 3 → projectedNumbers (nodes s) (decode g) ps ≡ full → ProjectedOver s u g ps r
-unfolding noGroup projectBy projectPlaced refusedGroup
+told-full : (s u : List ℕ) (g : Group) (ps : List Mapped) (r : Changed) → Holds u → r ≡ no_group 3 → projected_numbers (nodes s) (decode g) ps ≡ full → ProjectedOver s u g ps r
+unfolding no_group project_by project_placed refused_group
 told-full s u g ps r h x y = record {
   holds = h;
   done = λ z. absurd (let n = ap (λ (c : Changed). c.number) x in omega (arith, n, z));
-  refused = λ z. ap (λ (n : ℕ). (handedBack n g, nodes s)) (ap (λ (c : Changed). c.number) x) ∙ sym (ap (projectPlaced ps g (nodes s)) y);
+  refused = λ z. ap (λ (n : ℕ). (handed_back n g, nodes s)) (ap (λ (c : Changed). c.number) x) ∙ sym (ap (project_placed ps g (nodes s)) y);
 }
 
 -- the outcome of the projection is handed on
-pub over_done : (s t : List ℕ) (g : Group) (ps : List Mapped) (r : Changed) → ProjectedOver s t g ps r → r.number ≡ 0 → ◌≡◌ {A = Changed × List ℕ} (r, t) (inCells (projectBy ps g (nodes s)))
-unfolding inCells
-over_done s t g ps r o z = ap (λ (c : List ℕ). (r, c)) (sym (coded-cells t o.holds)) ∙ ap inCells (o.done z)
+pub over_done : (s t : List ℕ) (g : Group) (ps : List Mapped) (r : Changed) → ProjectedOver s t g ps r → r.number ≡ 0 → ◌≡◌ {A = Changed × List ℕ} (r, t) (in_cells (project_by ps g (nodes s)))
+unfolding in_cells
+over_done s t g ps r o z = ap (λ (c : List ℕ). (r, c)) (sym (coded-cells t o.holds)) ∙ ap in_cells (o.done z)
 
 -- a refusal: the group and the cells as they were
 pub over-refused : (s t : List ℕ) → Holds s → (g : Group) (ps : List Mapped) (r : Changed) → ProjectedOver s t g ps r → (r.number ≡ 0 → ⊥)
-    → (back : Changed) → (back.number ≡ r.number) × ((back.answer ≡ false) × (back.group ≡ g)) → ◌≡◌ {A = Changed × List ℕ} (back, s) (inCells (projectBy ps g (nodes s)))
-unfolding inCells
+    → (back : Changed) → (back.number ≡ r.number) × ((back.answer ≡ false) × (back.group ≡ g)) → ◌≡◌ {A = Changed × List ℕ} (back, s) (in_cells (project_by ps g (nodes s)))
+unfolding in_cells
 over-refused s t h g ps r o z back q =
-    ap₂ {C = Changed × List ℕ} (λ (b : Changed) (c : List ℕ). (b, c)) (refusal_is back r.number g q) (sym (coded-cells s h)) ∙ ap inCells (o.refused z)
+    ap₂ {C = Changed × List ℕ} (λ (b : Changed) (c : List ℕ). (b, c)) (refusal_is back r.number g q) (sym (coded-cells s h)) ∙ ap in_cells (o.refused z)
 
 -- ---- the projection, over what is checked already
 
@@ -125,7 +125,7 @@ module _ (s : List ℕ) (g : Group) (m : Mapping) (pre : (Holds s × Held (nodes
 
   -- its members are in the arena
   members-below : (k : ℕ) → k < length (flat (decode g)) → get_or (flat (decode g)) k 0 < count s
-  members-below k l = omega (arith, held.good.inside (get_or (flat (decode g)) k 0) (getD-among (flat (decode g)) k l), length-decode s)
+  members-below k l = omega (arith, held.good.inside (get_or (flat (decode g)) k 0) (get_or-among (flat (decode g)) k l), length-decode s)
 
   module _ (old : ℕ) (firsts table : List ℕ) (all : old ≡ count s) (first : Firsts (decode g) old firsts) (tabled : Tabled (nodes s) (projections (nodes s) (decode g) (mapping m)) (nodes s) table) where
     -- the members can be walked
@@ -142,13 +142,13 @@ module _ (s : List ℕ) (g : Group) (m : Mapping) (pre : (Holds s × Held (nodes
           (λ k l. omega (arith, members-below k l, length-decode s))
 
       -- the first part of the definition
-      members-told : (b : Bool) → ok ≡ b → projectAll (nodes s) (decode g) (mapping m) (flat (decode g)) ≡ toldAnswers b (answersIn table' (flat (decode g))) (nodes t)
-      unfolding projectAll
-      members-told b q = sym added.is ∙ ap (λ (c : Bool). toldAnswers c (answersIn table' (flat (decode g))) (nodes t)) q
+      members-told : (b : Bool) → ok ≡ b → project_all (nodes s) (decode g) (mapping m) (flat (decode g)) ≡ told_answers b (answers_in table' (flat (decode g))) (nodes t)
+      unfolding project_all
+      members-told b q = sym added.is ∙ ap (λ (c : Bool). told_answers c (answers_in table' (flat (decode g))) (nodes t)) q
 
       -- there was no room
-      pub walk-full : ok ≡ false → (r : Changed) → r ≡ noGroup 3 → ProjectedOver s t g (mapping m) r
-      unfolding toldAnswers projectedNumbers and_then
+      pub walk-full : ok ≡ false → (r : Changed) → r ≡ no_group 3 → ProjectedOver s t g (mapping m) r
+      unfolding told_answers projected_numbers and_then
       walk-full z r q = told-full s t g (mapping m) r w.holds q (rw (members-told false z))
 
       module _ (yes : ok ≡ true) where
@@ -168,24 +168,24 @@ module _ (s : List ℕ) (g : Group) (m : Mapping) (pre : (Holds s × Held (nodes
 
         forms-kept : those (expressions (nodes t)) (sources (mapping m)) ≡ forms
         forms-kept =
-            those-cong (expressions (nodes t)) (expressions (nodes s)) (sources (mapping m))
+            those_cong (expressions (nodes t)) (expressions (nodes s)) (sources (mapping m))
             (λ k l. expression-kept w.extends (get_or (sources (mapping m)) k 0) (omega (arith, sources-below (count s) m pre.1 k l, length-decode s)))
 
         -- and so are their normal forms
-        normals-kept : mapAll (rewriting old firsts t) (those (expressions (nodes t)) (sources (mapping m))) ≡ normals (nodes s) (decode g) forms
+        normals-kept : map_all (rewriting old firsts t) (those (expressions (nodes t)) (sources (mapping m))) ≡ normals (nodes s) (decode g) forms
         normals-kept =
-            ap₂ {C = Expressions} mapAll (same-rewriting old s (omega arith) firsts t w.extends) forms-kept
+            ap₂ {C = Expressions} map_all (same-rewriting old s (omega arith) firsts t w.extends) forms-kept
             ∙ rewriting-normals s g old firsts holds held all first forms
 
         module _ (u : List ℕ) (fits : Bool) (js : List ℕ) (f : Formed old firsts t u (sources (mapping m)) fits js) where
           -- the numbers of both
-          numbers-told : projectedNumbers (nodes s) (decode g) (mapping m)
-              ≡ and_then (if fits then placed js (nodes u) else full) (λ (is : List ℕ) (os : List Node). placed (answersIn table' (flat (decode g)), is) os)
-          unfolding projectedNumbers toldAnswers and_then
+          numbers-told : projected_numbers (nodes s) (decode g) (mapping m)
+              ≡ and_then (if fits then placed js (nodes u) else full) (λ (is : List ℕ) (os : List Node). placed (answers_in table' (flat (decode g)), is) os)
+          unfolding projected_numbers told_answers and_then
           numbers-told =
               rw (members-told true yes)
-              (ap (λ (o : Placed (List ℕ)). and_then o (λ (is : List ℕ) (os : List Node). placed (answersIn table' (flat (decode g)), is) os))
-              (ap (λ (xs : Expressions). addExpressions xs (nodes t)) (sym normals-kept) ∙ sym f.is))
+              (ap (λ (o : Placed (List ℕ)). and_then o (λ (is : List ℕ) (os : List Node). placed (answers_in table' (flat (decode g)), is) os))
+              (ap (λ (xs : Expressions). add_expressions xs (nodes t)) (sym normals-kept) ∙ sym f.is))
 
           -- the arena as it came in is there
           extended : Extends (nodes s) (nodes u)
@@ -211,28 +211,28 @@ module _ (s : List ℕ) (g : Group) (m : Mapping) (pre : (Holds s × Held (nodes
 
           module _ (r : Changed) where
             -- there was no room
-            pub forms-full : fits ≡ false → r ≡ noGroup 3 → ProjectedOver s u g (mapping m) r
+            pub forms-full : fits ≡ false → r ≡ no_group 3 → ProjectedOver s u g (mapping m) r
             unfolding and_then
             forms-full z q = told-full s u g (mapping m) r f.holds q (numbers-told ∙ rw z)
 
             -- the group was made, or exceeds the bounds
-            pub group-made : fits ≡ true → r ≡ madeOrNone (projectedGroup (nodes u) (decode g) (mapping m) (answersIn table' (flat (decode g))) js) → ProjectedOver s u g (mapping m) r
-            unfolding and_then projectBy projectPlaced
+            pub group-made : fits ≡ true → r ≡ made_or_none (projected_group (nodes u) (decode g) (mapping m) (answers_in table' (flat (decode g))) js) → ProjectedOver s u g (mapping m) r
+            unfolding and_then project_by project_placed
             group-made z q =
-                let n : projectedNumbers (nodes s) (decode g) (mapping m) ≡ placed (answersIn table' (flat (decode g)), js) (nodes u) = numbers-told ∙ rw z in
-                told-made s u g (mapping m) r f.holds (projectedGroup (nodes u) (decode g) (mapping m) (answersIn table' (flat (decode g))) js) q (ap (projectPlaced (mapping m) g (nodes s)) n)
+                let n : projected_numbers (nodes s) (decode g) (mapping m) ≡ placed (answers_in table' (flat (decode g)), js) (nodes u) = numbers-told ∙ rw z in
+                told-made s u g (mapping m) r f.holds (projected_group (nodes u) (decode g) (mapping m) (answers_in table' (flat (decode g))) js) q (ap (project_placed (mapping m) g (nodes s)) n)
 
 -- ---- the call
 
 module _ (cells : List ℕ) (g : Group) (numbers : List ℕ) where
   -- the check refuses
-  pub call-refused : (k : ℕ) → k ≡ projectNumber cells g numbers → (k ≡ 0 → ⊥) → (r : Changed) → (r.number ≡ k) × ((r.answer ≡ false) × (r.group ≡ g)) → ◌≡◌ {A = Changed × List ℕ} (r, cells) (projectAnswer cells g numbers)
-  unfolding projectAnswer
+  pub call-refused : (k : ℕ) → k ≡ project_number cells g numbers → (k ≡ 0 → ⊥) → (r : Changed) → (r.number ≡ k) × ((r.answer ≡ false) × (r.group ≡ g)) → ◌≡◌ {A = Changed × List ℕ} (r, cells) (project_answer cells g numbers)
+  unfolding project_answer
   call-refused k e z r q =
-      ap (λ (c : Changed). (c, cells)) (refusal_is r k g q) ∙ ap (λ (n : ℕ). (handedBack n g, cells)) e
-      ∙ rw (ne_eqb (projectNumber cells g numbers) 0 (λ n. z (e ∙ n)))
+      ap (λ (c : Changed). (c, cells)) (refusal_is r k g q) ∙ ap (λ (n : ℕ). (handed_back n g, cells)) e
+      ∙ rw (ne_eqb (project_number cells g numbers) 0 (λ n. z (e ∙ n)))
 
   -- it lets the call pass
-  pub call-done : projectNumber cells g numbers ≡ 0 → (ps : List Mapped) → ps ≡ mappingLent numbers → (o : Changed × List ℕ) → o ≡ inCells (projectBy ps g (nodes cells)) → o ≡ projectAnswer cells g numbers
-  unfolding projectAnswer
-  call-done z ps e o q = q ∙ ap (λ (l : List Mapped). inCells (projectBy l g (nodes cells))) e ∙ rw (eq-eqb (projectNumber cells g numbers) 0 z)
+  pub call-done : project_number cells g numbers ≡ 0 → (ps : List Mapped) → ps ≡ mapping_lent numbers → (o : Changed × List ℕ) → o ≡ in_cells (project_by ps g (nodes cells)) → o ≡ project_answer cells g numbers
+  unfolding project_answer
+  call-done z ps e o q = q ∙ ap (λ (l : List Mapped). in_cells (project_by l g (nodes cells))) e ∙ rw (eq-eqb (project_number cells g numbers) 0 z)

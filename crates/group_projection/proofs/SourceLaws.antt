@@ -12,34 +12,34 @@ use lib.ListN.{length, get_or, take, drop, take-append-drop}
 use lib.Seq.{take-suc, take_all, drop-cons, length-take-le, get_or-take}
 use Rattle.laws.specs.Tests.{if◌then◌else◌, each}
 use Rattle.laws.specs.Lists.{table}
-use Rattle.laws.proofs.Booleans.{true-not-false}
+use Rattle.laws.proofs.Booleans.{true_not_false}
 use Rattle.laws.proofs.Each.{each_none, each_more, each-stops, each-ends}
-use Rattle.laws.proofs.Table.{length-table, getD-table, table_is}
+use Rattle.laws.proofs.Table.{length-table, get_or-table, table_is}
 use Rattle.arena.specs.Node.{Node}
-use Rattle.classes.specs.Class.{Class, isConstant}
+use Rattle.classes.specs.Class.{Class, is_constant}
 use Rattle.classes.specs.Group.{class_at, total}
 use Rattle.classes.specs.Good.{flat}
 use Rattle.classes.specs.Steps.{fits}
-use Rattle.classes.specs.Layout.{constantFrom, encode, decode, fresh}
-use Rattle.classes.specs.Calls.{noGroup}
+use Rattle.classes.specs.Layout.{constant_from, encode, decode, fresh}
+use Rattle.classes.specs.Calls.{no_group}
 use Rattle.classes.specs.declared.Group.{Group}
 use Rattle.classes.specs.declared.Changed.{Changed}
 use Rattle.classes.proofs.Places.{nothing, total-more, length_more}
 use Rattle.conditions.proofs.ConstantLaws.{fits_both}
-use Rattle.merging.specs.Extending.{pushed, pushedAll, classFrom, isTrivial}
-use Rattle.merging.specs.Calls.{madeGroup}
+use Rattle.merging.specs.Extending.{pushed, pushed_all, class_from, is_trivial}
+use Rattle.merging.specs.Calls.{made_group}
 use Rattle.mappings.specs.Mapping.{Mapped}
-use Rattle.mappings.specs.Layout.{mappedOf, decode as mapping}
+use Rattle.mappings.specs.Layout.{mapped_of, decode as mapping}
 use Rattle.mappings.specs.declared.Source.{Source}
 use Rattle.mappings.specs.declared.Mapping.{Mapping}
 use Rattle.mappings.proofs.Targets.{decode-length}
-use Rattle.mappings.proofs.PlaceReads.{readIn, read_at}
-use Rattle.projection.specs.Inner.{answersIn}
-use Rattle.group_projection.specs.Group.{targetsOf, sourceClasses, projectedClasses, projectedList, telling}
+use Rattle.mappings.proofs.PlaceReads.{read_in, read_at_lem}
+use Rattle.projection.specs.Inner.{answers_in}
+use Rattle.group_projection.specs.Group.{targets_of, source_classes, projected_classes, projected_list, telling}
 use Rattle.group_projection.specs.Inner.{listed, One, List256}
-use Rattle.group_projection.proofs.ListedLaws.{Lists, lists-as, lists-one, lists-classes, lists-made, list-lists, one-lists, listed-over, over-larger, over-more, answer-lists, answer-over, telling-append, telling-none, telling-one}
+use Rattle.group_projection.proofs.ListedLaws.{Lists, lists_as, lists-one, lists-classes, lists-made, list-lists, one-lists, listed-over, over-larger, over-more, answer-lists, answer-over, telling-append, telling-none, telling-one}
 use Rattle.group_projection.proofs.OneLaws.{pushed-one, part-lists, part-over}
-use Rattle.group_projection.proofs.ProjectedParts.{allTelling}
+use Rattle.group_projection.proofs.ProjectedParts.{all_telling}
 
 -- ---- the targets of one source
 
@@ -47,7 +47,7 @@ use Rattle.group_projection.proofs.ProjectedParts.{allTelling}
 table-front : (f : ℕ → ℕ) (n k : ℕ) → k ≤ n → table f n ≡ table f k ++ drop k (table f n)
 table-front f n k l =
     let len = length-table f n in
-    let e : take k (table f n) ≡ table f k = table_is f k (take k (table f n)) 0 (length-take-le k (table f n) (omega arith)) (λ i b. get_or-take k (table f n) i 0 b ∙ getD-table f n i 0 (omega arith)) in
+    let e : take k (table f n) ≡ table f k = table_is f k (take k (table f n)) 0 (length-take-le k (table f n) (omega arith)) (λ i b. get_or-take k (table f n) i 0 b ∙ get_or-table f n i 0 (omega arith)) in
     sym (take-append-drop k (table f n)) ∙ ap (λ (t : List ℕ). t ++ drop k (table f n)) e
 
 -- one more
@@ -56,138 +56,138 @@ unfolding table
 table-next f k = rw (add-one k)
 
 -- the first k targets of a source
-abbrev pub firstTargets : Source → ℕ → List ℕ
-firstTargets source k = table (λ i. get_or source.targets i 0) k
+abbrev pub first_targets : Source → ℕ → List ℕ
+first_targets source k = table (λ i. get_or source.targets i 0) k
 
 module _ (ns : List Node) (c : Class) (source : Source) where
   -- a group of one class, the class c with the first k targets
   abbrev pub TargetsTo : ℕ → Group → Type 0
-  TargetsTo k out = Lists out (pushedAll ns c (firstTargets source k) ∷ [])
+  TargetsTo k out = Lists out (pushed_all ns c (first_targets source k) ∷ [])
 
   -- all of them
-  pub targets-end : (k : ℕ) (out : Group) → k ≡ source.size → TargetsTo k out → Lists out (pushedAll ns c (mappedOf source).targets ∷ [])
-  unfolding mappedOf
-  targets-end k out e v = subst (λ (n : ℕ). Lists out (pushedAll ns c (firstTargets source n) ∷ [])) e v
+  pub targets_end : (k : ℕ) (out : Group) → k ≡ source.size → TargetsTo k out → Lists out (pushed_all ns c (mapped_of source).targets ∷ [])
+  unfolding mapped_of
+  targets_end k out e v = subst (λ (n : ℕ). Lists out (pushed_all ns c (first_targets source n) ∷ [])) e v
 
   module _ (k : ℕ) (l : k < source.size) (out : Group) (v : TargetsTo k out) (e : ℕ) (x : e ≡ get_or source.targets k 0) (r : Changed) (q : r ≡ listed (pushed ns (class_at (decode out) 0) e ∷ [])) where
-    as-all : r ≡ listed (pushedAll ns (class_at (decode out) 0) (e ∷ []) ∷ [])
-    as-all = q ∙ ap (λ (d : Class). listed (d ∷ [])) (sym (pushed-one ns (class_at (decode out) 0) e))
+    as_all : r ≡ listed (pushed_all ns (class_at (decode out) 0) (e ∷ []) ∷ [])
+    as_all = q ∙ ap (λ (d : Class). listed (d ∷ [])) (sym (pushed-one ns (class_at (decode out) 0) e))
 
-    next : firstTargets source k ++ (e ∷ []) ≡ firstTargets source (k + 1)
-    next = ap (λ (y : ℕ). firstTargets source k ++ (y ∷ [])) x ∙ sym (table-next (λ (i : ℕ). get_or source.targets i 0) k)
+    next : first_targets source k ++ (e ∷ []) ≡ first_targets source (k + 1)
+    next = ap (λ (y : ℕ). first_targets source k ++ (y ∷ [])) x ∙ sym (table-next (λ (i : ℕ). get_or source.targets i 0) k)
 
     -- one more was pushed
     pub targets-more : r.number ≡ 0 → TargetsTo (k + 1) r.group
     targets-more n =
-        lists-as r.group (pushedAll ns c (firstTargets source k ++ (e ∷ [])) ∷ []) (pushedAll ns c (firstTargets source (k + 1)) ∷ [])
-        (ap (λ (t : List ℕ). pushedAll ns c t ∷ []) next) (part-lists ns c (firstTargets source k) (e ∷ []) out v r as-all n)
+        lists_as r.group (pushed_all ns c (first_targets source k ++ (e ∷ [])) ∷ []) (pushed_all ns c (first_targets source (k + 1)) ∷ [])
+        (ap (λ (t : List ℕ). pushed_all ns c t ∷ []) next) (part-lists ns c (first_targets source k) (e ∷ []) out v r as_all n)
 
     -- there was no room for it, nor is there for all
-    pub targets-over : (r.number ≡ 0 → ⊥) → (s : Changed) → s ≡ noGroup 4 → s ≡ listed (pushedAll ns c (mappedOf source).targets ∷ [])
-    unfolding mappedOf
+    pub targets-over : (r.number ≡ 0 → ⊥) → (s : Changed) → s ≡ no_group 4 → s ≡ listed (pushed_all ns c (mapped_of source).targets ∷ [])
+    unfolding mapped_of
     targets-over n s p =
         let f : ℕ → ℕ = λ i. get_or source.targets i 0 in
         let ws = drop (k + 1) (table f source.size) in
-        let a : (mappedOf source).targets ≡ firstTargets source k ++ (e ∷ []) ++ ws = table-front f source.size (k + 1) (omega arith) ∙ ap (λ (t : List ℕ). t ++ ws) (sym next) in
-        listed-over (pushedAll ns c (mappedOf source).targets ∷ [])
-        (ap (λ (t : List ℕ). fits 256 (pushedAll ns c t ∷ [])) a ∙ part-over ns c (firstTargets source k) (e ∷ []) out v r as-all n ws) s p
+        let a : (mapped_of source).targets ≡ first_targets source k ++ (e ∷ []) ++ ws = table-front f source.size (k + 1) (omega arith) ∙ ap (λ (t : List ℕ). t ++ ws) (sym next) in
+        listed-over (pushed_all ns c (mapped_of source).targets ∷ [])
+        (ap (λ (t : List ℕ). fits 256 (pushed_all ns c t ∷ [])) a ∙ part-over ns c (first_targets source k) (e ∷ []) out v r as_all n ws) s p
 
 -- none yet
 pub targets-begin : (ns : List Node) (source : Source) (one : Group) → One one → TargetsTo ns (class_at (decode one) 0) source 0 one
-unfolding table pushedAll
+unfolding table pushed_all
 targets-begin ns source one v = one-lists one v
 
 -- the targets of a source, or none
-abbrev pub targetsIf : Bool → Mapped → List ℕ
-targetsIf same p = if same then p.targets else []
+abbrev pub targets_if : Bool → Mapped → List ℕ
+targets_if same p = if same then p.targets else []
 
 -- they are pushed, or nothing is
-pub same-pushed : (ns : List Node) (c : Class) (source : Source) (same : Bool) → same ≡ true → (r : Changed) → r ≡ listed (pushedAll ns c (mappedOf source).targets ∷ []) → r ≡ listed (pushedAll ns c (targetsIf same (mappedOf source)) ∷ [])
-same-pushed ns c source same h r q = q ∙ ap (λ (b : Bool). listed (pushedAll ns c (targetsIf b (mappedOf source)) ∷ [])) (sym h)
+pub same-pushed : (ns : List Node) (c : Class) (source : Source) (same : Bool) → same ≡ true → (r : Changed) → r ≡ listed (pushed_all ns c (mapped_of source).targets ∷ []) → r ≡ listed (pushed_all ns c (targets_if same (mapped_of source)) ∷ [])
+same-pushed ns c source same h r q = q ∙ ap (λ (b : Bool). listed (pushed_all ns c (targets_if b (mapped_of source)) ∷ [])) (sym h)
 
-pub other-pushed : (ns : List Node) (one : Group) → One one → (source : Source) (same : Bool) → same ≡ false → (r : Changed) → r ≡ madeGroup (decode one) → r ≡ listed (pushedAll ns (class_at (decode one) 0) (targetsIf same (mappedOf source)) ∷ [])
-unfolding pushedAll
+pub other-pushed : (ns : List Node) (one : Group) → One one → (source : Source) (same : Bool) → same ≡ false → (r : Changed) → r ≡ made_group (decode one) → r ≡ listed (pushed_all ns (class_at (decode one) 0) (targets_if same (mapped_of source)) ∷ [])
+unfolding pushed_all
 other-pushed ns one v source same h r q =
-    lists-made one (class_at (decode one) 0 ∷ []) (one-lists one v) r q ∙ ap (λ (b : Bool). listed (pushedAll ns (class_at (decode one) 0) (targetsIf b (mappedOf source)) ∷ [])) (sym h)
+    lists-made one (class_at (decode one) 0 ∷ []) (one-lists one v) r q ∙ ap (λ (b : Bool). listed (pushed_all ns (class_at (decode one) 0) (targets_if b (mapped_of source)) ∷ [])) (sym h)
 
 -- ---- the sources with a normal form
 
-targets-none : (j : ℕ) (js : List ℕ) → targetsOf j js [] ≡ []
-unfolding targetsOf
+targets-none : (j : ℕ) (js : List ℕ) → targets_of j js [] ≡ []
+unfolding targets_of
 targets-none j [] = refl
 targets-none j (i ∷ js) = refl
 
 -- sources one after the other
-targets-append : (j : ℕ) (xs ys : List ℕ) (ps : List Mapped) → targetsOf j (xs ++ ys) ps ≡ targetsOf j xs ps ++ targetsOf j ys (drop (length xs) ps)
-unfolding targetsOf
+targets-append : (j : ℕ) (xs ys : List ℕ) (ps : List Mapped) → targets_of j (xs ++ ys) ps ≡ targets_of j xs ps ++ targets_of j ys (drop (length xs) ps)
+unfolding targets_of
 targets-append j [] ys ps = refl
 targets-append j (x ∷ xs) ys [] = sym (targets-none j ys)
 targets-append j (x ∷ xs) ys (p ∷ ps) =
     ap (λ (t : List ℕ). (if eqb x j then p.targets else []) ++ t) (targets-append j xs ys ps)
-    ∙ sym (append_assoc (if eqb x j then p.targets else []) (targetsOf j xs ps) (targetsOf j ys (drop (length xs) ps)))
+    ∙ sym (append_assoc (if eqb x j then p.targets else []) (targets_of j xs ps) (targets_of j ys (drop (length xs) ps)))
 
 -- one source more
-targets_next : (j i : ℕ) (js : List ℕ) (ps : List Mapped) (d : Mapped) → i < length js → i < length ps → targetsOf j (take (i + 1) js) ps ≡ targetsOf j (take i js) ps ++ targetsIf (eqb (get_or js i 0) j) (get_or ps i d)
-unfolding targetsOf
+targets_next : (j i : ℕ) (js : List ℕ) (ps : List Mapped) (d : Mapped) → i < length js → i < length ps → targets_of j (take (i + 1) js) ps ≡ targets_of j (take i js) ps ++ targets_if (eqb (get_or js i 0) j) (get_or ps i d)
+unfolding targets_of
 targets_next j i js ps d a b =
     let t : take (i + 1) js ≡ take i js ++ (get_or js i 0 ∷ []) = rw (add-one i) (take-suc js i 0 a) in
     let n : length (take i js) ≡ i = length-take-le i js (omega arith) in
-    ap (λ (xs : List ℕ). targetsOf j xs ps) t ∙ targets-append j (take i js) (get_or js i 0 ∷ []) ps
-    ∙ ap (λ (xs : List Mapped). targetsOf j (take i js) ps ++ targetsOf j (get_or js i 0 ∷ []) xs) (ap (λ (m : ℕ). drop m ps) n ∙ drop-cons ps i d b)
-    ∙ ap (λ (xs : List ℕ). targetsOf j (take i js) ps ++ xs) (append-nil (targetsIf (eqb (get_or js i 0) j) (get_or ps i d)))
+    ap (λ (xs : List ℕ). targets_of j xs ps) t ∙ targets-append j (take i js) (get_or js i 0 ∷ []) ps
+    ∙ ap (λ (xs : List Mapped). targets_of j (take i js) ps ++ targets_of j (get_or js i 0 ∷ []) xs) (ap (λ (m : ℕ). drop m ps) n ∙ drop-cons ps i d b)
+    ∙ ap (λ (xs : List ℕ). targets_of j (take i js) ps ++ xs) (append-nil (targets_if (eqb (get_or js i 0) j) (get_or ps i d)))
 
 -- all sources begin with some
-targets-rest : (j i : ℕ) (js : List ℕ) (ps : List Mapped) → targetsOf j js ps ≡ targetsOf j (take i js) ps ++ targetsOf j (drop i js) (drop (length (take i js)) ps)
-targets-rest j i js ps = ap (λ (xs : List ℕ). targetsOf j xs ps) (sym (take-append-drop i js)) ∙ targets-append j (take i js) (drop i js) ps
+targets-rest : (j i : ℕ) (js : List ℕ) (ps : List Mapped) → targets_of j js ps ≡ targets_of j (take i js) ps ++ targets_of j (drop i js) (drop (length (take i js)) ps)
+targets-rest j i js ps = ap (λ (xs : List ℕ). targets_of j xs ps) (sym (take-append-drop i js)) ∙ targets-append j (take i js) (drop i js) ps
 
 -- the class of the targets of the first i sources with a normal form
-abbrev pub classOfSources : List Node → Mapping → List ℕ → ℕ → ℕ → Class
-classOfSources ns m js form i = classFrom ns (targetsOf form (take i js) (mapping m))
+abbrev pub class_of_sources : List Node → Mapping → List ℕ → ℕ → ℕ → Class
+class_of_sources ns m js form i = class_from ns (targets_of form (take i js) (mapping m))
 
 -- that of all
-abbrev pub classOfForm : List Node → Mapping → List ℕ → ℕ → Class
-classOfForm ns m js form = classFrom ns (targetsOf form js (mapping m))
+abbrev pub class_of_form : List Node → Mapping → List ℕ → ℕ → Class
+class_of_form ns m js form = class_from ns (targets_of form js (mapping m))
 
 module _ (ns : List Node) (m : Mapping) (js : List ℕ) (form : ℕ) where
   -- none yet
-  pub sources-begin : (one : Group) → one ≡ encode 256 (record { members = []; constant = constantFrom 0 0 } ∷ []) → Lists one (classOfSources ns m js form 0 ∷ [])
-  unfolding classFrom targetsOf pushedAll constantFrom fits total
+  pub sources-begin : (one : Group) → one ≡ encode 256 (record { members = []; constant = constant_from 0 0 } ∷ []) → Lists one (class_of_sources ns m js form 0 ∷ [])
+  unfolding class_from targets_of pushed_all constant_from fits total
   sources-begin one q = record { is = q; room = refl }
 
   -- all of them
-  pub sources-end : (i : ℕ) (one : Group) → length js ≤ i → Lists one (classOfSources ns m js form i ∷ []) → Lists one (classOfForm ns m js form ∷ [])
-  sources-end i one l v =
-      lists-as one (classOfSources ns m js form i ∷ []) (classOfForm ns m js form ∷ []) (ap (λ (xs : List ℕ). classFrom ns (targetsOf form xs (mapping m)) ∷ []) (take_all i js l)) v
+  pub sources_end : (i : ℕ) (one : Group) → length js ≤ i → Lists one (class_of_sources ns m js form i ∷ []) → Lists one (class_of_form ns m js form ∷ [])
+  sources_end i one l v =
+      lists_as one (class_of_sources ns m js form i ∷ []) (class_of_form ns m js form ∷ []) (ap (λ (xs : List ℕ). class_from ns (targets_of form xs (mapping m)) ∷ []) (take_all i js l)) v
 
-  module _ (len : length js ≡ m.count) (i : ℕ) (l : i < m.count) (one : Group) (o : Lists one (classOfSources ns m js form i ∷ [])) (same : Bool) (t : same ≡ eqb (get_or js i 0) form)
-      (r : Changed) (q : r ≡ listed (pushedAll ns (class_at (decode one) 0) (targetsIf same (mappedOf (readIn m i))) ∷ [])) where
+  module _ (len : length js ≡ m.count) (i : ℕ) (l : i < m.count) (one : Group) (o : Lists one (class_of_sources ns m js form i ∷ [])) (same : Bool) (t : same ≡ eqb (get_or js i 0) form)
+      (r : Changed) (q : r ≡ listed (pushed_all ns (class_at (decode one) 0) (targets_if same (mapped_of (read_in m i))) ∷ [])) where
     abbrev before : List ℕ
-    before = targetsOf form (take i js) (mapping m)
+    before = targets_of form (take i js) (mapping m)
 
     abbrev here : List ℕ
-    here = targetsIf same (mappedOf (readIn m i))
+    here = targets_if same (mapped_of (read_in m i))
 
-    source-next : before ++ here ≡ targetsOf form (take (i + 1) js) (mapping m)
+    source-next : before ++ here ≡ targets_of form (take (i + 1) js) (mapping m)
     source-next =
         let p : Mapped = record { source = 0; targets = [] } in
-        let e : here ≡ targetsIf (eqb (get_or js i 0) form) (get_or (mapping m) i p) = ap₂ {C = List ℕ} (λ (b : Bool) (x : Mapped). targetsIf b x) t (sym (read_at m i l p)) in
+        let e : here ≡ targets_if (eqb (get_or js i 0) form) (get_or (mapping m) i p) = ap₂ {C = List ℕ} (λ (b : Bool) (x : Mapped). targets_if b x) t (sym (read_at_lem m i l p)) in
         ap (λ (xs : List ℕ). before ++ xs) e ∙ sym (targets_next form i js (mapping m) p (omega arith) (omega (arith, decode-length m)))
 
     -- the next was pushed
-    pub sources-more : r.number ≡ 0 → Lists r.group (classOfSources ns m js form (i + 1) ∷ [])
-    unfolding classFrom
+    pub sources-more : r.number ≡ 0 → Lists r.group (class_of_sources ns m js form (i + 1) ∷ [])
+    unfolding class_from
     sources-more z =
-        lists-as r.group (pushedAll ns nothing (before ++ here) ∷ []) (classOfSources ns m js form (i + 1) ∷ []) (ap (λ (xs : List ℕ). pushedAll ns nothing xs ∷ []) source-next)
+        lists_as r.group (pushed_all ns nothing (before ++ here) ∷ []) (class_of_sources ns m js form (i + 1) ∷ []) (ap (λ (xs : List ℕ). pushed_all ns nothing xs ∷ []) source-next)
         (part-lists ns nothing before here one o r q z)
 
     -- there was no room for it, nor is there for all
-    pub sources-over : (r.number ≡ 0 → ⊥) → (s : Changed) → s ≡ noGroup 4 → s ≡ listed (classOfForm ns m js form ∷ [])
-    unfolding classFrom
+    pub sources-over : (r.number ≡ 0 → ⊥) → (s : Changed) → s ≡ no_group 4 → s ≡ listed (class_of_form ns m js form ∷ [])
+    unfolding class_from
     sources-over z s p =
-        let ws = targetsOf form (drop (i + 1) js) (drop (length (take (i + 1) js)) (mapping m)) in
-        let a : targetsOf form js (mapping m) ≡ before ++ here ++ ws = targets-rest form (i + 1) js (mapping m) ∙ ap (λ (xs : List ℕ). xs ++ ws) (sym source-next) in
-        listed-over (classOfForm ns m js form ∷ [])
-        (ap (λ (xs : List ℕ). fits 256 (pushedAll ns nothing xs ∷ [])) a ∙ part-over ns nothing before here one o r q z ws) s p
+        let ws = targets_of form (drop (i + 1) js) (drop (length (take (i + 1) js)) (mapping m)) in
+        let a : targets_of form js (mapping m) ≡ before ++ here ++ ws = targets-rest form (i + 1) js (mapping m) ∙ ap (λ (xs : List ℕ). xs ++ ws) (sym source-next) in
+        listed-over (class_of_form ns m js form ∷ [])
+        (ap (λ (xs : List ℕ). fits 256 (pushed_all ns nothing xs ∷ [])) a ∙ part-over ns nothing before here one o r q z ws) s p
 
 -- ---- the normal forms
 
@@ -217,48 +217,48 @@ module _ (numbers : List ℕ) (n i : ℕ) (l : i < n) where
   fresh-ends k a b h = each-ends (Apart numbers n i) i k a b h
 
 -- a class that is too large says something
-large-tells : (c : Class) → fits 256 (c ∷ []) ≡ false → isTrivial c ≡ false
-unfolding isTrivial total
-large-tells c f = go (dec_lt 256 (length c.members))
+large_tells : (c : Class) → fits 256 (c ∷ []) ≡ false → is_trivial c ≡ false
+unfolding is_trivial total
+large_tells c f = go (dec_lt 256 (length c.members))
   where
-    go : Dec (256 < length c.members) → (eqb (length c.members) 0 || (eqb (length c.members) 1 && not (isConstant c.constant))) ≡ false
+    go : Dec (256 < length c.members) → (eqb (length c.members) 0 || (eqb (length c.members) 1 && not (is_constant c.constant))) ≡ false
     go (yes b) = rw (ne_eqb (length c.members) 0 (λ e. omega arith), ne_eqb (length c.members) 1 (λ e. omega arith))
-    go (no b) = absurd (true-not-false (fits_both 256 (c ∷ []) (omega arith) (omega arith)) f)
+    go (no b) = absurd (true_not_false (fits_both 256 (c ∷ []) (omega arith) (omega arith)) f)
 
 -- what a normal form at a place brings
 abbrev pub brought : List Node → Mapping → List ℕ → ℕ → List Class
-brought ns m js i = if fresh js i then classOfForm ns m js (get_or js i 0) ∷ [] else []
+brought ns m js i = if fresh js i then class_of_form ns m js (get_or js i 0) ∷ [] else []
 
 module _ (ns : List Node) (out : Group) (v : List256 out) (m : Mapping) (js : List ℕ) (i : ℕ) (b : Bool) (t : b ≡ fresh js i) where
   -- it stands before its place
-  pub form-not : b ≡ false → (r : Changed) → r ≡ madeGroup (decode out) → r ≡ listed (decode out ++ telling (brought ns m js i))
+  pub form-not : b ≡ false → (r : Changed) → r ≡ made_group (decode out) → r ≡ listed (decode out ++ telling (brought ns m js i))
   form-not h r q =
       let e : brought ns m js i ≡ [] = rw (sym t ∙ h) in
       lists-made out (decode out) (list-lists out v) r q ∙ ap listed (sym (ap (λ (cs : List Class). decode out ++ telling cs) e ∙ ap (λ (cs : List Class). decode out ++ cs) telling-none ∙ append-nil (decode out)))
 
-  module _ (h : b ≡ true) (form : ℕ) (x : form ≡ get_or js i 0) (one : Changed) (o : one ≡ listed (classOfForm ns m js form ∷ [])) where
-    is-brought : classOfForm ns m js form ∷ [] ≡ brought ns m js i
+  module _ (h : b ≡ true) (form : ℕ) (x : form ≡ get_or js i 0) (one : Changed) (o : one ≡ listed (class_of_form ns m js form ∷ [])) where
+    is-brought : class_of_form ns m js form ∷ [] ≡ brought ns m js i
     is-brought =
-        let e : brought ns m js i ≡ classOfForm ns m js (get_or js i 0) ∷ [] = rw (sym t ∙ h) in
-        ap (λ (k : ℕ). classOfForm ns m js k ∷ []) x ∙ sym e
+        let e : brought ns m js i ≡ class_of_form ns m js (get_or js i 0) ∷ [] = rw (sym t ∙ h) in
+        ap (λ (k : ℕ). class_of_form ns m js k ∷ []) x ∙ sym e
 
     -- its class is too large
-    pub form-over : (one.number ≡ 0 → ⊥) → (r : Changed) → r ≡ noGroup 4 → r ≡ listed (decode out ++ telling (brought ns m js i))
+    pub form-over : (one.number ≡ 0 → ⊥) → (r : Changed) → r ≡ no_group 4 → r ≡ listed (decode out ++ telling (brought ns m js i))
     unfolding total
     form-over n r q =
-        let c = classOfForm ns m js form in
+        let c = class_of_form ns m js form in
         let f = answer-over one (c ∷ []) o n in
         let g : fits 256 (decode out ++ (c ∷ [])) ≡ false = over-larger (c ∷ []) (decode out ++ (c ∷ [])) (omega (arith, total-more (decode out) c)) (omega (arith, length_more (decode out) c)) f in
         listed-over (decode out ++ (c ∷ [])) g r q
-        ∙ ap listed (sym (ap (λ (cs : List Class). decode out ++ telling cs) (sym is-brought) ∙ ap (λ (cs : List Class). decode out ++ cs) (telling-one c (large-tells c f))))
+        ∙ ap listed (sym (ap (λ (cs : List Class). decode out ++ telling cs) (sym is-brought) ∙ ap (λ (cs : List Class). decode out ++ cs) (telling-one c (large_tells c f))))
 
     -- its class is kept if it says something
     pub form-asks : one.number ≡ 0 → List256 out × One one.group
-    form-asks n = (v, lists-one one.group (classOfForm ns m js form) (answer-lists one (classOfForm ns m js form ∷ []) o n))
+    form-asks n = (v, lists-one one.group (class_of_form ns m js form) (answer-lists one (class_of_form ns m js form ∷ []) o n))
 
     pub form-kept : one.number ≡ 0 → (r : Changed) → r ≡ listed (decode out ++ telling (class_at (decode one.group) 0 ∷ [])) → r ≡ listed (decode out ++ telling (brought ns m js i))
     form-kept n r q =
-        let c = classOfForm ns m js form in
+        let c = class_of_form ns m js form in
         q ∙ ap (λ (cs : List Class). listed (decode out ++ telling (class_at cs 0 ∷ []))) (lists-classes one.group (c ∷ []) (answer-lists one (c ∷ []) o n))
         ∙ ap (λ (cs : List Class). listed (decode out ++ telling cs)) is-brought
 
@@ -267,72 +267,72 @@ module _ (ns : List Node) (out : Group) (v : List256 out) (m : Mapping) (js : Li
 -- all classes begin with those of the first i
 record Front (ns : List Node) (js : List ℕ) (ps : List Mapped) (n i : ℕ) : Type 0 where
   rest : List Class
-  splits : sourceClasses ns js ps n ≡ sourceClasses ns js ps i ++ rest
+  splits : source_classes ns js ps n ≡ source_classes ns js ps i ++ rest
 
 sources-front : (ns : List Node) (js : List ℕ) (ps : List Mapped) (n i : ℕ) → i ≤ n → Front ns js ps n i
-unfolding sourceClasses
+unfolding source_classes
 sources-front ns js ps zero zero l = record { rest = []; splits = refl }
 sources-front ns js ps zero (suc i) l = absurd (omega arith)
 sources-front ns js ps (suc n) i l = go (ℕ_discrete i (suc n)) (λ b. sources-front ns js ps n i b)
   where
     more : List Class
-    more = if fresh js n then classFrom ns (targetsOf (get_or js n 0) js ps) ∷ [] else []
+    more = if fresh js n then class_from ns (targets_of (get_or js n 0) js ps) ∷ [] else []
 
     go : Dec (i ≡ suc n) → (i ≤ n → Front ns js ps n i) → Front ns js ps (suc n) i
-    go (yes e) f = record { rest = []; splits = ap (sourceClasses ns js ps) (sym e) ∙ sym (append-nil (sourceClasses ns js ps i)) }
+    go (yes e) f = record { rest = []; splits = ap (source_classes ns js ps) (sym e) ∙ sym (append-nil (source_classes ns js ps i)) }
     go (no e) f =
         let h = f (omega arith) in
-        record { rest = h.rest ++ more; splits = ap (λ (cs : List Class). cs ++ more) h.splits ∙ append_assoc (sourceClasses ns js ps i) h.rest more }
+        record { rest = h.rest ++ more; splits = ap (λ (cs : List Class). cs ++ more) h.splits ∙ append_assoc (source_classes ns js ps i) h.rest more }
 
 module _ (ns : List Node) (list : Group) (m : Mapping) (js : List ℕ) where
   -- the list with the classes of the first i normal forms that say something
-  abbrev pub withSources : ℕ → List Class
-  withSources i = decode list ++ telling (sourceClasses ns js (mapping m) i)
+  abbrev pub with_sources : ℕ → List Class
+  with_sources i = decode list ++ telling (source_classes ns js (mapping m) i)
 
   -- none yet
-  pub forms-begin : List256 list → Lists list (withSources 0)
-  unfolding sourceClasses telling
-  forms-begin v = lists-as list (decode list) (decode list ++ []) (sym (append-nil (decode list))) (list-lists list v)
+  pub forms-begin : List256 list → Lists list (with_sources 0)
+  unfolding source_classes telling
+  forms-begin v = lists_as list (decode list) (decode list ++ []) (sym (append-nil (decode list))) (list-lists list v)
 
-  module _ (i : ℕ) (out : Group) (o : Lists out (withSources i)) (r : Changed) (q : r ≡ listed (decode out ++ telling (brought ns m js i))) where
-    forms-is : r ≡ listed (withSources (i + 1))
-    unfolding sourceClasses
+  module _ (i : ℕ) (out : Group) (o : Lists out (with_sources i)) (r : Changed) (q : r ≡ listed (decode out ++ telling (brought ns m js i))) where
+    forms-is : r ≡ listed (with_sources (i + 1))
+    unfolding source_classes
     forms-is =
-        let cs = sourceClasses ns js (mapping m) i in
-        let e : sourceClasses ns js (mapping m) (i + 1) ≡ cs ++ brought ns m js i = rw (add-one i) in
-        q ∙ ap (λ (ds : List Class). listed (ds ++ telling (brought ns m js i))) (lists-classes out (withSources i) o)
+        let cs = source_classes ns js (mapping m) i in
+        let e : source_classes ns js (mapping m) (i + 1) ≡ cs ++ brought ns m js i = rw (add-one i) in
+        q ∙ ap (λ (ds : List Class). listed (ds ++ telling (brought ns m js i))) (lists-classes out (with_sources i) o)
         ∙ ap listed (append_assoc (decode list) (telling cs) (telling (brought ns m js i)) ∙ ap (λ (ds : List Class). decode list ++ ds) (sym (ap telling e ∙ telling-append cs (brought ns m js i))))
 
     -- the next was added
-    pub forms-more : r.number ≡ 0 → Lists r.group (withSources (i + 1))
-    forms-more n = answer-lists r (withSources (i + 1)) forms-is n
+    pub forms-more : r.number ≡ 0 → Lists r.group (with_sources (i + 1))
+    forms-more n = answer-lists r (with_sources (i + 1)) forms-is n
 
     -- there was no room for it, nor is there for all
-    pub forms-over : (n : ℕ) → i < n → (r.number ≡ 0 → ⊥) → (s : Changed) → s ≡ noGroup 4 → s ≡ listed (withSources n)
+    pub forms-over : (n : ℕ) → i < n → (r.number ≡ 0 → ⊥) → (s : Changed) → s ≡ no_group 4 → s ≡ listed (with_sources n)
     forms-over n l z s p =
         let f = sources-front ns js (mapping m) n (i + 1) (omega arith) in
-        let e : withSources n ≡ withSources (i + 1) ++ telling f.rest =
-        ap (λ (cs : List Class). decode list ++ telling cs) f.splits ∙ ap (λ (cs : List Class). decode list ++ cs) (telling-append (sourceClasses ns js (mapping m) (i + 1)) f.rest)
-        ∙ sym (append_assoc (decode list) (telling (sourceClasses ns js (mapping m) (i + 1))) (telling f.rest)) in
-        listed-over (withSources n) (ap (fits 256) e ∙ over-more (withSources (i + 1)) (telling f.rest) (answer-over r (withSources (i + 1)) forms-is z)) s p
+        let e : with_sources n ≡ with_sources (i + 1) ++ telling f.rest =
+        ap (λ (cs : List Class). decode list ++ telling cs) f.splits ∙ ap (λ (cs : List Class). decode list ++ cs) (telling-append (source_classes ns js (mapping m) (i + 1)) f.rest)
+        ∙ sym (append_assoc (decode list) (telling (source_classes ns js (mapping m) (i + 1))) (telling f.rest)) in
+        listed-over (with_sources n) (ap (fits 256) e ∙ over-more (with_sources (i + 1)) (telling f.rest) (answer-over r (with_sources (i + 1)) forms-is z)) s p
 
 -- ---- both lists, one after the other
 
-module _ (ns : List Node) (entries : List ℕ) (g : Group) (m : Mapping) (js : List ℕ) (front : Changed) (f : front ≡ listed (allTelling ns entries g)) where
-  list-is : projectedList ns (decode g) (mapping m) (answersIn entries (flat (decode g))) js ≡ allTelling ns entries g ++ telling (sourceClasses ns js (mapping m) (length js))
-  unfolding projectedList
-  list-is = telling-append (projectedClasses ns (decode g) (answersIn entries (flat (decode g)))) (sourceClasses ns js (mapping m) (length js))
+module _ (ns : List Node) (entries : List ℕ) (g : Group) (m : Mapping) (js : List ℕ) (front : Changed) (f : front ≡ listed (all_telling ns entries g)) where
+  list-is : projected_list ns (decode g) (mapping m) (answers_in entries (flat (decode g))) js ≡ all_telling ns entries g ++ telling (source_classes ns js (mapping m) (length js))
+  unfolding projected_list
+  list-is = telling-append (projected_classes ns (decode g) (answers_in entries (flat (decode g)))) (source_classes ns js (mapping m) (length js))
 
   -- there was no room for the first
-  pub list_over : (front.number ≡ 0 → ⊥) → (r : Changed) → r ≡ noGroup 4 → r ≡ listed (projectedList ns (decode g) (mapping m) (answersIn entries (flat (decode g))) js)
+  pub list_over : (front.number ≡ 0 → ⊥) → (r : Changed) → r ≡ no_group 4 → r ≡ listed (projected_list ns (decode g) (mapping m) (answers_in entries (flat (decode g))) js)
   list_over n r q =
-      listed-over (allTelling ns entries g ++ telling (sourceClasses ns js (mapping m) (length js)))
-      (over-more (allTelling ns entries g) (telling (sourceClasses ns js (mapping m) (length js))) (answer-over front (allTelling ns entries g) f n)) r q
+      listed-over (all_telling ns entries g ++ telling (source_classes ns js (mapping m) (length js)))
+      (over-more (all_telling ns entries g) (telling (source_classes ns js (mapping m) (length js))) (answer-over front (all_telling ns entries g) f n)) r q
       ∙ ap listed (sym list-is)
 
   -- the second follows the first
-  pub list-made : length js ≡ m.count → front.number ≡ 0 → (r : Changed) → r ≡ listed (withSources ns front.group m js m.count) → r ≡ listed (projectedList ns (decode g) (mapping m) (answersIn entries (flat (decode g))) js)
+  pub list-made : length js ≡ m.count → front.number ≡ 0 → (r : Changed) → r ≡ listed (with_sources ns front.group m js m.count) → r ≡ listed (projected_list ns (decode g) (mapping m) (answers_in entries (flat (decode g))) js)
   list-made len n r q =
-      q ∙ ap (λ (cs : List Class). listed (cs ++ telling (sourceClasses ns js (mapping m) m.count))) (lists-classes front.group (allTelling ns entries g) (answer-lists front (allTelling ns entries g) f n))
-      ∙ ap (λ (k : ℕ). listed (allTelling ns entries g ++ telling (sourceClasses ns js (mapping m) k))) (sym len)
+      q ∙ ap (λ (cs : List Class). listed (cs ++ telling (source_classes ns js (mapping m) m.count))) (lists-classes front.group (all_telling ns entries g) (answer-lists front (all_telling ns entries g) f n))
+      ∙ ap (λ (k : ℕ). listed (all_telling ns entries g ++ telling (source_classes ns js (mapping m) k))) (sym len)
       ∙ ap listed (sym list-is)

@@ -4,24 +4,24 @@ use Rattle.std.proofs.Math.Option.{Option, none, some}
 use Rattle.laws.specs.Tests.{if◌then◌else◌}
 use Rattle.arena.specs.Node.{Node}
 use Rattle.arena.specs.Expression.{expressions, those}
-use Rattle.arena.specs.Arena.{Placed, placed, and_then, addExpressions}
-use Rattle.classes.specs.Class.{Constant, Class, isConstant}
-use Rattle.classes.specs.Group.{withConstant}
+use Rattle.arena.specs.Arena.{Placed, placed, and_then, add_expressions}
+use Rattle.classes.specs.Class.{Constant, Class, is_constant}
+use Rattle.classes.specs.Group.{with_constant}
 use Rattle.classes.specs.Good.{flat}
 use Rattle.classes.specs.Steps.{fits}
 use Rattle.classes.specs.Layout.{fresh}
-use Rattle.questions.specs.Questions.{exprConstant}
+use Rattle.questions.specs.Questions.{expr_constant}
 use Rattle.normal.specs.Normal.{normals}
-use Rattle.merging.specs.Extending.{classFrom, isTrivial}
-use Rattle.merging.specs.Merging.{fromClasses}
+use Rattle.merging.specs.Extending.{class_from, is_trivial}
+use Rattle.merging.specs.Merging.{from_classes}
 use Rattle.mappings.specs.Mapping.{Mapped, sources}
-use Rattle.projection_table.specs.Projecting.{projectAll}
+use Rattle.projection_table.specs.Projecting.{project_all}
 
 -- the missing nodes of the members' projections are added in class order, then those of the sources' normal forms in mapping order: the numbers of both
-unfoldable pub projectedNumbers : List Node → List Class → List Mapped → Placed (List (Option ℕ) × List ℕ)
-projectedNumbers ns cs ps =
-    and_then (projectAll ns cs ps (flat cs))
-    (λ ks ms. and_then (addExpressions (normals ns cs (those (expressions ns) (sources ps))) ms) (λ js os. placed (ks, js) os))
+unfoldable pub projected_numbers : List Node → List Class → List Mapped → Placed (List (Option ℕ) × List ℕ)
+projected_numbers ns cs ps =
+    and_then (project_all ns cs ps (flat cs))
+    (λ ks ms. and_then (add_expressions (normals ns cs (those (expressions ns) (sources ps))) ms) (λ js os. placed (ks, js) os))
 
 -- those that there are
 unfoldable pub there : List (Option ℕ) → List ℕ
@@ -30,47 +30,47 @@ there (none ∷ ks) = there ks
 there (some k ∷ ks) = k ∷ there ks
 
 -- for each class the class of its members' projections, from these in class order
-unfoldable pub projectedClasses : List Node → List Class → List (Option ℕ) → List Class
-projectedClasses ns [] ks = []
-projectedClasses ns (c ∷ cs) ks = classFrom ns (there (take (length c.members) ks)) ∷ projectedClasses ns cs (drop (length c.members) ks)
+unfoldable pub projected_classes : List Node → List Class → List (Option ℕ) → List Class
+projected_classes ns [] ks = []
+projected_classes ns (c ∷ cs) ks = class_from ns (there (take (length c.members) ks)) ∷ projected_classes ns cs (drop (length c.members) ks)
 
 -- the targets of the sources with the normal form j, where js are the normal forms of the sources in their order
-unfoldable pub targetsOf : ℕ → List ℕ → List Mapped → List ℕ
-targetsOf j [] ps = []
-targetsOf j (i ∷ js) [] = []
-targetsOf j (i ∷ js) (p ∷ ps) = (if eqb i j then p.targets else []) ++ targetsOf j js ps
+unfoldable pub targets_of : ℕ → List ℕ → List Mapped → List ℕ
+targets_of j [] ps = []
+targets_of j (i ∷ js) [] = []
+targets_of j (i ∷ js) (p ∷ ps) = (if eqb i j then p.targets else []) ++ targets_of j js ps
 
 -- for each of the first n normal forms that does not stand before its place, the class of the targets of the sources with it
-unfoldable pub sourceClasses : List Node → List ℕ → List Mapped → ℕ → List Class
-sourceClasses ns js ps zero = []
-sourceClasses ns js ps (suc n) = sourceClasses ns js ps n ++ (if fresh js n then classFrom ns (targetsOf (get_or js n 0) js ps) ∷ [] else [])
+unfoldable pub source_classes : List Node → List ℕ → List Mapped → ℕ → List Class
+source_classes ns js ps zero = []
+source_classes ns js ps (suc n) = source_classes ns js ps n ++ (if fresh js n then class_from ns (targets_of (get_or js n 0) js ps) ∷ [] else [])
 
 -- the classes that say something
 unfoldable pub telling : List Class → List Class
 telling [] = []
-telling (c ∷ cs) = if isTrivial c then telling cs else c ∷ telling cs
+telling (c ∷ cs) = if is_trivial c then telling cs else c ∷ telling cs
 
 -- the list that reaches `new`
-unfoldable pub projectedList : List Node → List Class → List Mapped → List (Option ℕ) → List ℕ → List Class
-projectedList ns cs ps ks js = telling (projectedClasses ns cs ks ++ sourceClasses ns js ps (length js))
+unfoldable pub projected_list : List Node → List Class → List Mapped → List (Option ℕ) → List ℕ → List Class
+projected_list ns cs ps ks js = telling (projected_classes ns cs ks ++ source_classes ns js ps (length js))
 
 -- each target of a source that is constant, with the source's constant
-unfoldable pub newConstants : List Node → List Class → List Mapped → List (ℕ × Constant)
-newConstants ns cs [] = []
-newConstants ns cs (p ∷ ps) =
-    (if isConstant (exprConstant ns cs p.source) then map (λ (t : ℕ). (t, exprConstant ns cs p.source)) p.targets else [])
-    ++ newConstants ns cs ps
+unfoldable pub new_constants : List Node → List Class → List Mapped → List (ℕ × Constant)
+new_constants ns cs [] = []
+new_constants ns cs (p ∷ ps) =
+    (if is_constant (expr_constant ns cs p.source) then map (λ (t : ℕ). (t, expr_constant ns cs p.source)) p.targets else [])
+    ++ new_constants ns cs ps
 
 -- constants said one after the other, up to 256 members and 64 classes after each; none where one exceeds them. `two` says whether two unknown uniforms count as equal
-unfoldable pub constantsSaid : Bool → List Node → List (ℕ × Constant) → List Class → Option (List Class)
-constantsSaid two ns [] cs = some cs
-constantsSaid two ns (q ∷ qs) cs = if fits 256 (withConstant two ns cs q.0 q.1) then constantsSaid two ns qs (withConstant two ns cs q.0 q.1) else none
+unfoldable pub constants_said : Bool → List Node → List (ℕ × Constant) → List Class → Option (List Class)
+constants_said two ns [] cs = some cs
+constants_said two ns (q ∷ qs) cs = if fits 256 (with_constant two ns cs q.0 q.1) then constants_said two ns qs (with_constant two ns cs q.0 q.1) else none
 
 -- the projected group before the constants are added
-abbrev pub beforeConstants : List Node → List Class → List Mapped → List (Option ℕ) → List ℕ → List Class
-beforeConstants ns cs ps ks js = fromClasses (projectedList ns cs ps ks js)
+abbrev pub before_constants : List Node → List Class → List Mapped → List (Option ℕ) → List ℕ → List Class
+before_constants ns cs ps ks js = from_classes (projected_list ns cs ps ks js)
 
 -- the projected group; none where the list or a step exceeds the bounds
-unfoldable pub projectedGroup : List Node → List Class → List Mapped → List (Option ℕ) → List ℕ → Option (List Class)
-projectedGroup ns cs ps ks js =
-    if fits 256 (projectedList ns cs ps ks js) then constantsSaid true ns (newConstants ns cs ps) (beforeConstants ns cs ps ks js) else none
+unfoldable pub projected_group : List Node → List Class → List Mapped → List (Option ℕ) → List ℕ → Option (List Class)
+projected_group ns cs ps ks js =
+    if fits 256 (projected_list ns cs ps ks js) then constants_said true ns (new_constants ns cs ps) (before_constants ns cs ps ks js) else none

@@ -4,31 +4,31 @@ use Rattle.std.proofs.Math.Option.{Option, none, some}
 use Rattle.laws.specs.Tests.{if◌then◌else◌}
 use Rattle.arena.specs.Node.{Node}
 use Rattle.arena.specs.Expression.{those, expressions}
-use Rattle.arena.specs.Arena.{Extends, Placed, placed, full, addExpressions}
+use Rattle.arena.specs.Arena.{Extends, Placed, placed, full, add_expressions}
 use Rattle.arena.specs.Layout.{count, decode as nodes}
-use Rattle.arena.specs.Inner.{Holds, mapAll, Memo}
+use Rattle.arena.specs.Inner.{Holds, map_all, Memo}
 use Rattle.classes.specs.Class.{Class}
 use Rattle.classes.specs.Steps.{fits}
 use Rattle.classes.specs.Layout.{encode, decode}
-use Rattle.classes.specs.Calls.{noGroup}
+use Rattle.classes.specs.Calls.{no_group}
 use Rattle.classes.specs.Inner.{Coded, Held}
 use Rattle.classes.specs.declared.Group.{Group}
 use Rattle.classes.specs.declared.Changed.{Changed}
 use Rattle.normal.specs.Inner.{rewriting}
-use Rattle.merging.specs.Calls.{madeGroup}
+use Rattle.merging.specs.Calls.{made_group}
 use Rattle.mappings.specs.Mapping.{Mapped, sources}
 use Rattle.mappings.specs.Layout.{decode as mapping, Checked}
 use Rattle.mappings.specs.declared.Mapping.{Mapping}
-use Rattle.group_projection.specs.Calls.{projectBy}
+use Rattle.group_projection.specs.Calls.{project_by}
 
 -- a list of classes as a group of limit 256, or 4 where it exceeds the bounds
 unfoldable pub listed : List Class → Changed
-listed cs = if fits 256 cs then madeGroup cs else noGroup 4
+listed cs = if fits 256 cs then made_group cs else no_group 4
 
 -- the classes as a group of limit 256, or 4
-unfoldable pub madeOrNone : Option (List Class) → Changed
-madeOrNone (some cs) = madeGroup cs
-madeOrNone none = noGroup 4
+unfoldable pub made_or_none : Option (List Class) → Changed
+made_or_none (some cs) = made_group cs
+made_or_none none = no_group 4
 
 -- a group of one class
 pub record One (g : Group) : Type 0 where
@@ -62,10 +62,10 @@ pub record FormsReady (old : ℕ) (firsts s : List ℕ) (m : Mapping) : Type 0 w
 pub record Formed (old : ℕ) (firsts s t : List ℕ) (es : List ℕ) (fits : Bool) (js : List ℕ) : Type 0 where
   pub holds : Holds t
   pub extends : Extends (nodes s) (nodes t)
-  pub is : (if fits then placed js (nodes t) else full) ≡ addExpressions (mapAll (rewriting old firsts s) (those (expressions (nodes s)) es)) (nodes s)
+  pub is : (if fits then placed js (nodes t) else full) ≡ add_expressions (map_all (rewriting old firsts s) (those (expressions (nodes s)) es)) (nodes s)
 
 -- what a projection promises: what document 01 says of it; after a refusal the arena may have grown
 pub record ProjectedOver (s t : List ℕ) (g : Group) (ps : List Mapped) (r : Changed) : Type 0 where
   pub holds : Holds t
-  pub done : r.number ≡ 0 → (r, nodes t) ≡ projectBy ps g (nodes s)
-  pub refused : (r.number ≡ 0 → ⊥) → (record { number = r.number; answer = false; group = g }, nodes s) ≡ projectBy ps g (nodes s)
+  pub done : r.number ≡ 0 → (r, nodes t) ≡ project_by ps g (nodes s)
+  pub refused : (r.number ≡ 0 → ⊥) → (record { number = r.number; answer = false; group = g }, nodes s) ≡ project_by ps g (nodes s)

@@ -10,7 +10,7 @@ pub mod normal_forms;
 pub mod projecting;
 
 ghost use Rattle.std.specs.Prelude.{◌≡◌};
-ghost use Rattle.group_projection.specs.Calls.{projectAnswer};
+ghost use Rattle.group_projection.specs.Calls.{project_answer};
 
 use classes::refusing::refusal;
 use classes::{Changed, Group};
@@ -28,7 +28,7 @@ pub struct Forms {
 // the constants of the sources for each of their targets. The mapping has for each source the source, its target count
 // and its targets. The limit is 256. Refusals: 12, 11, 1, 3, 4, with the group as it was.
 pub fn project(cells: &mut [u32; 11265], group: Group, mapping: &[u32]) -> Changed
-    ensures { (result, cells.new) ≡ projectAnswer cells.old group mapping.now }
+    ensures { (result, cells.new) ≡ project_answer cells.old group mapping.now }
 {
     let number = project_number(cells, group, mapping);
     if number != 0 {

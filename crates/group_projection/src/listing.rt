@@ -8,10 +8,10 @@ ghost use Rattle.classes.specs.Group.{class_at};
 ghost use Rattle.classes.specs.Good.{flat};
 ghost use Rattle.classes.specs.Layout.{encode, decode, fresh};
 ghost use Rattle.classes.specs.Inner.{Coded};
-ghost use Rattle.merging.specs.Extending.{pushed, pushedAll, classFrom};
-ghost use Rattle.mappings.specs.Layout.{mappedOf, decode as mapping, Checked};
-ghost use Rattle.projection.specs.Inner.{answer_of, answersIn};
-ghost use Rattle.group_projection.specs.Group.{there, projectedClasses, targetsOf, sourceClasses, telling, projectedList};
+ghost use Rattle.merging.specs.Extending.{pushed, pushed_all, class_from};
+ghost use Rattle.mappings.specs.Layout.{mapped_of, decode as mapping, Checked};
+ghost use Rattle.projection.specs.Inner.{answer_of, answers_in};
+ghost use Rattle.group_projection.specs.Group.{there, projected_classes, targets_of, source_classes, telling, projected_list};
 ghost use Rattle.group_projection.specs.Inner.{listed, One, List256, Entries};
 
 use arena::cells::wide;
@@ -26,7 +26,7 @@ use merging::extending::{class_holds, is_trivial, one_empty, push};
 // The class of one with the projection that an entry of the table says, if it says one.
 fn push_entry(cells: &[u32; 11265], one: Group, entry: u32) -> Group
     requires { (One one × (one.used < 256)) × (Holds cells.now × (entry < count cells.now + 2)) }
-    ensures { result ≡ encode 256 (pushedAll (nodes cells.now) (class_at (decode one) 0) (there (answer_of entry ∷ [])) ∷ []) }
+    ensures { result ≡ encode 256 (pushed_all (nodes cells.now) (class_at (decode one) 0) (there (answer_of entry ∷ [])) ∷ []) }
 {
     if entry < 2 {
         return one;
@@ -43,7 +43,7 @@ fn projected_class(
     n: usize,
 ) -> Group
     requires { (Holds cells.now × (start + n ≤ 256)) × Entries (count cells.now) table.now (drop start members) n }
-    ensures { result ≡ encode 256 (classFrom (nodes cells.now) (there (answersIn table.now (take n (drop start members)))) ∷ []) }
+    ensures { result ≡ encode 256 (class_from (nodes cells.now) (there (answers_in table.now (take n (drop start members)))) ∷ []) }
 {
     let mut one = one_empty(Mark {
         flavour: 0,
@@ -78,7 +78,7 @@ fn keep_class(out: Group, one: Group) -> Changed
 // The classes of the members' projections that say something, by the table. Refusal: 4.
 fn projected_classes(cells: &[u32; 11265], table: &[u32; 1024], g: Group) -> Changed
     requires { (Holds cells.now × Coded g) × Entries (count cells.now) table.now g.members g.used }
-    ensures { result ≡ listed (telling (projectedClasses (nodes cells.now) (decode g) (answersIn table.now (flat (decode g))))) }
+    ensures { result ≡ listed (telling (projected_classes (nodes cells.now) (decode g) (answers_in table.now (flat (decode g))))) }
 {
     let n = g.count;
     let members = g.members;
@@ -115,7 +115,7 @@ fn push_target(cells: &[u32; 11265], one: Group, e: u32) -> Changed
 // The class of one with the targets of a source pushed. Refusal: 4.
 fn push_targets(cells: &[u32; 11265], one: Group, source: Source) -> Changed
     requires { (One one × Holds cells.now) × ((source.size ≤ 8) × ((k : ℕ) → k < source.size → get_or source.targets k 0 < count cells.now)) }
-    ensures { result ≡ listed (pushedAll (nodes cells.now) (class_at (decode one) 0) (mappedOf source).targets ∷ []) }
+    ensures { result ≡ listed (pushed_all (nodes cells.now) (class_at (decode one) 0) (mapped_of source).targets ∷ []) }
 {
     let n = source.size;
     let mut out = one;
@@ -134,7 +134,7 @@ fn push_targets(cells: &[u32; 11265], one: Group, source: Source) -> Changed
 // The same where the source has the normal form that is asked for, else the class as it is. Refusal: 4.
 fn push_source(cells: &[u32; 11265], one: Group, source: Source, same: bool) -> Changed
     requires { (One one × Holds cells.now) × ((source.size ≤ 8) × ((k : ℕ) → k < source.size → get_or source.targets k 0 < count cells.now)) }
-    ensures { result ≡ listed (pushedAll (nodes cells.now) (class_at (decode one) 0) (if same then (mappedOf source).targets else []) ∷ []) }
+    ensures { result ≡ listed (pushed_all (nodes cells.now) (class_at (decode one) 0) (if same then (mapped_of source).targets else []) ∷ []) }
 {
     if same {
         return push_targets(cells, one, source);
@@ -145,7 +145,7 @@ fn push_source(cells: &[u32; 11265], one: Group, source: Source, same: bool) -> 
 // The class of the targets of the sources with a normal form. Refusal: 4.
 fn source_class(cells: &[u32; 11265], m: Mapping, numbers: [u32; 64], form: u32) -> Changed
     requires { Holds cells.now × Checked (count cells.now) m }
-    ensures { result ≡ listed (classFrom (nodes cells.now) (targetsOf form (take m.count numbers) (mapping m)) ∷ []) }
+    ensures { result ≡ listed (class_from (nodes cells.now) (targets_of form (take m.count numbers) (mapping m)) ∷ []) }
 {
     let n = m.count;
     let mut one = one_empty(Mark {
@@ -188,7 +188,7 @@ fn add_source_class(
     i: usize,
 ) -> Changed
     requires { (List256 out × (i < m.count)) × (Holds cells.now × Checked (count cells.now) m) }
-    ensures { result ≡ listed (decode out ++ telling (if fresh (take m.count numbers) i then classFrom (nodes cells.now) (targetsOf (get_or (take m.count numbers) i 0) (take m.count numbers) (mapping m)) ∷ [] else [])) }
+    ensures { result ≡ listed (decode out ++ telling (if fresh (take m.count numbers) i then class_from (nodes cells.now) (targets_of (get_or (take m.count numbers) i 0) (take m.count numbers) (mapping m)) ∷ [] else [])) }
 {
     if !form_fresh(numbers, m.count, i) {
         return made(out);
@@ -203,7 +203,7 @@ fn add_source_class(
 // The list with the classes of the sources' targets that say something. Refusal: 4.
 fn source_classes(cells: &[u32; 11265], list: Group, m: Mapping, numbers: [u32; 64]) -> Changed
     requires { List256 list × (Holds cells.now × Checked (count cells.now) m) }
-    ensures { result ≡ listed (decode list ++ telling (sourceClasses (nodes cells.now) (take m.count numbers) (mapping m) m.count)) }
+    ensures { result ≡ listed (decode list ++ telling (source_classes (nodes cells.now) (take m.count numbers) (mapping m) m.count)) }
 {
     let n = m.count;
     let mut out = list;
@@ -228,7 +228,7 @@ pub fn projected_list(
     numbers: [u32; 64],
 ) -> Changed
     requires { ((Holds cells.now × Checked (count cells.now) m) × Coded g) × Entries (count cells.now) table.now g.members g.used }
-    ensures { result ≡ listed (projectedList (nodes cells.now) (decode g) (mapping m) (answersIn table.now (flat (decode g))) (take m.count numbers)) }
+    ensures { result ≡ listed (projected_list (nodes cells.now) (decode g) (mapping m) (answers_in table.now (flat (decode g))) (take m.count numbers)) }
 {
     let list = projected_classes(cells, table, g);
     if list.number != 0 {

@@ -1,16 +1,16 @@
 // The projection of a group, over an arena, a group and a mapping that are checked already.
 ghost use Rattle.std.specs.Prelude.{◌≡◌, ℕ, ◌≤◌, ◌<◌, get_or, take};
 ghost use Rattle.arena.specs.Layout.{count, decode as nodes};
-ghost use Rattle.arena.specs.Calls.{inCells};
+ghost use Rattle.arena.specs.Calls.{in_cells};
 ghost use Rattle.arena.specs.Inner.{Holds};
 ghost use Rattle.classes.specs.Good.{flat};
 ghost use Rattle.classes.specs.Layout.{decode};
 ghost use Rattle.classes.specs.Inner.{Coded, Held};
 ghost use Rattle.mappings.specs.Layout.{decode as mapping, Checked};
-ghost use Rattle.projection.specs.Inner.{answersIn};
-ghost use Rattle.group_projection.specs.Group.{projectedGroup};
-ghost use Rattle.group_projection.specs.Calls.{projectBy};
-ghost use Rattle.group_projection.specs.Inner.{madeOrNone, Entries, ProjectedOver};
+ghost use Rattle.projection.specs.Inner.{answers_in};
+ghost use Rattle.group_projection.specs.Group.{projected_group};
+ghost use Rattle.group_projection.specs.Calls.{project_by};
+ghost use Rattle.group_projection.specs.Inner.{made_or_none, Entries, ProjectedOver};
 
 use crate::constants::source_constants;
 use crate::listing::projected_list;
@@ -33,7 +33,7 @@ fn projected_group(
     numbers: [u32; 64],
 ) -> Changed
     requires { ((Holds cells.now × Checked (count cells.now) m) × Held (nodes cells.now) g) × Entries (count cells.now) table.now g.members g.used }
-    ensures { result ≡ madeOrNone (projectedGroup (nodes cells.now) (decode g) (mapping m) (answersIn table.now (flat (decode g))) (take m.count numbers)) }
+    ensures { result ≡ made_or_none (projected_group (nodes cells.now) (decode g) (mapping m) (answers_in table.now (flat (decode g))) (take m.count numbers)) }
 {
     let list = projected_list(cells, table, g, m, numbers);
     if list.number != 0 {
@@ -67,7 +67,7 @@ fn project_over(cells: &mut [u32; 11265], g: Group, m: Mapping) -> Changed
 // was.
 pub fn project_in(cells: &mut [u32; 11265], g: Group, m: Mapping) -> Changed
     requires { (Holds cells.old × Held (nodes cells.old) g) × Checked (count cells.old) m }
-    ensures { (result, cells.new) ≡ inCells (projectBy (mapping m) g (nodes cells.old)) }
+    ensures { (result, cells.new) ≡ in_cells (project_by (mapping m) g (nodes cells.old)) }
 {
     let saved = *cells;
     let r = project_over(cells, g, m);

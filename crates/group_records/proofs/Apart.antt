@@ -9,7 +9,7 @@ use borrow.Author.Tests.{ne_eqb, eq-eqb}
 use lib.Dec.{eqb}
 use lib.ListN.{length, get_or, set, replicate, length-set, length-replicate}
 use lib.Seq.{get_or-set_same, get_or-set_other}
-use Rattle.laws.proofs.Each.{each_all, each-fails}
+use Rattle.laws.proofs.Each.{each_all, each_fails}
 use Rattle.classes.specs.Layout.{fresh}
 use Rattle.classes.proofs.Numbers.{zeros-at}
 
@@ -46,11 +46,11 @@ module _ (numbers seen : List ℕ) (k : ℕ) (s : Seen numbers seen k) where
       omega arith)))
 
   -- one with a mark is not
-  pub seen-stale : 0 < get_or seen (get_or numbers k 0) 0 → fresh numbers k ≡ false
+  pub seen_stale : 0 < get_or seen (get_or numbers k 0) 0 → fresh numbers k ≡ false
   unfolding fresh
-  seen-stale h =
+  seen_stale h =
       let f = s.found (get_or numbers k 0) h in
-      each-fails (λ i. not (eqb (get_or numbers i 0) (get_or numbers k 0))) k f.place f.below (ap not (eq-eqb (get_or numbers f.place 0) (get_or numbers k 0) f.is))
+      each_fails (λ i. not (eqb (get_or numbers i 0) (get_or numbers k 0))) k f.place f.below (ap not (eq-eqb (get_or numbers f.place 0) (get_or numbers k 0) f.is))
 
   -- one more is marked
   pub seen_more : get_or numbers k 0 < 65536 → Seen numbers (set seen (get_or numbers k 0) 1) (k + 1)

@@ -12,15 +12,15 @@ use Rattle.laws.proofs.Each.{each_holds}
 use Rattle.classes.specs.Class.{Class}
 use Rattle.classes.specs.Group.{total}
 use Rattle.classes.specs.Good.{flat}
-use Rattle.classes.specs.Layout.{encode, padded, knownFlavour}
+use Rattle.classes.specs.Layout.{encode, padded, known_flavour}
 use Rattle.classes.specs.declared.Group.{Group}
 use Rattle.classes.specs.declared.Changed.{Changed}
 use Rattle.classes.proofs.Marks.{flavour-back, value-back}
-use Rattle.classes.proofs.Codec.{size_of, flavourIn, valueIn, snoc-padded, flat_append}
+use Rattle.classes.proofs.Codec.{size_of, flavour_in, value_in, snoc_padded, flat_append}
 use Rattle.records.specs.Fields.{field, fields}
 use Rattle.records.specs.Record.{AllBelow}
-use Rattle.group_records.specs.GroupRecord.{Given, classMeant, givenIn, flavoursKnown, membersGiven, noGroup}
-use Rattle.group_records.specs.Inner.{given_of, Shaped, Before, columnsOf}
+use Rattle.group_records.specs.GroupRecord.{Given, class_meant, given_in, flavours_known, members_given, no_group}
+use Rattle.group_records.specs.Inner.{given_of, Shaped, Before, columns_of}
 use Rattle.group_records.proofs.GroupWalk.{Turn, turn, at_fields, length_fields}
 
 -- the first k members of a class are copied to the end of a list
@@ -63,18 +63,18 @@ module _ (list₀ : List ℕ) (used : ℕ) (body : List ℕ) (at m : ℕ) where
       (c.is ∙ ap (paste list₀ used (fields body at m)) e, λ i b. c.low i (omega (arith, b, length_fields body at m)))
 
 -- one class more
-given-more : (gs : List Given) (j : ℕ) → j < length gs → take (j + 1) gs ≡ take j gs ++ (givenIn gs j ∷ [])
+given-more : (gs : List Given) (j : ℕ) → j < length gs → take (j + 1) gs ≡ take j gs ++ (given_in gs j ∷ [])
 given-more gs j l = ap (λ (k : ℕ). take k gs) (add-one j) ∙ take-suc gs j (record { flavour = 0; value = 0; members = [] }) l
 
-meant-more : (gs : List Given) (j : ℕ) → j < length gs → map classMeant (take (j + 1) gs) ≡ map classMeant (take j gs) ++ (classMeant (givenIn gs j) ∷ [])
-meant-more gs j l = ap (map classMeant) (given-more gs j l) ∙ map-append classMeant (take j gs) (givenIn gs j ∷ [])
+meant_more : (gs : List Given) (j : ℕ) → j < length gs → map class_meant (take (j + 1) gs) ≡ map class_meant (take j gs) ++ (class_meant (given_in gs j) ∷ [])
+meant_more gs j l = ap (map class_meant) (given-more gs j l) ∙ map-append class_meant (take j gs) (given_in gs j ∷ [])
 
-pub members-more : (gs : List Given) (j : ℕ) → j < length gs → membersGiven (take (j + 1) gs) ≡ membersGiven (take j gs) ++ (givenIn gs j).members
-unfolding flat classMeant
+pub members-more : (gs : List Given) (j : ℕ) → j < length gs → members_given (take (j + 1) gs) ≡ members_given (take j gs) ++ (given_in gs j).members
+unfolding flat class_meant
 members-more gs j l =
-    ap flat (meant-more gs j l)
-    ∙ flat_append (map classMeant (take j gs)) (classMeant (givenIn gs j) ∷ [])
-    ∙ ap (λ (ms : List ℕ). membersGiven (take j gs) ++ ms) (append-nil (givenIn gs j).members)
+    ap flat (meant_more gs j l)
+    ∙ flat_append (map class_meant (take j gs)) (class_meant (given_in gs j) ∷ [])
+    ∙ ap (λ (ms : List ℕ). members_given (take j gs) ++ ms) (append-nil (given_in gs j).members)
 
 -- every number of two lists is below a bound
 pub both_below : (b : ℕ) (xs ys : List ℕ) → AllBelow b xs → AllBelow b ys → AllBelow b (xs ++ ys)
@@ -92,35 +92,35 @@ both_below b xs ys p q k l = at (dec_lt k (length xs))
 -- the members of the first j classes are gathered at the start of a list
 pub record Gathered (gs : List Given) (list : List ℕ) (used at j : ℕ) : Type 0 where
   pub long : length list ≡ 32768
-  pub size : used ≡ length (membersGiven (take j gs))
-  pub is : take used list ≡ membersGiven (take j gs)
+  pub size : used ≡ length (members_given (take j gs))
+  pub is : take used list ≡ members_given (take j gs)
   pub room : 2 * used + 2 ≤ at
-  pub low : AllBelow 65536 (membersGiven (take j gs))
+  pub low : AllBelow 65536 (members_given (take j gs))
 
 pub gathered_none : (gs : List Given) (list : List ℕ) → length list ≡ 32768 → Gathered gs list 0 2 0
 unfolding flat
 gathered_none gs list l = record { long = l; size = refl; is = refl; room = omega arith; low = λ i b. absurd (omega arith) }
 
-pub gathered-more : (gs : List Given) (list after body : List ℕ) (used at j m : ℕ) → Gathered gs list used at j → j < length gs → used + m ≤ 32768
-    → (givenIn gs j).members ≡ fields body (at + 8) m → after ≡ paste list used (fields body (at + 8) m) m → AllBelow 65536 (fields body (at + 8) m)
+pub gathered_more : (gs : List Given) (list after body : List ℕ) (used at j m : ℕ) → Gathered gs list used at j → j < length gs → used + m ≤ 32768
+    → (given_in gs j).members ≡ fields body (at + 8) m → after ≡ paste list used (fields body (at + 8) m) m → AllBelow 65536 (fields body (at + 8) m)
     → Gathered gs after (used + m) (at + (8 + 2 * m)) (j + 1)
-gathered-more gs list after body used at j m g l r e p q =
+gathered_more gs list after body used at j m g l r e p q =
     let ms : List ℕ = fields body (at + 8) m in
     let n : length (fields body (at + 8) m) ≡ m = length_fields body (at + 8) m in
-    let more : membersGiven (take (j + 1) gs) ≡ membersGiven (take j gs) ++ fields body (at + 8) m = members-more gs j l ∙ ap (λ (x : List ℕ). membersGiven (take j gs) ++ x) e in
+    let more : members_given (take (j + 1) gs) ≡ members_given (take j gs) ++ fields body (at + 8) m = members-more gs j l ∙ ap (λ (x : List ℕ). members_given (take j gs) ++ x) e in
     let u : used ≤ length list = omega (arith, r, g.long) in
     let k : m ≤ length (fields body (at + 8) m) = omega arith in
     record {
       long = ap length p ∙ length-paste list used (fields body (at + 8) m) m (omega (arith, r, g.long)) k ∙ g.long;
-      size = omega (arith, g.size, n, ap length more, length-append (membersGiven (take j gs)) (fields body (at + 8) m));
+      size = omega (arith, g.size, n, ap length more, length-append (members_given (take j gs)) (fields body (at + 8) m));
       is =
           ap (take (used + m)) p
           ∙ take-paste list used (fields body (at + 8) m) m u k
           ∙ ap (λ (x : List ℕ). x ++ take m (fields body (at + 8) m)) g.is
-          ∙ ap (λ (x : List ℕ). membersGiven (take j gs) ++ x) (take_all m (fields body (at + 8) m) (omega arith))
+          ∙ ap (λ (x : List ℕ). members_given (take j gs) ++ x) (take_all m (fields body (at + 8) m) (omega arith))
           ∙ sym more;
       room = omega (arith, g.room);
-      low = subst (AllBelow 65536) (sym more) (both_below 65536 (membersGiven (take j gs)) (fields body (at + 8) m) g.low q);
+      low = subst (AllBelow 65536) (sym more) (both_below 65536 (members_given (take j gs)) (fields body (at + 8) m) g.low q);
     }
 
 -- the next class, of m members: it stands whole in the body, and its members fit the list
@@ -145,10 +145,10 @@ fitting body list used at j m n s b g l e q =
       short = s.short;
     }
 
-pub gathered-all : (gs : List Given) (list : List ℕ) (used at j : ℕ) → Gathered gs list used at j → length gs ≤ j → used ≤ 32768
-    → ((length list ≡ 32768) × (used ≤ 32768)) × ((take used list ≡ membersGiven gs) × AllBelow 65536 (membersGiven gs))
-gathered-all gs list used at j g l b =
-    let e : membersGiven (take j gs) ≡ membersGiven gs = ap membersGiven (take_all j gs l) in
+pub gathered_all : (gs : List Given) (list : List ℕ) (used at j : ℕ) → Gathered gs list used at j → length gs ≤ j → used ≤ 32768
+    → ((length list ≡ 32768) × (used ≤ 32768)) × ((take used list ≡ members_given gs) × AllBelow 65536 (members_given gs))
+gathered_all gs list used at j g l b =
+    let e : members_given (take j gs) ≡ members_given gs = ap members_given (take_all j gs l) in
     ((g.long, b), (g.is ∙ e, subst (AllBelow 65536) e g.low))
 
 -- the first k numbers of a list are in a table of members
@@ -161,22 +161,22 @@ table_more numbers members k l b e =
     let n : length (take k numbers) ≡ k = length-take-le k numbers (omega arith) in
     ap (λ (x : List ℕ). set x k (get_or numbers k 0)) e
     ∙ ap (λ (i : ℕ). set (padded 256 (take k numbers)) i (get_or numbers k 0)) (sym n)
-    ∙ snoc-padded 256 (take k numbers) (get_or numbers k 0) (omega arith)
+    ∙ snoc_padded 256 (take k numbers) (get_or numbers k 0) (omega arith)
     ∙ ap (padded 256) (sym (ap (λ (i : ℕ). take i numbers) (add-one k) ∙ take-suc numbers k 0 b))
 
 pub table-all : (numbers members : List ℕ) (k : ℕ) → length numbers ≤ k → members ≡ padded 256 (take k numbers) → members ≡ padded 256 numbers
 table-all numbers members k l e = e ∙ ap (padded 256) (take_all k numbers l)
 
 -- the columns of the first j classes are written
-abbrev columnTo : (Class → ℕ) → List Given → ℕ → List ℕ
-columnTo f gs j = padded 64 (map f (map classMeant (take j gs)))
+abbrev column_to : (Class → ℕ) → List Given → ℕ → List ℕ
+column_to f gs j = padded 64 (map f (map class_meant (take j gs)))
 
 pub record Columns (gs : List Given) (g : Group) (j : ℕ) : Type 0 where
   pub limit : g.limit ≡ 256
   pub used : g.used ≡ 0
-  pub sizes : g.sizes ≡ columnTo size_of gs j
-  pub flavours : g.flavours ≡ columnTo flavourIn gs j
-  pub values : g.values ≡ columnTo valueIn gs j
+  pub sizes : g.sizes ≡ column_to size_of gs j
+  pub flavours : g.flavours ≡ column_to flavour_in gs j
+  pub values : g.values ≡ column_to value_in gs j
   pub members : g.members ≡ padded 256 []
 
 pub columns-none : (gs : List Given) (g : Group) → g ≡ encode 256 [] → Columns gs g 0
@@ -191,46 +191,46 @@ columns-none gs g e =
       members = ap (λ (x : Group). x.members) e;
     }
 
-column-more : (f : Class → ℕ) (gs : List Given) (xs : List ℕ) (j x : ℕ) → length gs ≤ 64 → j < length gs → xs ≡ columnTo f gs j → x ≡ f (classMeant (givenIn gs j)) → set xs j x ≡ columnTo f gs (j + 1)
+column-more : (f : Class → ℕ) (gs : List Given) (xs : List ℕ) (j x : ℕ) → length gs ≤ 64 → j < length gs → xs ≡ column_to f gs j → x ≡ f (class_meant (given_in gs j)) → set xs j x ≡ column_to f gs (j + 1)
 column-more f gs xs j x l b e q =
-    let n : length (map f (map classMeant (take j gs))) ≡ j = length-map (map classMeant (take j gs)) f ∙ length-map (take j gs) classMeant ∙ length-take-le j gs (omega arith) in
+    let n : length (map f (map class_meant (take j gs))) ≡ j = length-map (map class_meant (take j gs)) f ∙ length-map (take j gs) class_meant ∙ length-take-le j gs (omega arith) in
     ap (λ (y : List ℕ). set y j x) e
-    ∙ ap (λ (i : ℕ). set (columnTo f gs j) i x) (sym n)
-    ∙ snoc-padded 64 (map f (map classMeant (take j gs))) x (omega arith)
-    ∙ ap (λ (y : ℕ). padded 64 (map f (map classMeant (take j gs)) ++ (y ∷ []))) q
-    ∙ ap (padded 64) (sym (ap (map f) (meant-more gs j b) ∙ map-append f (map classMeant (take j gs)) (classMeant (givenIn gs j) ∷ [])))
+    ∙ ap (λ (i : ℕ). set (column_to f gs j) i x) (sym n)
+    ∙ snoc_padded 64 (map f (map class_meant (take j gs))) x (omega arith)
+    ∙ ap (λ (y : ℕ). padded 64 (map f (map class_meant (take j gs)) ++ (y ∷ []))) q
+    ∙ ap (padded 64) (sym (ap (map f) (meant_more gs j b) ∙ map-append f (map class_meant (take j gs)) (class_meant (given_in gs j) ∷ [])))
 
-module _ (gs : List Given) (g : Group) (j : ℕ) (few : length gs ≤ 64) (known : flavoursKnown gs ≡ true) (b : j < length gs) (c : Columns gs g j) where
-  known-here : knownFlavour (givenIn gs j).flavour (givenIn gs j).value ≡ true
-  unfolding flavoursKnown
-  known-here = each_holds (λ j. knownFlavour (givenIn gs j).flavour (givenIn gs j).value) (length gs) j known b
+module _ (gs : List Given) (g : Group) (j : ℕ) (few : length gs ≤ 64) (known : flavours_known gs ≡ true) (b : j < length gs) (c : Columns gs g j) where
+  known-here : known_flavour (given_in gs j).flavour (given_in gs j).value ≡ true
+  unfolding flavours_known
+  known-here = each_holds (λ j. known_flavour (given_in gs j).flavour (given_in gs j).value) (length gs) j known b
 
-  pub columns-more : (m f v : ℕ) → m ≡ length (givenIn gs j).members → f ≡ (givenIn gs j).flavour → v ≡ (givenIn gs j).value
+  pub columns-more : (m f v : ℕ) → m ≡ length (given_in gs j).members → f ≡ (given_in gs j).flavour → v ≡ (given_in gs j).value
       → Columns gs (record { limit = g.limit; count = g.count; used = g.used; sizes = set g.sizes j m; flavours = set g.flavours j f; values = set g.values j v; members = g.members }) (j + 1)
-  unfolding classMeant
+  unfolding class_meant
   columns-more m f v p q r =
       record {
         limit = c.limit;
         used = c.used;
         sizes = column-more size_of gs g.sizes j m few b c.sizes p;
-        flavours = column-more flavourIn gs g.flavours j f few b c.flavours (q ∙ sym (flavour-back (givenIn gs j).flavour (givenIn gs j).value known-here));
-        values = column-more valueIn gs g.values j v few b c.values (r ∙ sym (value-back (givenIn gs j).flavour (givenIn gs j).value known-here));
+        flavours = column-more flavour_in gs g.flavours j f few b c.flavours (q ∙ sym (flavour-back (given_in gs j).flavour (given_in gs j).value known-here));
+        values = column-more value_in gs g.values j v few b c.values (r ∙ sym (value-back (given_in gs j).flavour (given_in gs j).value known-here));
         members = c.members;
       }
 
 pub columns-all : (gs : List Given) (g : Group) (j n : ℕ) → length gs ≤ j → n ≡ length gs → Columns gs g j
-    → record { limit = g.limit; count = n; used = g.used; sizes = g.sizes; flavours = g.flavours; values = g.values; members = g.members } ≡ columnsOf gs
-unfolding columnsOf encode
+    → record { limit = g.limit; count = n; used = g.used; sizes = g.sizes; flavours = g.flavours; values = g.values; members = g.members } ≡ columns_of gs
+unfolding columns_of encode
 columns-all gs g j n l e c =
     λ i. record {
       limit = c.limit i;
-      count = (e ∙ sym (length-map gs classMeant)) i;
+      count = (e ∙ sym (length-map gs class_meant)) i;
       used = c.used i;
       sizes = (c.sizes ∙ all size_of) i;
-      flavours = (c.flavours ∙ all flavourIn) i;
-      values = (c.values ∙ all valueIn) i;
+      flavours = (c.flavours ∙ all flavour_in) i;
+      values = (c.values ∙ all value_in) i;
       members = c.members i;
     }
   where
-    all : (f : Class → ℕ) → columnTo f gs j ≡ padded 64 (map f (map classMeant gs))
-    all f = ap (λ (hs : List Given). padded 64 (map f (map classMeant hs))) (take_all j gs l)
+    all : (f : Class → ℕ) → column_to f gs j ≡ padded 64 (map f (map class_meant gs))
+    all f = ap (λ (hs : List Given). padded 64 (map f (map class_meant hs))) (take_all j gs l)

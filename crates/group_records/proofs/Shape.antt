@@ -13,8 +13,8 @@ use lib.Seq.{drop-drop}
 use Rattle.laws.specs.Tests.{if◌then◌else◌}
 use Rattle.laws.proofs.Booleans.{and_left, and_right, and_both, same_test}
 use Rattle.records.specs.Fields.{field}
-use Rattle.group_records.specs.GroupRecord.{Given, givenAt, givenSize, withGiven, classesGiven, bodyGiven}
-use Rattle.group_records.specs.Inner.{isGiven, givens, Shaped}
+use Rattle.group_records.specs.GroupRecord.{Given, given_at, given_size, with_given, classes_given, body_given}
+use Rattle.group_records.specs.Inner.{is_given, givens, Shaped}
 use Rattle.group_records.proofs.GroupWalk.{field-drop}
 
 -- the class at a place doesn't run past the end
@@ -29,8 +29,8 @@ fits-left at n m f l h e =
     (λ p. le-leb (2 * m) (n - at - 8) (omega (arith, leb-true (at + 8 + 2 * f) n (and_right (leb (at + 8) n) (leb (at + 8 + 2 * f) n) p))))
 
 -- the definition's own test of what is left
-fits-drop : (body : List ℕ) (at : ℕ) → at ≤ length body → (leb 8 (length (drop at body)) && leb (givenSize (drop at body)) (length (drop at body))) ≡ FitsAt body at
-unfolding givenSize
+fits-drop : (body : List ℕ) (at : ℕ) → at ≤ length body → (leb 8 (length (drop at body)) && leb (given_size (drop at body)) (length (drop at body))) ≡ FitsAt body at
+unfolding given_size
 fits-drop body at l =
     let six : field (drop at body) 6 ≡ field body (at + 6) = field-drop at 6 body in
     let n : length (drop at body) ≡ length body - at = length-drop at body in
@@ -45,51 +45,51 @@ fits-drop body at l =
     and_both (le-leb 8 (length (drop at body)) (omega arith)) (le-leb (8 + 2 * field (drop at body) 6) (length (drop at body)) (omega arith)))
 
 -- a class before others changes nothing of whether they could be read
-with-given : (g : Given) (o : Option (List Given)) → isGiven (withGiven g o) ≡ isGiven o
-unfolding withGiven isGiven
+with-given : (g : Given) (o : Option (List Given)) → is_given (with_given g o) ≡ is_given o
+unfolding with_given is_given
 with-given g none = refl
 with-given g (some gs) = refl
 
 -- the n classes of some bytes could be read, by the test of the first
-turn-given : (n : ℕ) (bytes : List ℕ) (b : Bool) → (leb 8 (length bytes) && leb (givenSize bytes) (length bytes)) ≡ b
-    → isGiven (classesGiven (suc n) bytes) ≡ (if b then isGiven (classesGiven n (drop (givenSize bytes) bytes)) else false)
-unfolding classesGiven isGiven
-turn-given n bytes true q = rw q (with-given (givenAt bytes) (classesGiven n (drop (givenSize bytes) bytes)))
+turn-given : (n : ℕ) (bytes : List ℕ) (b : Bool) → (leb 8 (length bytes) && leb (given_size bytes) (length bytes)) ≡ b
+    → is_given (classes_given (suc n) bytes) ≡ (if b then is_given (classes_given n (drop (given_size bytes) bytes)) else false)
+unfolding classes_given is_given
+turn-given n bytes true q = rw q (with-given (given_at bytes) (classes_given n (drop (given_size bytes) bytes)))
 turn-given n bytes false q = rw q
 
 -- the walk: what is left to be read
 abbrev pub Left : List ℕ → ℕ → ℕ → ℕ → Bool
-Left body n at j = isGiven (classesGiven (n - j) (drop at body))
+Left body n at j = is_given (classes_given (n - j) (drop at body))
 
-pub shape-short : (body : List ℕ) → length body < 2 → false ≡ isGiven (bodyGiven body)
-unfolding bodyGiven isGiven
-shape-short body l = rw (lt-leb 2 (length body) l)
+pub shape_short : (body : List ℕ) → length body < 2 → false ≡ is_given (body_given body)
+unfolding body_given is_given
+shape_short body l = rw (lt-leb 2 (length body) l)
 
-pub shape-start : (body : List ℕ) (n : ℕ) → 2 ≤ length body → n ≡ field body 0 → isGiven (bodyGiven body) ≡ Left body n 2 0
-unfolding bodyGiven
-shape-start body n l e = rw (le-leb 2 (length body) l, sub-zero, e)
+pub shape_start : (body : List ℕ) (n : ℕ) → 2 ≤ length body → n ≡ field body 0 → is_given (body_given body) ≡ Left body n 2 0
+unfolding body_given
+shape_start body n l e = rw (le-leb 2 (length body) l, sub-zero, e)
 
-pub shape-stop : (body : List ℕ) (n at j : ℕ) → j < n → at ≤ length body → FitsAt body at ≡ false → false ≡ Left body n at j
-shape-stop body n at j l b q =
+pub shape_stop : (body : List ℕ) (n at j : ℕ) → j < n → at ≤ length body → FitsAt body at ≡ false → false ≡ Left body n at j
+shape_stop body n at j l b q =
     let e : n - j ≡ suc (n - (j + 1)) = omega arith in
     rw e (sym (turn-given (n - (j + 1)) (drop at body) false (fits-drop body at b ∙ q)))
 
-pub shape-step : (body : List ℕ) (n at j m : ℕ) → j < n → at ≤ length body → m ≡ field body (at + 6) → FitsAt body at ≡ true → Left body n at j ≡ Left body n (at + (8 + 2 * m)) (j + 1)
-unfolding givenSize
-shape-step body n at j m l b f q =
+pub shape_step : (body : List ℕ) (n at j m : ℕ) → j < n → at ≤ length body → m ≡ field body (at + 6) → FitsAt body at ≡ true → Left body n at j ≡ Left body n (at + (8 + 2 * m)) (j + 1)
+unfolding given_size
+shape_step body n at j m l b f q =
     let e : n - j ≡ suc (n - (j + 1)) = omega arith in
     let s : 8 + 2 * field (drop at body) 6 ≡ 8 + 2 * m = omega (arith, field-drop at 6 body) in
-    rw e (turn-given (n - (j + 1)) (drop at body) true (fits-drop body at b ∙ q) ∙ ap (λ (bytes : List ℕ). isGiven (classesGiven (n - (j + 1)) bytes)) (ap (λ (k : ℕ). drop k (drop at body)) s ∙ drop-drop (8 + 2 * m) at body))
+    rw e (turn-given (n - (j + 1)) (drop at body) true (fits-drop body at b ∙ q) ∙ ap (λ (bytes : List ℕ). is_given (classes_given (n - (j + 1)) bytes)) (ap (λ (k : ℕ). drop k (drop at body)) s ∙ drop-drop (8 + 2 * m) at body))
 
-pub shape-room : (body : List ℕ) (at m : ℕ) → m ≡ field body (at + 6) → FitsAt body at ≡ true → at + 8 + 2 * m ≤ length body
-shape-room body at m e q = omega (arith, leb-true (at + 8 + 2 * field body (at + 6)) (length body) (and_right (leb (at + 8) (length body)) (leb (at + 8 + 2 * field body (at + 6)) (length body)) q))
+pub shape_room : (body : List ℕ) (at m : ℕ) → m ≡ field body (at + 6) → FitsAt body at ≡ true → at + 8 + 2 * m ≤ length body
+shape_room body at m e q = omega (arith, leb-true (at + 8 + 2 * field body (at + 6)) (length body) (and_right (leb (at + 8) (length body)) (leb (at + 8 + 2 * field body (at + 6)) (length body)) q))
 
-pub shape-head : (body : List ℕ) (at : ℕ) → FitsAt body at ≡ true → at + 8 ≤ length body
-shape-head body at q = leb-true (at + 8) (length body) (and_left (leb (at + 8) (length body)) (leb (at + 8 + 2 * field body (at + 6)) (length body)) q)
+pub shape_head : (body : List ℕ) (at : ℕ) → FitsAt body at ≡ true → at + 8 ≤ length body
+shape_head body at q = leb-true (at + 8) (length body) (and_left (leb (at + 8) (length body)) (leb (at + 8 + 2 * field body (at + 6)) (length body)) q)
 
-pub shape-end : (body : List ℕ) (n at j : ℕ) → n ≤ j → at ≤ length body → eqb at (length body) ≡ Left body n at j
-unfolding classesGiven isGiven
-shape-end body n at j l b = let e : n - j ≡ 0 = omega arith in rw e (same_end ∙ given-none (eqb (length (drop at body)) 0))
+pub shape_end : (body : List ℕ) (n at j : ℕ) → n ≤ j → at ≤ length body → eqb at (length body) ≡ Left body n at j
+unfolding classes_given is_given
+shape_end body n at j l b = let e : n - j ≡ 0 = omega arith in rw e (same_end ∙ given-none (eqb (length (drop at body)) 0))
   where
     same_end : eqb at (length body) ≡ eqb (length (drop at body)) 0
     same_end =
@@ -97,15 +97,15 @@ shape-end body n at j l b = let e : n - j ≡ 0 = omega arith in rw e (same_end 
         (λ p. eq-eqb (length (drop at body)) 0 (omega (arith, eqb-true at (length body) p, length-drop at body)))
         (λ p. eq-eqb at (length body) (omega (arith, eqb-true (length (drop at body)) 0 p, length-drop at body)))
 
-    given-none : (t : Bool) → t ≡ isGiven (if t then some [] else none)
+    given-none : (t : Bool) → t ≡ is_given (if t then some [] else none)
     given-none true = refl
     given-none false = refl
 
 -- a short body that could be read is one of classes
-pub shaped-is : (body : List ℕ) → length body ≤ 65535 → isGiven (bodyGiven body) ≡ true → Shaped body
-unfolding isGiven givens
-shaped-is body l q = record { short = l; is = at (bodyGiven body) q }
+pub shaped-is : (body : List ℕ) → length body ≤ 65535 → is_given (body_given body) ≡ true → Shaped body
+unfolding is_given givens
+shaped-is body l q = record { short = l; is = at (body_given body) q }
   where
-    at : (o : Option (List Given)) → isGiven o ≡ true → o ≡ some (givens o)
+    at : (o : Option (List Given)) → is_given o ≡ true → o ≡ some (givens o)
     at none p = absurd (let z : ◌≡◌ {A = ℕ} 0 1 = cc in omega arith)
     at (some gs) p = refl

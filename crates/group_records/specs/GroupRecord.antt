@@ -2,15 +2,15 @@
 use Rattle.std.specs.Prelude.{ℕ, zero, suc, ◌+◌, ◌*◌, Bool, true, false, not, ◌&&◌, ◌||◌, List, [], ◌∷◌, ◌++◌, map, eqb, ltb, leb, length, get_or, drop}
 use Rattle.std.proofs.Math.Option.{Option, none, some}
 use Rattle.laws.specs.Tests.{if◌then◌else◌, each}
-use Rattle.arena.specs.Node.{Node, nodeAt}
+use Rattle.arena.specs.Node.{Node, node_at}
 use Rattle.arena.specs.Layout.{lawful, decode as nodes}
 use Rattle.classes.specs.Class.{Class}
 use Rattle.classes.specs.Good.{flat}
-use Rattle.classes.specs.Layout.{encode, flavourOf, value_of, constantFrom, knownFlavour, fresh, isLiteral}
+use Rattle.classes.specs.Layout.{encode, flavour_of, value_of, constant_from, known_flavour, fresh, is_literal}
 use Rattle.classes.specs.declared.Changed.{Changed}
-unfoldable pub use Rattle.classes.specs.Calls.{noGroup}
-use Rattle.records.specs.Fields.{field, wideField, fields}
-use Rattle.records.specs.Record.{is_whole, bodyOf, fieldBytes, wideBytes, fieldsBytes}
+unfoldable pub use Rattle.classes.specs.Calls.{no_group}
+use Rattle.records.specs.Fields.{field, wide_field, fields}
+use Rattle.records.specs.Record.{is_whole, body_of, field_bytes, wide_bytes, fields_bytes}
 
 -- a class as a record gives it
 pub record Given : Type 0 where
@@ -19,98 +19,98 @@ pub record Given : Type 0 where
   pub members : List ℕ
 
 -- the class at the start of some bytes, and how many bytes it takes
-unfoldable pub givenAt : List ℕ → Given
-givenAt bytes = record { flavour = field bytes 0; value = wideField bytes 2; members = fields bytes 8 (field bytes 6) }
+unfoldable pub given_at : List ℕ → Given
+given_at bytes = record { flavour = field bytes 0; value = wide_field bytes 2; members = fields bytes 8 (field bytes 6) }
 
-unfoldable pub givenSize : List ℕ → ℕ
-givenSize bytes = 8 + 2 * field bytes 6
+unfoldable pub given_size : List ℕ → ℕ
+given_size bytes = 8 + 2 * field bytes 6
 
 -- a class before others, if those could be read
-unfoldable pub withGiven : Given → Option (List Given) → Option (List Given)
-withGiven g none = none
-withGiven g (some gs) = some (g ∷ gs)
+unfoldable pub with_given : Given → Option (List Given) → Option (List Given)
+with_given g none = none
+with_given g (some gs) = some (g ∷ gs)
 
 -- n classes that take all of some bytes; none where the bytes are fewer or more than their counts say
-unfoldable pub classesGiven : ℕ → List ℕ → Option (List Given)
-classesGiven zero bytes = if eqb (length bytes) 0 then some [] else none
-classesGiven (suc n) bytes =
-    if leb 8 (length bytes) && leb (givenSize bytes) (length bytes) then withGiven (givenAt bytes) (classesGiven n (drop (givenSize bytes) bytes))
+unfoldable pub classes_given : ℕ → List ℕ → Option (List Given)
+classes_given zero bytes = if eqb (length bytes) 0 then some [] else none
+classes_given (suc n) bytes =
+    if leb 8 (length bytes) && leb (given_size bytes) (length bytes) then with_given (given_at bytes) (classes_given n (drop (given_size bytes) bytes))
     else none
 
 -- the classes of a body: their count, then they
-unfoldable pub bodyGiven : List ℕ → Option (List Given)
-bodyGiven body = if leb 2 (length body) then classesGiven (field body 0) (drop 2 body) else none
+unfoldable pub body_given : List ℕ → Option (List Given)
+body_given body = if leb 2 (length body) then classes_given (field body 0) (drop 2 body) else none
 
 -- the classes of a group record; none (9) where it is malformed
-unfoldable pub groupGiven : List ℕ → Option (List Given)
-groupGiven bytes = if is_whole bytes && eqb (field bytes 2) 16 then bodyGiven (bodyOf bytes) else none
+unfoldable pub group_given : List ℕ → Option (List Given)
+group_given bytes = if is_whole bytes && eqb (field bytes 2) 16 then body_given (body_of bytes) else none
 
 -- the class that is meant
-unfoldable pub classMeant : Given → Class
-classMeant g = record { members = g.members; constant = constantFrom g.flavour g.value }
+unfoldable pub class_meant : Given → Class
+class_meant g = record { members = g.members; constant = constant_from g.flavour g.value }
 
 -- the given class at a place; past the end, which nothing asks for, an empty one
-abbrev pub givenIn : List Given → ℕ → Given
-givenIn gs j = get_or gs j (record { flavour = 0; value = 0; members = [] })
+abbrev pub given_in : List Given → ℕ → Given
+given_in gs j = get_or gs j (record { flavour = 0; value = 0; members = [] })
 
 -- every flavour and value is in its set (else 12)
-unfoldable pub flavoursKnown : List Given → Bool
-flavoursKnown gs = each (λ j. knownFlavour (givenIn gs j).flavour (givenIn gs j).value) (length gs)
+unfoldable pub flavours_known : List Given → Bool
+flavours_known gs = each (λ j. known_flavour (given_in gs j).flavour (given_in gs j).value) (length gs)
 
 -- a class has members
-unfoldable pub classesFilled : List Given → Bool
-classesFilled gs = each (λ j. ltb 0 (length (givenIn gs j).members)) (length gs)
+unfoldable pub classes_filled : List Given → Bool
+classes_filled gs = each (λ j. ltb 0 (length (given_in gs j).members)) (length gs)
 
 -- the members of all classes, one after the other
-abbrev pub membersGiven : List Given → List ℕ
-membersGiven gs = flat (map classMeant gs)
+abbrev pub members_given : List Given → List ℕ
+members_given gs = flat (map class_meant gs)
 
 -- no expression stands twice, in one class or in two
-unfoldable pub membersApart : List Given → Bool
-membersApart gs = each (λ k. fresh (membersGiven gs) k) (length (membersGiven gs))
+unfoldable pub members_apart : List Given → Bool
+members_apart gs = each (λ k. fresh (members_given gs) k) (length (members_given gs))
 
 -- a literal's class is uniform. A number that is not below the node count is no literal
-unfoldable pub literalsUniform : List Node → List Given → Bool
-literalsUniform ns gs =
-    each (λ j. each (λ k. not (ltb (get_or (givenIn gs j).members k 0) (length ns) && isLiteral (nodeAt ns (get_or (givenIn gs j).members k 0))) || leb 2 (givenIn gs j).flavour) (length (givenIn gs j).members)) (length gs)
+unfoldable pub literals_uniform : List Node → List Given → Bool
+literals_uniform ns gs =
+    each (λ j. each (λ k. not (ltb (get_or (given_in gs j).members k 0) (length ns) && is_literal (node_at ns (get_or (given_in gs j).members k 0))) || leb 2 (given_in gs j).flavour) (length (given_in gs j).members)) (length gs)
 
 -- every member is in the arena (else 1)
-unfoldable pub membersKnown : List Node → List Given → Bool
-membersKnown ns gs = each (λ k. ltb (get_or (membersGiven gs) k 0) (length ns)) (length (membersGiven gs))
+unfoldable pub members_known : List Node → List Given → Bool
+members_known ns gs = each (λ k. ltb (get_or (members_given gs) k 0) (length ns)) (length (members_given gs))
 
 -- the number of what was given, over a lent arena: 12, 11, 1, 4, else 0
-unfoldable pub givenNumber : List ℕ → List Given → ℕ
-givenNumber cells gs =
-    if flavoursKnown gs then
-    (if lawful cells && (classesFilled gs && membersApart gs && literalsUniform (nodes cells) gs) then
-    (if membersKnown (nodes cells) gs then
-    (if leb (length gs) 64 && leb (length (membersGiven gs)) 256 then 0 else 4)
+unfoldable pub given_number : List ℕ → List Given → ℕ
+given_number cells gs =
+    if flavours_known gs then
+    (if lawful cells && (classes_filled gs && members_apart gs && literals_uniform (nodes cells) gs) then
+    (if members_known (nodes cells) gs then
+    (if leb (length gs) 64 && leb (length (members_given gs)) 256 then 0 else 4)
     else 1)
     else 11)
     else 12
 
 -- the group of a record, of limit 256, or the refusal
 unfoldable pub group_of : List ℕ → Option (List Given) → Changed
-group_of cells none = noGroup 9
+group_of cells none = no_group 9
 group_of cells (some gs) =
-    if eqb (givenNumber cells gs) 0 then record { number = 0; answer = true; group = encode 256 (map classMeant gs) }
-    else noGroup (givenNumber cells gs)
+    if eqb (given_number cells gs) 0 then record { number = 0; answer = true; group = encode 256 (map class_meant gs) }
+    else no_group (given_number cells gs)
 
 -- the call on lent cells and a lent record
-abbrev pub groupRead : List ℕ → List ℕ → Changed
-groupRead cells bytes = group_of cells (groupGiven bytes)
+abbrev pub group_read : List ℕ → List ℕ → Changed
+group_read cells bytes = group_of cells (group_given bytes)
 
 -- a class as bytes: flavour, value, member count, members; classes, one after the other
-unfoldable pub classBytes : Class → List ℕ
-classBytes c = fieldBytes (flavourOf c.constant) ++ (wideBytes (value_of c.constant) ++ (fieldBytes (length c.members) ++ fieldsBytes c.members))
+unfoldable pub class_bytes : Class → List ℕ
+class_bytes c = field_bytes (flavour_of c.constant) ++ (wide_bytes (value_of c.constant) ++ (field_bytes (length c.members) ++ fields_bytes c.members))
 
-unfoldable pub classesBytes : List Class → List ℕ
-classesBytes [] = []
-classesBytes (c ∷ cs) = classBytes c ++ classesBytes cs
+unfoldable pub classes_bytes : List Class → List ℕ
+classes_bytes [] = []
+classes_bytes (c ∷ cs) = class_bytes c ++ classes_bytes cs
 
 -- the record of a group of classes: its body, behind the header
-unfoldable pub groupBody : List Class → List ℕ
-groupBody cs = fieldBytes (length cs) ++ classesBytes cs
+unfoldable pub group_body : List Class → List ℕ
+group_body cs = field_bytes (length cs) ++ classes_bytes cs
 
-unfoldable pub groupBytes : List Class → List ℕ
-groupBytes cs = fieldBytes (length (groupBody cs)) ++ (fieldBytes 16 ++ groupBody cs)
+unfoldable pub group_bytes : List Class → List ℕ
+group_bytes cs = field_bytes (length (group_body cs)) ++ (field_bytes 16 ++ group_body cs)

@@ -7,12 +7,12 @@ use Rattle.classes.specs.Layout.{encode, padded}
 use Rattle.classes.specs.declared.Group.{Group}
 use Rattle.classes.specs.declared.Changed.{Changed}
 use Rattle.records.specs.Record.{AllBelow}
-use Rattle.group_records.specs.GroupRecord.{Given, classesGiven, bodyGiven, flavoursKnown, classesFilled, membersGiven, classMeant, noGroup}
+use Rattle.group_records.specs.GroupRecord.{Given, classes_given, body_given, flavours_known, classes_filled, members_given, class_meant, no_group}
 
 -- the classes could be read
-unfoldable pub isGiven : Option (List Given) → Bool
-isGiven none = false
-isGiven (some gs) = true
+unfoldable pub is_given : Option (List Given) → Bool
+is_given none = false
+is_given (some gs) = true
 
 -- the classes that were read; none where they could not be
 unfoldable pub givens : Option (List Given) → List Given
@@ -21,43 +21,43 @@ givens (some gs) = gs
 
 -- the classes of a body
 abbrev pub given_of : List ℕ → List Given
-given_of body = givens (bodyGiven body)
+given_of body = givens (body_given body)
 
 -- a body of classes whose length is what its counts say; a body has at most 65,535 bytes
 pub record Shaped (body : List ℕ) : Type 0 where
   pub short : length body ≤ 65535
-  pub is : bodyGiven body ≡ some (given_of body)
+  pub is : body_given body ≡ some (given_of body)
 
 -- a walk over the classes of a body stands before class j, at a place
 pub record Before (body : List ℕ) (j at : ℕ) : Type 0 where
   pub below : j ≤ length (given_of body)
   pub place : at ≤ length body
-  pub rest : classesGiven (length (given_of body) - j) (drop at body) ≡ some (drop j (given_of body))
+  pub rest : classes_given (length (given_of body) - j) (drop at body) ≡ some (drop j (given_of body))
 
 -- a body that passed the tests before those of its members, and a list of these
 pub record Listed (cells body numbers : List ℕ) : Type 0 where
   pub shaped : Shaped body
-  pub known : flavoursKnown (given_of body) ≡ true
+  pub known : flavours_known (given_of body) ≡ true
   pub arena : lawful cells ≡ true
-  pub filled : classesFilled (given_of body) ≡ true
-  pub members : numbers ≡ membersGiven (given_of body)
+  pub filled : classes_filled (given_of body) ≡ true
+  pub members : numbers ≡ members_given (given_of body)
   pub low : AllBelow 65536 numbers
 
 -- the columns of a group, without its members
-unfoldable pub columnsOf : List Given → Group
-columnsOf gs =
+unfoldable pub columns_of : List Given → Group
+columns_of gs =
     record {
       limit = 256;
-      count = (encode 256 (map classMeant gs)).count;
+      count = (encode 256 (map class_meant gs)).count;
       used = 0;
-      sizes = (encode 256 (map classMeant gs)).sizes;
-      flavours = (encode 256 (map classMeant gs)).flavours;
-      values = (encode 256 (map classMeant gs)).values;
+      sizes = (encode 256 (map class_meant gs)).sizes;
+      flavours = (encode 256 (map class_meant gs)).flavours;
+      values = (encode 256 (map class_meant gs)).values;
       members = padded 256 [];
     }
 
 -- the group of classes that passed every other test, or 4 where they are too many
-unfoldable pub builtOf : List Given → Changed
-builtOf gs =
-    if leb (length gs) 64 && leb (length (membersGiven gs)) 256 then record { number = 0; answer = true; group = encode 256 (map classMeant gs) }
-    else noGroup 4
+unfoldable pub built_of : List Given → Changed
+built_of gs =
+    if leb (length gs) 64 && leb (length (members_given gs)) 256 then record { number = 0; answer = true; group = encode 256 (map class_meant gs) }
+    else no_group 4

@@ -2,14 +2,14 @@
 ghost use Rattle.std.specs.Prelude.{true, not, ◌&&◌, ◌||◌, ◌≡◌, ◌≤◌, ◌<◌, ◌+◌, ◌*◌, ltb, leb, length, get_or, take};
 ghost use Rattle.std.proofs.Math.Seq.{paste};
 ghost use Rattle.laws.specs.Tests.{each};
-ghost use Rattle.arena.specs.Node.{nodeAt};
+ghost use Rattle.arena.specs.Node.{node_at};
 ghost use Rattle.arena.specs.Layout.{decode as nodes};
 ghost use Rattle.arena.specs.Inner.{Holds};
-ghost use Rattle.classes.specs.Layout.{padded, fresh, isLiteral};
+ghost use Rattle.classes.specs.Layout.{padded, fresh, is_literal};
 ghost use Rattle.records.specs.Fields.{field as field_of, fields};
 ghost use Rattle.records.specs.Record.{AllBelow};
-ghost use Rattle.group_records.specs.GroupRecord.{bodyGiven, flavoursKnown, classesFilled, membersGiven, literalsUniform, groupRead, group_of};
-ghost use Rattle.group_records.specs.Inner.{isGiven, given_of, Shaped, Listed, columnsOf, builtOf};
+ghost use Rattle.group_records.specs.GroupRecord.{body_given, flavours_known, classes_filled, members_given, literals_uniform, group_read, group_of};
+ghost use Rattle.group_records.specs.Inner.{is_given, given_of, Shaped, Listed, columns_of, built_of};
 
 use arena::adding::all_below;
 use arena::cells::node_count;
@@ -44,7 +44,7 @@ fn class_fits(body: &[u8], at: usize) -> bool
 // The length of a body is what its counts say.
 fn is_shaped(body: &[u8]) -> bool
     requires { length body.now ≤ 65535 }
-    ensures { result ≡ isGiven (bodyGiven body.now) }
+    ensures { result ≡ is_given (body_given body.now) }
 {
     if body.len() < 2 {
         return false;
@@ -73,7 +73,7 @@ fn class_count(body: &[u8]) -> usize
 // Every flavour and value is in its set.
 fn flavours_known(body: &[u8]) -> bool
     requires { Shaped body.now }
-    ensures { result ≡ flavoursKnown (given_of body.now) }
+    ensures { result ≡ flavours_known (given_of body.now) }
 {
     let n = class_count(body);
     let mut at = 2;
@@ -91,7 +91,7 @@ fn flavours_known(body: &[u8]) -> bool
 // Every class has members.
 fn classes_filled(body: &[u8]) -> bool
     requires { Shaped body.now }
-    ensures { result ≡ classesFilled (given_of body.now) }
+    ensures { result ≡ classes_filled (given_of body.now) }
 {
     let n = class_count(body);
     let mut at = 2;
@@ -109,7 +109,7 @@ fn classes_filled(body: &[u8]) -> bool
 // The m members from a place of a body on may stand in a class of a flavour: a literal only in a uniform one.
 fn members_fit(cells: &[u32; 11265], body: &[u8], at: usize, m: usize, flavour: u32) -> bool
     requires { Holds cells.now × (at + 2 * m ≤ length body.now) }
-    ensures { result ≡ each (λ k. not (ltb (get_or (fields body.now at m) k 0) (length (nodes cells.now)) && isLiteral (nodeAt (nodes cells.now) (get_or (fields body.now at m) k 0))) || leb 2 flavour) m }
+    ensures { result ≡ each (λ k. not (ltb (get_or (fields body.now at m) k 0) (length (nodes cells.now)) && is_literal (node_at (nodes cells.now) (get_or (fields body.now at m) k 0))) || leb 2 flavour) m }
 {
     let mut k = 0;
     while k < m {
@@ -125,7 +125,7 @@ fn members_fit(cells: &[u32; 11265], body: &[u8], at: usize, m: usize, flavour: 
 // A literal's class is uniform.
 fn literals_uniform(cells: &[u32; 11265], body: &[u8]) -> bool
     requires { Holds cells.now × Shaped body.now }
-    ensures { result ≡ literalsUniform (nodes cells.now) (given_of body.now) }
+    ensures { result ≡ literals_uniform (nodes cells.now) (given_of body.now) }
 {
     let n = class_count(body);
     let mut at = 2;
@@ -164,7 +164,7 @@ fn copy_members(list: &mut [u32; 32768], used: usize, body: &[u8], at: usize, m:
 // Copies the members of all classes into a list, one after the other, and answers how many there are.
 fn copy_all(list: &mut [u32; 32768], body: &[u8]) -> usize
     requires { Shaped body.now × (length list.old ≡ 32768) }
-    ensures { ((length list.new ≡ 32768) × (result ≤ 32768)) × ((take result list.new ≡ membersGiven (given_of body.now)) × AllBelow 65536 (membersGiven (given_of body.now))) }
+    ensures { ((length list.new ≡ 32768) × (result ≤ 32768)) × ((take result list.new ≡ members_given (given_of body.now)) × AllBelow 65536 (members_given (given_of body.now))) }
 {
     let n = class_count(body);
     let mut used = 0;
@@ -200,8 +200,8 @@ fn numbers_apart(numbers: &[u32]) -> bool
 
 // The columns of a group of at most 64 classes, without its members.
 fn columns(body: &[u8]) -> Group
-    requires { Shaped body.now × ((length (given_of body.now) ≤ 64) × (flavoursKnown (given_of body.now) ≡ true)) }
-    ensures { result ≡ columnsOf (given_of body.now) }
+    requires { Shaped body.now × ((length (given_of body.now) ≤ 64) × (flavours_known (given_of body.now) ≡ true)) }
+    ensures { result ≡ columns_of (given_of body.now) }
 {
     let n = class_count(body);
     let mut group = empty(256);
@@ -235,8 +235,8 @@ fn member_table(numbers: &[u32]) -> [u32; 256]
 
 // The group of a body with the members of its classes, if there are not too many.
 fn build(body: &[u8], numbers: &[u32]) -> Changed
-    requires { Shaped body.now × ((flavoursKnown (given_of body.now) ≡ true) × (numbers.now ≡ membersGiven (given_of body.now))) }
-    ensures { result ≡ builtOf (given_of body.now) }
+    requires { Shaped body.now × ((flavours_known (given_of body.now) ≡ true) × (numbers.now ≡ members_given (given_of body.now))) }
+    ensures { result ≡ built_of (given_of body.now) }
 {
     if 64 < class_count(body) {
         return no_group(4);
@@ -258,7 +258,7 @@ fn build(body: &[u8], numbers: &[u32]) -> Changed
 // The group of a body whose members are listed, in the order 11, 1, 4.
 fn listed_group(cells: &[u32; 11265], body: &[u8], numbers: &[u32]) -> Changed
     requires { Listed cells.now body.now numbers.now }
-    ensures { result ≡ group_of cells.now (bodyGiven body.now) }
+    ensures { result ≡ group_of cells.now (body_given body.now) }
 {
     if !numbers_apart(numbers) {
         return no_group(11);
@@ -275,7 +275,7 @@ fn listed_group(cells: &[u32; 11265], body: &[u8], numbers: &[u32]) -> Changed
 // The group of a body whose shape is checked, in the order 12, 11, 1, 4.
 fn read_classes(cells: &[u32; 11265], body: &[u8]) -> Changed
     requires { Shaped body.now }
-    ensures { result ≡ group_of cells.now (bodyGiven body.now) }
+    ensures { result ≡ group_of cells.now (body_given body.now) }
 {
     if !flavours_known(body) {
         return no_group(12);
@@ -293,7 +293,7 @@ fn read_classes(cells: &[u32; 11265], body: &[u8]) -> Changed
 
 // The group of a record: 9 where it is malformed.
 pub fn read_group_in(cells: &[u32; 11265], bytes: &[u8]) -> Changed
-    ensures { result ≡ groupRead cells.now bytes.now }
+    ensures { result ≡ group_read cells.now bytes.now }
 {
     if !is_group_record(bytes) {
         return no_group(9);

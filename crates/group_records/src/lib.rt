@@ -5,7 +5,7 @@
 pub mod group;
 
 ghost use Rattle.std.specs.Prelude.{◌≡◌};
-ghost use Rattle.group_records.specs.GroupRecord.{groupRead};
+ghost use Rattle.group_records.specs.GroupRecord.{group_read};
 
 use classes::Changed;
 use group::read_group_in;
@@ -13,7 +13,7 @@ use group::read_group_in;
 // Reads a group's record against an arena into a group of limit 256. Refusals: 9, 12, 11, 1, 4, with a group of limit 0,
 // which is none.
 pub fn read_group(cells: &[u32; 11265], bytes: &[u8]) -> Changed
-    ensures { result ≡ groupRead cells.now bytes.now }
+    ensures { result ≡ group_read cells.now bytes.now }
 {
     read_group_in(cells, bytes)
 }

@@ -5,7 +5,7 @@ use mathlib.Core.Path.{◌≡◌, refl, sym, ap, ◌∙◌}
 use native.Mathlib.Omega.{arith}
 use lib.ListN.{length, get_or, set, take, length-set}
 use Rattle.classes.specs.declared.Group.{Group}
-use Rattle.group_states.specs.Groups.{groupCells}
+use Rattle.group_states.specs.Groups.{group_cells}
 use Rattle.states.proofs.Taken.{taken-all, written-turn}
 
 -- the first i of xs are written from a cell on
@@ -32,8 +32,8 @@ module _ (old xs : List ℕ) (at : ℕ) where
       }
 
   -- all of them
-  pub written_all : (i : ℕ) (now : List ℕ) → length xs ≤ i → Written old xs at i now → take (at + length xs) now ≡ take at old ++ xs
-  written_all i now b w =
+  pub written_all_lem : (i : ℕ) (now : List ℕ) → length xs ≤ i → Written old xs at i now → take (at + length xs) now ≡ take at old ++ xs
+  written_all_lem i now b w =
       let s : i ≡ length xs = omega (arith, w.few) in
       let t : take (at + length xs) now ≡ take at old ++ take (length xs) xs = rw s at w.is in
       t ∙ ap (λ (l : List ℕ). take at old ++ l) (taken-all xs (length xs) (omega arith))
@@ -47,8 +47,8 @@ three-written (x ∷ y ∷ z ∷ r) a b c h = refl
 
 -- a group's parts, written one after the other, are its cells
 pub group-written : (g : Group) (x y z : ℕ) (a b c d e : List ℕ) → x ≡ g.limit → y ≡ g.count → z ≡ g.used → take 3 a ≡ x ∷ y ∷ z ∷ []
-    → take 67 b ≡ take 3 a ++ g.sizes → take 131 c ≡ take 67 b ++ g.flavours → take 195 d ≡ take 131 c ++ g.values → e ≡ take 195 d ++ g.members → e ≡ groupCells g
-unfolding groupCells
+    → take 67 b ≡ take 3 a ++ g.sizes → take 131 c ≡ take 67 b ++ g.flavours → take 195 d ≡ take 131 c ++ g.values → e ≡ take 195 d ++ g.members → e ≡ group_cells g
+unfolding group_cells
 group-written g x y z a b c d e limit count used counts sizes flavours values members =
     let p : List ℕ = g.limit ∷ g.count ∷ g.used ∷ [] in
     let h : take 3 a ≡ p = counts ∙ rw (limit, count, used) in

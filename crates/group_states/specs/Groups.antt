@@ -6,8 +6,8 @@ use Rattle.classes.specs.declared.Changed.{Changed}
 use Rattle.states.specs.Cells.{part}
 
 -- the struct in the cells
-unfoldable pub groupFrom : List ℕ → Group
-groupFrom cells =
+unfoldable pub group_from : List ℕ → Group
+group_from cells =
     record {
       limit = get_or cells 0 0;
       count = get_or cells 1 0;
@@ -19,9 +19,9 @@ groupFrom cells =
     }
 
 -- the cells of a struct
-unfoldable pub groupCells : Group → List ℕ
-groupCells g = g.limit ∷ g.count ∷ g.used ∷ (g.sizes ++ (g.flavours ++ (g.values ++ g.members)))
+unfoldable pub group_cells : Group → List ℕ
+group_cells g = g.limit ∷ g.count ∷ g.used ∷ (g.sizes ++ (g.flavours ++ (g.values ++ g.members)))
 
 -- what a call that hands back a group returns, and the cells afterwards: a refusal leaves them as they were
-unfoldable pub storedGroup : List ℕ → Changed → ℕ × List ℕ
-storedGroup cells c = if eqb c.number 0 then (0, groupCells c.group) else (c.number, cells)
+unfoldable pub stored_group : List ℕ → Changed → ℕ × List ℕ
+stored_group cells c = if eqb c.number 0 then (0, group_cells c.group) else (c.number, cells)

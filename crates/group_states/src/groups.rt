@@ -1,7 +1,7 @@
 // A group in its cells.
 ghost use Rattle.std.specs.Prelude.{[], ◌∷◌, ◌++◌, ◌≡◌, ◌+◌, ◌≤◌, length, take};
 ghost use Rattle.states.specs.Cells.{part};
-ghost use Rattle.group_states.specs.Groups.{groupFrom, groupCells, storedGroup};
+ghost use Rattle.group_states.specs.Groups.{group_from, group_cells, stored_group};
 ghost use Rattle.group_states.specs.Inner.{AllBelow, GroupFits, FitsIfDone};
 
 use arena::cells::wide;
@@ -54,7 +54,7 @@ fn members_from(cells: &[u32; GROUP_CELLS]) -> [u32; 256]
 
 // The group in its cells.
 pub fn load_group(cells: &[u32; GROUP_CELLS]) -> Group
-    ensures { result ≡ groupFrom cells.now }
+    ensures { result ≡ group_from cells.now }
 {
     let sizes = sizes_from(cells);
     let flavours = table_from(cells, GROUP_FLAVOURS);
@@ -131,7 +131,7 @@ fn put_members(members: [u32; 256], cells: &mut [u32; GROUP_CELLS])
 // Writes a group into its cells.
 fn put_group(group: Group, cells: &mut [u32; GROUP_CELLS])
     requires { GroupFits group }
-    ensures { cells.new ≡ groupCells group }
+    ensures { cells.new ≡ group_cells group }
 {
     let sizes = group.sizes;
     let flavours = group.flavours;
@@ -152,7 +152,7 @@ fn put_group(group: Group, cells: &mut [u32; GROUP_CELLS])
 // Writes the group that a call hands back, unless it was refused. The answer is the refusal's number or 0.
 pub fn store_group(changed: Changed, cells: &mut [u32; GROUP_CELLS]) -> u32
     requires { FitsIfDone changed }
-    ensures { (result, cells.new) ≡ storedGroup cells.old changed }
+    ensures { (result, cells.new) ≡ stored_group cells.old changed }
 {
     if changed.number != 0 {
         return changed.number;

@@ -5,9 +5,9 @@ use mathlib.Core.List.{List, [], ◌∷◌}
 use mathlib.Core.Path.{◌≡◌, refl}
 use lib.ListN.{get_or}
 use Rattle.laws.specs.Tests.{each}
-use Rattle.laws.proofs.Booleans.{true-not-false, and_left, and_right}
+use Rattle.laws.proofs.Booleans.{true_not_false, and_left, and_right}
 use Rattle.laws.proofs.Each.{each_holds}
-use Rattle.joins.specs.Kinds.{joinKind}
+use Rattle.joins.specs.Kinds.{join_kind}
 use Rattle.joins.specs.declared.JoinKind.{JoinKind}
 
 -- two tests are equal
@@ -19,16 +19,16 @@ same false false = true
 
 same-is : (a b : Bool) → same a b ≡ true → a ≡ b
 same-is true true h = refl
-same-is true false h = absurd (true-not-false h refl)
-same-is false true h = absurd (true-not-false h refl)
+same-is true false h = absurd (true_not_false h refl)
+same-is false true h = absurd (true_not_false h refl)
 same-is false false h = refl
 
 -- two entries are equal
-abbrev sameKind : JoinKind → JoinKind → Bool
-sameKind a b = same a.left b.left && (same a.right b.right && (same a.shifted b.shifted && same a.pairs b.pairs))
+abbrev same_kind : JoinKind → JoinKind → Bool
+same_kind a b = same a.left b.left && (same a.right b.right && (same a.shifted b.shifted && same a.pairs b.pairs))
 
-same_kind : (a b : JoinKind) → sameKind a b ≡ true → a ≡ b
-same_kind a b h =
+same_kind_lem : (a b : JoinKind) → same_kind a b ≡ true → a ≡ b
+same_kind_lem a b h =
     let l = same-is a.left b.left (and_left _ (same a.right b.right && (same a.shifted b.shifted && same a.pairs b.pairs)) h) in
     let h₁ = and_right (same a.left b.left) (same a.right b.right && (same a.shifted b.shifted && same a.pairs b.pairs)) h in
     let r = same-is a.right b.right (and_left _ (same a.shifted b.shifted && same a.pairs b.pairs) h₁) in
@@ -42,8 +42,8 @@ abbrev entry : Bool → Bool → Bool → Bool → JoinKind
 entry l r s p = record { left = l; right = r; shifted = s; pairs = p }
 
 -- what is read past the end
-abbrev pub noKind : JoinKind
-noKind = entry false false false false
+abbrev pub no_kind : JoinKind
+no_kind = entry false false false false
 
 -- the code's table
 abbrev pub kinds : List JoinKind
@@ -62,13 +62,13 @@ kinds =
 
 -- the test of an entry: it is what its kind keeps
 abbrev right : ℕ → Bool
-right k = sameKind (get_or kinds k noKind) (joinKind k)
+right k = same_kind (get_or kinds k no_kind) (join_kind k)
 
 -- each of the ten passes it
 all_right : each right 10 ≡ true
-unfolding each joinKind
+unfolding each join_kind
 all_right = refl
 
 -- so each entry is what its kind keeps
-pub kind-is : (k : ℕ) → k < 10 → get_or kinds k noKind ≡ joinKind k
-kind-is k l = same_kind (get_or kinds k noKind) (joinKind k) (each_holds right 10 k all_right l)
+pub kind-is : (k : ℕ) → k < 10 → get_or kinds k no_kind ≡ join_kind k
+kind-is k l = same_kind_lem (get_or kinds k no_kind) (join_kind k) (each_holds right 10 k all_right l)

@@ -3,5 +3,5 @@ use Rattle.std.specs.Prelude.{ℕ, ◌||◌, eqb, leb}
 use Rattle.joins.specs.declared.JoinKind.{JoinKind}
 
 -- what a kind keeps: left but for the right kinds, right but for the left ones; the first four shift the right side, and Inner uses the pairs
-unfoldable pub joinKind : ℕ → JoinKind
-joinKind kind = record { left = leb kind 6; right = leb kind 3 || leb 7 kind; shifted = leb kind 3; pairs = eqb kind 0 }
+unfoldable pub join_kind : ℕ → JoinKind
+join_kind kind = record { left = leb kind 6; right = leb kind 3 || leb 7 kind; shifted = leb kind 3; pairs = eqb kind 0 }

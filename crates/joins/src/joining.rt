@@ -1,15 +1,15 @@
 // Join: the check of what is lent, the classes of both sides, and for Inner the pairs.
 ghost use Rattle.std.specs.Prelude.{◌≡◌, ◌≤◌, ◌<◌, length};
 ghost use Rattle.arena.specs.Layout.{decode as nodes};
-ghost use Rattle.arena.specs.Calls.{inCells};
+ghost use Rattle.arena.specs.Calls.{in_cells};
 ghost use Rattle.arena.specs.Inner.{Holds};
 ghost use Rattle.classes.specs.Layout.{decode};
 ghost use Rattle.classes.specs.Inner.{Coded, Held};
 ghost use Rattle.merging.specs.Inner.{AllBelow};
-ghost use Rattle.shifted_classes.specs.Lent.{pairsLent};
-ghost use Rattle.joins.specs.Calls.{joinNumber, joinShifted, joinBy};
-ghost use Rattle.shifted_classes.specs.Inner.{rightsLent, ReadyAll};
-ghost use Rattle.joins.specs.Inner.{sidesNumber, There, BothHeld, JoinReady, equatedOf, Joined};
+ghost use Rattle.shifted_classes.specs.Lent.{pairs_lent};
+ghost use Rattle.joins.specs.Calls.{join_number, join_shifted, join_by};
+ghost use Rattle.shifted_classes.specs.Inner.{rights_lent, ReadyAll};
+ghost use Rattle.joins.specs.Inner.{sides_number, There, BothHeld, JoinReady, equated_of, Joined};
 
 use crate::kinds::kind_of;
 use arena::Added;
@@ -29,7 +29,7 @@ use shifting::shifting::{movable, shift};
 
 // The check of two groups, a kind and pairs: 0, or 12, 11 or 1, whichever is first.
 pub fn join_number(cells: &[u32; 11265], left: Group, right: Group, kind: u32, pairs: &[u32]) -> u32
-    ensures { result ≡ joinNumber cells.now left right kind pairs.now }
+    ensures { result ≡ join_number cells.now left right kind pairs.now }
 {
     if 9 < kind {
         return 12;
@@ -58,7 +58,7 @@ pub fn join_number(cells: &[u32; 11265], left: Group, right: Group, kind: u32, p
 // The check of members and sides: 0, or 1 where one is not below the node count.
 fn sides_number(cells: &[u32; 11265], left: Group, right: Group, pairs: &[u32]) -> u32
     requires { Holds cells.now × ((left.used ≤ 256) × (right.used ≤ 256)) }
-    ensures { result ≡ sidesNumber (nodes cells.now) left right pairs.now }
+    ensures { result ≡ sides_number (nodes cells.now) left right pairs.now }
 {
     let n = node_count(cells);
     let lefts = left.members;
@@ -84,8 +84,8 @@ fn equate_pairs(
     pairs: &[u32],
     lift: u32,
 ) -> Changed
-    requires { (Held (nodes cells.old) g × (g.limit ≡ 256)) × (AllBelow (length (nodes cells.old)) pairs.now × (ReadyAll lift cells.old memo.old (rightsLent pairs.now) × There lift cells.old (rightsLent pairs.now))) }
-    ensures { (cells.new ≡ cells.old) × (result ≡ equatedOf lift cells.old g pairs.now) }
+    requires { (Held (nodes cells.old) g × (g.limit ≡ 256)) × (AllBelow (length (nodes cells.old)) pairs.now × (ReadyAll lift cells.old memo.old (rights_lent pairs.now) × There lift cells.old (rights_lent pairs.now))) }
+    ensures { (cells.new ≡ cells.old) × (result ≡ equated_of lift cells.old g pairs.now) }
 {
     let n = pairs.len() / 2;
     let mut out = g;
@@ -146,7 +146,7 @@ fn join_shifted(
     pairs: &[u32],
 ) -> Changed
     requires { BothHeld cells.old left right pairs.now }
-    ensures { (result, cells.new) ≡ inCells (joinShifted left (decode right) left_size (pairsLent pairs.now) (nodes cells.old)) }
+    ensures { (result, cells.new) ≡ in_cells (join_shifted left (decode right) left_size (pairs_lent pairs.now) (nodes cells.old)) }
 {
     let lift = lift_of_size(left_size);
     let table = movable(cells, node_count(cells), lift);
@@ -175,7 +175,7 @@ pub fn join_by(
     pairs: &[u32],
 ) -> Changed
     requires { BothHeld cells.old left right pairs.now × (kind < 10) }
-    ensures { (result, cells.new) ≡ inCells (joinBy left right kind left_size (pairsLent pairs.now) (nodes cells.old)) }
+    ensures { (result, cells.new) ≡ in_cells (join_by left right kind left_size (pairs_lent pairs.now) (nodes cells.old)) }
 {
     let entry = kind_of(wide(kind));
     if entry.shifted {

@@ -1,6 +1,6 @@
 // The ten kinds of join, as a table that is read by kind.
 ghost use Rattle.std.specs.Prelude.{◌≡◌, ◌<◌};
-ghost use Rattle.joins.specs.Kinds.{joinKind};
+ghost use Rattle.joins.specs.Kinds.{join_kind};
 
 use crate::JoinKind;
 
@@ -71,7 +71,7 @@ const KINDS: [JoinKind; 10] = [
 // What a kind of join keeps.
 pub fn kind_of(kind: usize) -> JoinKind
     requires { kind < 10 }
-    ensures { result ≡ joinKind kind }
+    ensures { result ≡ join_kind kind }
 {
     KINDS[kind]
 }

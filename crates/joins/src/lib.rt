@@ -8,7 +8,7 @@ pub mod joining;
 pub mod kinds;
 
 ghost use Rattle.std.specs.Prelude.{◌≡◌};
-ghost use Rattle.joins.specs.Calls.{joinAnswer};
+ghost use Rattle.joins.specs.Calls.{join_answer};
 
 use classes::refusing::refusal;
 use classes::{Changed, Group};
@@ -36,7 +36,7 @@ pub fn join(
     left_size: usize,
     pairs: &[u32],
 ) -> Changed
-    ensures { (result, cells.new) ≡ joinAnswer cells.old left right kind left_size pairs.now }
+    ensures { (result, cells.new) ≡ join_answer cells.old left right kind left_size pairs.now }
 {
     let number = join_number(cells, left, right, kind, pairs);
     if number != 0 {

@@ -6,7 +6,7 @@ use native.Mathlib.Numerals.{add-one}
 use native.Mathlib.Omega.{arith}
 use native.Mathlib.Decide.{ℕ_discrete}
 use Rattle.laws.specs.Tests.{each}
-use Rattle.laws.proofs.Booleans.{and_left, and_right, and_both, and-fails-left, and-fails-right}
+use Rattle.laws.proofs.Booleans.{and_left, and_right, and_both, and_fails_left, and_fails_right}
 
 module _ (p : ℕ → Bool) where
   -- for none it holds
@@ -36,24 +36,24 @@ module _ (p : ℕ → Bool) where
       at (no q) r = r (omega arith)
 
   -- one that fails
-  pub each-fails : (n i : ℕ) → i < n → p i ≡ false → each p n ≡ false
+  pub each_fails : (n i : ℕ) → i < n → p i ≡ false → each p n ≡ false
   unfolding each
-  each-fails zero i l f = absurd (omega arith)
-  each-fails (suc n) i l f = at (ℕ_discrete i n) (λ l'. each-fails n i l' f)
+  each_fails zero i l f = absurd (omega arith)
+  each_fails (suc n) i l f = at (ℕ_discrete i n) (λ l'. each_fails n i l' f)
     where
       at : Dec (i ≡ n) → (i < n → each p n ≡ false) → (each p n && p n) ≡ false
-      at (yes q) r = and-fails-right (each p n) (p n) (rw q at f)
-      at (no q) r = and-fails-left (each p n) (p n) (r (omega arith))
+      at (yes q) r = and_fails_right (each p n) (p n) (rw q at f)
+      at (no q) r = and_fails_left (each p n) (p n) (r (omega arith))
 
 -- for a test that agrees below n
-pub each-cong : (p q : ℕ → Bool) (n : ℕ) → ((i : ℕ) → i < n → p i ≡ q i) → each p n ≡ each q n
+pub each_cong : (p q : ℕ → Bool) (n : ℕ) → ((i : ℕ) → i < n → p i ≡ q i) → each p n ≡ each q n
 unfolding each
-each-cong p q zero h = refl
-each-cong p q (suc n) h = rw (each-cong p q n (λ i l. h i (omega arith)), h n (omega arith))
+each_cong p q zero h = refl
+each_cong p q (suc n) h = rw (each_cong p q n (λ i l. h i (omega arith)), h n (omega arith))
 
 -- a loop that stops at a test that fails, and one that passes its end, in the words of their answers
 pub each-stops : (p : ℕ → Bool) (n i : ℕ) → i < n → p i ≡ false → false ≡ each p n
-each-stops p n i l f = sym (each-fails p n i l f)
+each-stops p n i l f = sym (each_fails p n i l f)
 
 pub each-ends : (p : ℕ → Bool) (n i : ℕ) → i ≤ n → n ≤ i → each p i ≡ true → true ≡ each p n
 each-ends p n i a b h = let e : i ≡ n = omega arith in sym (subst (λ (k : ℕ). each p k ≡ true) e h)

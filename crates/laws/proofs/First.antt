@@ -6,8 +6,8 @@ use mathlib.Core.Path.{◌≡◌, refl, ap, ◌∙◌, subst}
 use native.Mathlib.Nat.{sub-zero}
 use native.Mathlib.Decide.{ℕ_discrete}
 use native.Mathlib.Omega.{arith}
-use Rattle.laws.specs.Tests.{if◌then◌else◌, firstFrom, first}
-use Rattle.laws.proofs.Booleans.{true-not-false}
+use Rattle.laws.specs.Tests.{if◌then◌else◌, first_from, first}
+use Rattle.laws.proofs.Booleans.{true_not_false}
 
 -- what an answer says of the numbers from i on, k in number
 record Here (p : ℕ → Bool) (i k r : ℕ) : Type 0 where
@@ -24,52 +24,52 @@ pub record First (p : ℕ → Bool) (n r : ℕ) : Type 0 where
 
 module _ (p : ℕ → Bool) where
   -- the search begins at 0
-  pub first-begins : (n : ℕ) → first p n ≡ firstFrom p (n - 0) 0
+  pub first-begins : (n : ℕ) → first p n ≡ first_from p (n - 0) 0
   unfolding first
   first-begins n = rw sub-zero
 
-  turn : (k i : ℕ) (b : Bool) → p i ≡ b → firstFrom p (suc k) i ≡ (if b then some i else firstFrom p k (i + 1))
-  unfolding firstFrom
+  turn : (k i : ℕ) (b : Bool) → p i ≡ b → first_from p (suc k) i ≡ (if b then some i else first_from p k (i + 1))
+  unfolding first_from
   turn k i b e = rw e
 
   -- a turn that finds
-  pub first-hit : (n i : ℕ) → i < n → p i ≡ true → firstFrom p (n - i) i ≡ some i
+  pub first-hit : (n i : ℕ) → i < n → p i ≡ true → first_from p (n - i) i ≡ some i
   first-hit n i l e = let s : n - i ≡ suc (n - (i + 1)) = omega arith in rw s (turn (n - (i + 1)) i true e)
 
   -- a turn that goes on
-  pub first_on : (n i : ℕ) → i < n → p i ≡ false → firstFrom p (n - i) i ≡ firstFrom p (n - (i + 1)) (i + 1)
+  pub first_on : (n i : ℕ) → i < n → p i ≡ false → first_from p (n - i) i ≡ first_from p (n - (i + 1)) (i + 1)
   first_on n i l e = let s : n - i ≡ suc (n - (i + 1)) = omega arith in rw s (turn (n - (i + 1)) i false e)
 
   -- the end
-  pub first_ends : (n i : ℕ) → n ≤ i → firstFrom p (n - i) i ≡ none
-  unfolding firstFrom
+  pub first_ends : (n i : ℕ) → n ≤ i → first_from p (n - i) i ≡ none
+  unfolding first_from
   first_ends n i l = let s : n - i ≡ 0 = omega arith in rw s
 
   -- what stands from i on, one more
-  after-miss : (k i r : ℕ) → p i ≡ false → Here p (i + 1) k r → Here p i (suc k) r
-  after-miss k i r q h = record { past = omega arith; below = omega arith; passes = h.passes; fresh = λ j a b. at j a b (ℕ_discrete j i) }
+  after_miss : (k i r : ℕ) → p i ≡ false → Here p (i + 1) k r → Here p i (suc k) r
+  after_miss k i r q h = record { past = omega arith; below = omega arith; passes = h.passes; fresh = λ j a b. at j a b (ℕ_discrete j i) }
     where
       at : (j : ℕ) → i ≤ j → j < r → Dec (j ≡ i) → p j ≡ false
       at j a b (yes t) = rw t q
       at j a b (no t) = h.fresh j (omega arith) b
 
-  some-here : (k i r : ℕ) → firstFrom p k i ≡ some r → Here p i k r
-  unfolding firstFrom
+  some-here : (k i r : ℕ) → first_from p k i ≡ some r → Here p i k r
+  unfolding first_from
   some-here zero i r e = absurd (let z : ◌≡◌ {A = ℕ} 0 1 = cc in omega arith)
   some-here (suc k) i r e = go (p i) refl e (some-here k (i + 1) r)
     where
-      go : (b : Bool) → p i ≡ b → (if b then some i else firstFrom p k (i + 1)) ≡ some r → (firstFrom p k (i + 1) ≡ some r → Here p (i + 1) k r) → Here p i (suc k) r
+      go : (b : Bool) → p i ≡ b → (if b then some i else first_from p k (i + 1)) ≡ some r → (first_from p k (i + 1) ≡ some r → Here p (i + 1) k r) → Here p i (suc k) r
       go true q s f =
           let t : i ≡ r = cc in
           record { past = omega arith; below = omega arith; passes = subst (λ (x : ℕ). p x ≡ true) t q; fresh = λ j a b. absurd (omega arith) }
-      go false q s f = after-miss k i r q (f s)
+      go false q s f = after_miss k i r q (f s)
 
-  none_here : (k i : ℕ) → firstFrom p k i ≡ none → (j : ℕ) → i ≤ j → j < i + k → p j ≡ false
-  unfolding firstFrom
+  none_here : (k i : ℕ) → first_from p k i ≡ none → (j : ℕ) → i ≤ j → j < i + k → p j ≡ false
+  unfolding first_from
   none_here zero i e j a b = absurd (omega arith)
   none_here (suc k) i e j a b = go (p i) refl e (none_here k (i + 1))
     where
-      go : (b : Bool) → p i ≡ b → (if b then some i else firstFrom p k (i + 1)) ≡ none → (firstFrom p k (i + 1) ≡ none → (j : ℕ) → i + 1 ≤ j → j < i + 1 + k → p j ≡ false) → p j ≡ false
+      go : (b : Bool) → p i ≡ b → (if b then some i else first_from p k (i + 1)) ≡ none → (first_from p k (i + 1) ≡ none → (j : ℕ) → i + 1 ≤ j → j < i + 1 + k → p j ≡ false) → p j ≡ false
       go true q s f = absurd (let z : ◌≡◌ {A = ℕ} 0 1 = cc in omega arith)
       go false q s f = at (ℕ_discrete j i)
         where
@@ -93,7 +93,7 @@ module _ (p : ℕ → Bool) where
   first-only n r l q u = go (first p n) refl
     where
       go : (o : Option ℕ) → first p n ≡ o → first p n ≡ some r
-      go none e = absurd (true-not-false q (first-none n e r l))
+      go none e = absurd (true_not_false q (first-none n e r l))
       go (some i) e = e ∙ ap {B = Option ℕ} some (u i (first_some n i e).below (first_some n i e).passes)
 
   -- nothing below n passes: no answer
@@ -102,14 +102,14 @@ module _ (p : ℕ → Bool) where
     where
       go : (o : Option ℕ) → first p n ≡ o → first p n ≡ none
       go none e = e
-      go (some i) e = absurd (true-not-false (first_some n i e).passes (f i (first_some n i e).below))
+      go (some i) e = absurd (true_not_false (first_some n i e).passes (f i (first_some n i e).below))
 
 -- for a test that agrees below n
-from-cong : (p q : ℕ → Bool) (k i : ℕ) → ((j : ℕ) → i ≤ j → j < i + k → p j ≡ q j) → firstFrom p k i ≡ firstFrom q k i
-unfolding firstFrom
-from-cong p q zero i h = refl
-from-cong p q (suc k) i h = rw (h i (omega arith) (omega arith), from-cong p q k (i + 1) (λ j a b. h j (omega arith) (omega arith)))
+from_cong : (p q : ℕ → Bool) (k i : ℕ) → ((j : ℕ) → i ≤ j → j < i + k → p j ≡ q j) → first_from p k i ≡ first_from q k i
+unfolding first_from
+from_cong p q zero i h = refl
+from_cong p q (suc k) i h = rw (h i (omega arith) (omega arith), from_cong p q k (i + 1) (λ j a b. h j (omega arith) (omega arith)))
 
 pub first_cong : (p q : ℕ → Bool) (n : ℕ) → ((j : ℕ) → j < n → p j ≡ q j) → first p n ≡ first q n
 unfolding first
-first_cong p q n h = from-cong p q n 0 (λ j a b. h j (omega arith))
+first_cong p q n h = from_cong p q n 0 (λ j a b. h j (omega arith))

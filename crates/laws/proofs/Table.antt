@@ -20,10 +20,10 @@ module _ {A : Type 0} (f : ℕ → A) where
   length-table (suc n) = length-append (table f n) (f n ∷ []) ∙ rw (length-table n, add-one)
 
   -- the element at i is f i
-  pub getD-table : (n i : ℕ) (d : A) → i < n → get_or (table f n) i d ≡ f i
+  pub get_or-table : (n i : ℕ) (d : A) → i < n → get_or (table f n) i d ≡ f i
   unfolding table
-  getD-table zero i d l = absurd (omega arith)
-  getD-table (suc n) i d l = at (ℕ_discrete i n) (λ l'. getD-table n i d l')
+  get_or-table zero i d l = absurd (omega arith)
+  get_or-table (suc n) i d l = at (ℕ_discrete i n) (λ l'. get_or-table n i d l')
     where
       at : Dec (i ≡ n) → (i < n → get_or (table f n) i d ≡ f i) → get_or (table f n ++ (f n ∷ [])) i d ≡ f i
       at (yes q) r = rw q (get_or_at (table f n) (f n) [] d n (length-table n))
@@ -36,13 +36,13 @@ module _ {A : Type 0} (f : ℕ → A) where
   pub table_is : (n : ℕ) (l : List A) (d : A) → length l ≡ n → ((i : ℕ) → i < n → get_or l i d ≡ f i) → l ≡ table f n
   table_is n l d e h =
       ext_get_or d l (table f n) (e ∙ sym (length-table n))
-      (λ i b. let b' : i < n = rw e at b in h i b' ∙ sym (getD-table n i d b'))
+      (λ i b. let b' : i < n = rw e at b in h i b' ∙ sym (get_or-table n i d b'))
 
 -- the table of a function that agrees below n
-pub table-cong : {A : Type 0} (f g : ℕ → A) (n : ℕ) → ((i : ℕ) → i < n → f i ≡ g i) → table f n ≡ table g n
+pub table_cong : {A : Type 0} (f g : ℕ → A) (n : ℕ) → ((i : ℕ) → i < n → f i ≡ g i) → table f n ≡ table g n
 unfolding table
-table-cong f g zero h = refl
-table-cong f g (suc n) h = rw (table-cong f g n (λ i l. h i (omega arith)), h n (omega arith))
+table_cong f g zero h = refl
+table_cong f g (suc n) h = rw (table_cong f g n (λ i l. h i (omega arith)), h n (omega arith))
 
 -- lists that hold the same numbers are equal, and the other way round
 pub same-numbers : (xs ys : List ℕ) → same_numbers xs ys ≡ true → xs ≡ ys

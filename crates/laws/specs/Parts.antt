@@ -10,19 +10,19 @@ use Rattle.std.proofs.Math.Dec.{ltb}
 use Rattle.laws.specs.Tests.{if◌then◌else◌}
 
 -- what f makes of each part from a place on, in at most n steps
-unfoldable pub partsFrom : {A : Type 0} → (ℕ → A) → (ℕ → ℕ) → ℕ → ℕ → ℕ → List A
-partsFrom f next end zero at = []
-partsFrom f next end (suc n) at = if ltb at end then f at ∷ partsFrom f next end n (next at) else []
+unfoldable pub parts_from : {A : Type 0} → (ℕ → A) → (ℕ → ℕ) → ℕ → ℕ → ℕ → List A
+parts_from f next end zero at = []
+parts_from f next end (suc n) at = if ltb at end then f at ∷ parts_from f next end n (next at) else []
 
 -- what f makes of each part from a place to the end
 unfoldable pub parts : {A : Type 0} → (ℕ → A) → (ℕ → ℕ) → ℕ → ℕ → List A
-parts f next end at = partsFrom f next end end at
+parts f next end at = parts_from f next end end at
 
 -- what they come to: at the end, and by one part
 module _ {A : Type 0} (f : ℕ → A) (next : ℕ → ℕ) (end : ℕ) (after : (at : ℕ) → at < next at) where
   -- all counts that are not below the places ahead come to the same
-  parts-enough : (n m at : ℕ) → end ≤ n + at → end ≤ m + at → partsFrom f next end n at ≡ partsFrom f next end m at
-  unfolding partsFrom
+  parts-enough : (n m at : ℕ) → end ≤ n + at → end ≤ m + at → parts_from f next end n at ≡ parts_from f next end m at
+  unfolding parts_from
   parts-enough zero zero at a b = refl
   parts-enough zero (suc m) at a b = rw (le-ltb at end (omega arith))
   parts-enough (suc n) zero at a b = rw (le-ltb at end (omega arith))
@@ -30,32 +30,32 @@ module _ {A : Type 0} (f : ℕ → A) (next : ℕ → ℕ) (end : ℕ) (after : 
       ap (λ (t : List A). if ltb at end then f at ∷ t else [])
       (parts-enough n m (next at) (omega (arith, after at)) (omega (arith, after at)))
 
-  pub parts-end : (at : ℕ) → end ≤ at → parts f next end at ≡ []
-  unfolding parts partsFrom
-  parts-end at l = parts-enough end 0 at (omega arith) (omega arith)
+  pub parts_end : (at : ℕ) → end ≤ at → parts f next end at ≡ []
+  unfolding parts parts_from
+  parts_end at l = parts-enough end 0 at (omega arith) (omega arith)
 
   pub parts_next : (at : ℕ) → at < end → parts f next end at ≡ f at ∷ parts f next end (next at)
-  unfolding parts partsFrom
+  unfolding parts parts_from
   parts_next at l =
       let e : end ≡ suc (end - 1) = omega arith in
-      ap (λ (n : ℕ). partsFrom f next end n at) e ∙ rw (lt-ltb at end l, partsFrom)
+      ap (λ (n : ℕ). parts_from f next end n at) e ∙ rw (lt-ltb at end l, parts_from)
       (ap (λ (t : List A). f at ∷ t) (parts-enough (end - 1) end (next at) (omega (arith, after at)) (omega arith)))
 
 -- each of them is true
-unfoldable pub allTrue : List Bool → Bool
-allTrue [] = true
-allTrue (b ∷ bs) = b && allTrue bs
+unfoldable pub all_true : List Bool → Bool
+all_true [] = true
+all_true (b ∷ bs) = b && all_true bs
 
 -- a test holds for each part from a place to the end
-unfoldable pub eachPart : (ℕ → Bool) → (ℕ → ℕ) → ℕ → ℕ → Bool
-eachPart p next end at = allTrue (parts p next end at)
+unfoldable pub each_part : (ℕ → Bool) → (ℕ → ℕ) → ℕ → ℕ → Bool
+each_part p next end at = all_true (parts p next end at)
 
 -- what it comes to: at the end, and by one part
 module _ (p : ℕ → Bool) (next : ℕ → ℕ) (end : ℕ) (after : (at : ℕ) → at < next at) where
-  pub each-end : (at : ℕ) → end ≤ at → eachPart p next end at ≡ true
-  unfolding eachPart allTrue
-  each-end at l = ap allTrue (parts-end p next end after at l)
+  pub each_end : (at : ℕ) → end ≤ at → each_part p next end at ≡ true
+  unfolding each_part all_true
+  each_end at l = ap all_true (parts_end p next end after at l)
 
-  pub each_next : (at : ℕ) → at < end → eachPart p next end at ≡ (p at && eachPart p next end (next at))
-  unfolding eachPart allTrue
-  each_next at l = ap allTrue (parts_next p next end after at l)
+  pub each_next : (at : ℕ) → at < end → each_part p next end at ≡ (p at && each_part p next end (next at))
+  unfolding each_part all_true
+  each_next at l = ap all_true (parts_next p next end after at l)

@@ -14,13 +14,13 @@ each p zero = true
 each p (suc n) = each p n && p n
 
 -- the first of the k numbers from i on for which p holds
-unfoldable pub firstFrom : (ℕ → Bool) → ℕ → ℕ → Option ℕ
-firstFrom p zero i = none
-firstFrom p (suc k) i = if p i then some i else firstFrom p k (i + 1)
+unfoldable pub first_from : (ℕ → Bool) → ℕ → ℕ → Option ℕ
+first_from p zero i = none
+first_from p (suc k) i = if p i then some i else first_from p k (i + 1)
 
 -- the first number below n for which p holds
 unfoldable pub first : (ℕ → Bool) → ℕ → Option ℕ
-first p n = firstFrom p n 0
+first p n = first_from p n 0
 
 -- there is one
 unfoldable pub is_some : Option ℕ → Bool

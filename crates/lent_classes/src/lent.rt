@@ -6,8 +6,8 @@ ghost use Rattle.arena.specs.Inner.{Holds};
 ghost use Rattle.classes.specs.Steps.{fits};
 ghost use Rattle.classes.specs.Layout.{encode, decode};
 ghost use Rattle.classes.specs.Inner.{Coded};
-ghost use Rattle.lent_classes.specs.Lent.{flavourLent, valueLent, sizeLent, memberLent, nextClass, known_at, flavoursKnown, whole, freshLent, apartAt, membersApart, uniformLent, literalsUniform, belowAt, membersBelow, classLent, classesLent};
-ghost use Rattle.lent_classes.specs.Check.{newNumber};
+ghost use Rattle.lent_classes.specs.Lent.{flavour_lent, value_lent, size_lent, member_lent, next_class, known_at, flavours_known, whole, fresh_lent, apart_at, members_apart, uniform_lent, literals_uniform, below_at, members_below, class_lent, classes_lent};
+ghost use Rattle.lent_classes.specs.Check.{new_number};
 ghost use Rattle.lent_classes.specs.Inner.{At};
 
 use arena::cells::{node_count, wide};
@@ -26,14 +26,14 @@ pub fn number_at(numbers: &[u32], i: usize) -> u32
 // How many members the class at a place has.
 fn size_at(numbers: &[u32], at: usize) -> usize
     requires { at < length numbers.now }
-    ensures { (result ≡ sizeLent numbers.now at) × (result < 4294967296) }
+    ensures { (result ≡ size_lent numbers.now at) × (result < 4294967296) }
 {
     wide(number_at(numbers, at + 2))
 }
 
 // Every flavour and value is in its set.
 fn flavours_known(numbers: &[u32]) -> bool
-    ensures { result ≡ flavoursKnown numbers.now }
+    ensures { result ≡ flavours_known numbers.now }
 {
     let n = numbers.len();
     let mut at = 0;
@@ -63,8 +63,8 @@ fn is_whole(numbers: &[u32]) -> bool
 
 // Member k of the class at a place does not stand before it there.
 fn fresh_lent(numbers: &[u32], at: usize, k: usize) -> bool
-    requires { At numbers.now at × (k < sizeLent numbers.now at) }
-    ensures { result ≡ freshLent numbers.now at k }
+    requires { At numbers.now at × (k < size_lent numbers.now at) }
+    ensures { result ≡ fresh_lent numbers.now at k }
 {
     let e = numbers[at + 3 + k];
     let mut i = 0;
@@ -80,7 +80,7 @@ fn fresh_lent(numbers: &[u32], at: usize, k: usize) -> bool
 // No member of the class at a place stands twice.
 fn apart_at(numbers: &[u32], at: usize) -> bool
     requires { At numbers.now at }
-    ensures { result ≡ apartAt numbers.now at }
+    ensures { result ≡ apart_at numbers.now at }
 {
     let n = size_at(numbers, at);
     let mut k = 0;
@@ -96,7 +96,7 @@ fn apart_at(numbers: &[u32], at: usize) -> bool
 // No class has a member twice.
 fn members_apart(numbers: &[u32]) -> bool
     requires { whole numbers.now ≡ true }
-    ensures { result ≡ membersApart numbers.now }
+    ensures { result ≡ members_apart numbers.now }
 {
     let n = numbers.len();
     let mut at = 0;
@@ -112,7 +112,7 @@ fn members_apart(numbers: &[u32]) -> bool
 // A literal among the members of the class at a place makes it uniform.
 fn uniform_at(cells: &[u32; 11265], numbers: &[u32], at: usize) -> bool
     requires { Holds cells.now × At numbers.now at }
-    ensures { result ≡ uniformLent (nodes cells.now) numbers.now at }
+    ensures { result ≡ uniform_lent (nodes cells.now) numbers.now at }
 {
     let flavour = number_at(numbers, at);
     let n = size_at(numbers, at);
@@ -129,7 +129,7 @@ fn uniform_at(cells: &[u32; 11265], numbers: &[u32], at: usize) -> bool
 // A literal's class is uniform.
 fn literals_uniform(cells: &[u32; 11265], numbers: &[u32]) -> bool
     requires { Holds cells.now × (whole numbers.now ≡ true) }
-    ensures { result ≡ literalsUniform (nodes cells.now) numbers.now }
+    ensures { result ≡ literals_uniform (nodes cells.now) numbers.now }
 {
     let n = numbers.len();
     let mut at = 0;
@@ -145,7 +145,7 @@ fn literals_uniform(cells: &[u32; 11265], numbers: &[u32]) -> bool
 // The members of the class at a place are below m.
 fn below_at(numbers: &[u32], at: usize, m: usize) -> bool
     requires { At numbers.now at }
-    ensures { result ≡ belowAt m numbers.now at }
+    ensures { result ≡ below_at m numbers.now at }
 {
     let n = size_at(numbers, at);
     let mut k = 0;
@@ -161,7 +161,7 @@ fn below_at(numbers: &[u32], at: usize, m: usize) -> bool
 // Every member is below m.
 fn members_below(numbers: &[u32], m: usize) -> bool
     requires { whole numbers.now ≡ true }
-    ensures { result ≡ membersBelow m numbers.now }
+    ensures { result ≡ members_below m numbers.now }
 {
     let n = numbers.len();
     let mut at = 0;
@@ -177,7 +177,7 @@ fn members_below(numbers: &[u32], m: usize) -> bool
 // The list has at most 64 classes and 256 members.
 fn list_fits(numbers: &[u32]) -> bool
     requires { whole numbers.now ≡ true }
-    ensures { result ≡ fits 256 (classesLent numbers.now) }
+    ensures { result ≡ fits 256 (classes_lent numbers.now) }
 {
     let n = numbers.len();
     let mut count = 0usize;
@@ -200,7 +200,7 @@ fn list_fits(numbers: &[u32]) -> bool
 
 // The check of a list of classes: 0, or 12, 11, 1 or 4, whichever is first.
 pub fn new_number(cells: &[u32; 11265], numbers: &[u32]) -> u32
-    ensures { result ≡ newNumber cells.now numbers.now }
+    ensures { result ≡ new_number cells.now numbers.now }
 {
     if !flavours_known(numbers) {
         return 12;
@@ -242,8 +242,8 @@ fn copy_numbers(to: [u32; 256], used: usize, numbers: &[u32], start: usize, n: u
 
 // A group with the class at a place of the list at its end.
 fn add_lent(out: Group, numbers: &[u32], at: usize) -> Group
-    requires { (Coded out × ((out.count < 64) × (out.used + sizeLent numbers.now at ≤ 256))) × (At numbers.now at × (known_at numbers.now at ≡ true)) }
-    ensures { result ≡ encode out.limit (decode out ++ (classLent numbers.now at ∷ [])) }
+    requires { (Coded out × ((out.count < 64) × (out.used + size_lent numbers.now at ≤ 256))) × (At numbers.now at × (known_at numbers.now at ≡ true)) }
+    ensures { result ≡ encode out.limit (decode out ++ (class_lent numbers.now at ∷ [])) }
 {
     let size = size_at(numbers, at);
     let flavour = number_at(numbers, at);
@@ -264,8 +264,8 @@ fn add_lent(out: Group, numbers: &[u32], at: usize) -> Group
 
 // The list of classes in a group's tables.
 pub fn lent_classes(numbers: &[u32]) -> Group
-    requires { (flavoursKnown numbers.now ≡ true) × ((whole numbers.now ≡ true) × (fits 256 (classesLent numbers.now) ≡ true)) }
-    ensures { result ≡ encode 256 (classesLent numbers.now) }
+    requires { (flavours_known numbers.now ≡ true) × ((whole numbers.now ≡ true) × (fits 256 (classes_lent numbers.now) ≡ true)) }
+    ensures { result ≡ encode 256 (classes_lent numbers.now) }
 {
     let n = numbers.len();
     let mut out = empty(256);

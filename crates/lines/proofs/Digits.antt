@@ -6,7 +6,7 @@ use native.Mathlib.Omega.{arith}
 use lib.ListN.{length}
 use Rattle.lines.specs.Text.{decimal, decimal_digit, decimal-more}
 use Rattle.lines.specs.Writing.{Put, RoomFor}
-use Rattle.lines.proofs.Lengths.{length-digit, length_more}
+use Rattle.lines.proofs.Lengths.{length_digit, length_more}
 use Rattle.lines.proofs.Puts.{put_both, put-room, put-length}
 
 -- the last digit
@@ -16,10 +16,10 @@ last_of x = (48 + x % 10) ∷ []
 module _ (old : List ℕ) (at x : ℕ) where
   -- a number below ten is its last digit
   pub digit_room : RoomFor old at (decimal x) → x < 10 → RoomFor old at (last_of x)
-  digit_room room l = omega (arith, room, length-digit x l)
+  digit_room room l = omega (arith, room, length_digit x l)
 
-  pub digit-put : (new : List ℕ) (next : ℕ) → x < 10 → Put old at (last_of x) new next → Put old at (decimal x) new next
-  digit-put new next l p =
+  pub digit_put : (new : List ℕ) (next : ℕ) → x < 10 → Put old at (last_of x) new next → Put old at (decimal x) new next
+  digit_put new next l p =
       let e : 48 + x % 10 ≡ 48 + x = omega arith in
       subst (λ (t : List ℕ). Put old at t new next) (ap (λ (d : ℕ). d ∷ []) e ∙ sym (decimal_digit x l)) p
 

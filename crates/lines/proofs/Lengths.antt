@@ -9,19 +9,19 @@ use lib.ListN.{length, length-append}
 use Rattle.lines.specs.Text.{decimal, decimal_digit, decimal-more, spaced, line}
 
 -- a number below ten has one digit, another has one more than without its last
-pub length-digit : (x : ℕ) → x < 10 → length (decimal x) ≡ 1
-length-digit x l = ap (λ (l : List ℕ). length l) (decimal_digit x l)
+pub length_digit : (x : ℕ) → x < 10 → length (decimal x) ≡ 1
+length_digit x l = ap (λ (l : List ℕ). length l) (decimal_digit x l)
 
 pub length_more : (x : ℕ) → 10 ≤ x → length (decimal x) ≡ length (decimal (x / 10)) + 1
 length_more x l = ap (λ (l : List ℕ). length l) (decimal-more x l) ∙ length-append (decimal (x / 10)) ((48 + x % 10) ∷ [])
 
 -- a number below a power of ten has at most as many digits as the power says, and at least one
 pub decimal-short : (k x : ℕ) → x < 10 ^ suc k → length (decimal x) ≤ suc k
-decimal-short zero x l = omega (arith, length-digit x l)
+decimal-short zero x l = omega (arith, length_digit x l)
 decimal-short (suc k) x l = go (dec_lt x 10) (λ m. decimal-short k (x / 10) m)
   where
     go : Dec (x < 10) → (x / 10 < 10 ^ suc k → length (decimal (x / 10)) ≤ suc k) → length (decimal x) ≤ suc (suc k)
-    go (yes m) f = omega (arith, length-digit x m)
+    go (yes m) f = omega (arith, length_digit x m)
     go (no m) f = omega (arith, length_more x (omega arith), f (omega (arith, pow-suc 10 (suc k))))
 
 -- the bounds that lines need

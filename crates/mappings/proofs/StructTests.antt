@@ -8,15 +8,15 @@ use borrow.Author.Tests.{ltb-true, lt-ltb, le-ltb, eq-eqb, ne_eqb}
 use lib.Dec.{eqb, ltb}
 use lib.ListN.{get_or}
 use Rattle.laws.specs.Tests.{each}
-use Rattle.laws.proofs.Booleans.{and_left, and_right, and_both, and-fails-left, and-fails-right}
-use Rattle.laws.proofs.Each.{each-cong, each_holds, each-fails}
+use Rattle.laws.proofs.Booleans.{and_left, and_right, and_both, and_fails_left, and_fails_right}
+use Rattle.laws.proofs.Each.{each_cong, each_holds, each_fails}
 use Rattle.classes.specs.Layout.{fresh}
-use Rattle.mappings.specs.Mapping.{Mapped, sources, sourcesApart, mappedBelow, mappingBelow}
-use Rattle.mappings.specs.Layout.{place_in, mappedOf, decode}
+use Rattle.mappings.specs.Mapping.{Mapped, sources, sources_apart, mapped_below, mapping_below}
+use Rattle.mappings.specs.Layout.{place_in, mapped_of, decode}
 use Rattle.mappings.specs.declared.Source.{Source}
 use Rattle.mappings.specs.declared.Mapping.{Mapping}
 use Rattle.mappings.proofs.Targets.{mapped-length, mapped-source, mapped-target, decode-length, decode-at, decode-source}
-use Rattle.mappings.proofs.PlaceReads.{readIn, read_mapped, read-expr}
+use Rattle.mappings.proofs.PlaceReads.{read_in, read_mapped, read-expr}
 
 -- target k of a source is below n
 abbrev pub TargetBelow : ℕ → Source → ℕ → Bool
@@ -24,66 +24,66 @@ TargetBelow n r k = ltb (get_or r.targets k 0) n
 
 -- source i of a mapping is below n, with its targets
 abbrev pub SourceBelow : ℕ → Mapping → ℕ → Bool
-SourceBelow n m i = mappedBelow n (mappedOf (place_in m i))
+SourceBelow n m i = mapped_below n (mapped_of (place_in m i))
 
 -- source i is not source k
 abbrev pub Unlike : Mapping → ℕ → ℕ → Bool
 Unlike m k i = not (eqb (place_in m i).expr (place_in m k).expr)
 
 -- a source and its targets below n
-pub below_of : (n : ℕ) (r : Source) → mappedBelow n (mappedOf r) ≡ (ltb r.expr n && each (TargetBelow n r) r.size)
-unfolding mappedBelow
+pub below_of : (n : ℕ) (r : Source) → mapped_below n (mapped_of r) ≡ (ltb r.expr n && each (TargetBelow n r) r.size)
+unfolding mapped_below
 below_of n r =
     ap₂ (λ (a b : Bool). a && b) (ap (λ (e : ℕ). ltb e n) (mapped-source r))
-    (ap (each (λ k. ltb (get_or (mappedOf r).targets k 0) n)) (mapped-length r)
-    ∙ each-cong (λ k. ltb (get_or (mappedOf r).targets k 0) n) (TargetBelow n r) r.size (λ k l. ap (λ (e : ℕ). ltb e n) (mapped-target r k l)))
+    (ap (each (λ k. ltb (get_or (mapped_of r).targets k 0) n)) (mapped-length r)
+    ∙ each_cong (λ k. ltb (get_or (mapped_of r).targets k 0) n) (TargetBelow n r) r.size (λ k l. ap (λ (e : ℕ). ltb e n) (mapped-target r k l)))
 
 -- a source that is not, a target that is not, and all of them that are
-pub source-outside : (n : ℕ) (r : Source) → n ≤ r.expr → false ≡ mappedBelow n (mappedOf r)
-source-outside n r l = sym (below_of n r ∙ and-fails-left (ltb r.expr n) (each (TargetBelow n r) r.size) (le-ltb r.expr n l))
+pub source-outside : (n : ℕ) (r : Source) → n ≤ r.expr → false ≡ mapped_below n (mapped_of r)
+source-outside n r l = sym (below_of n r ∙ and_fails_left (ltb r.expr n) (each (TargetBelow n r) r.size) (le-ltb r.expr n l))
 
-pub target-outside : (n : ℕ) (r : Source) (k : ℕ) → k < r.size → n ≤ get_or r.targets k 0 → false ≡ mappedBelow n (mappedOf r)
+pub target-outside : (n : ℕ) (r : Source) (k : ℕ) → k < r.size → n ≤ get_or r.targets k 0 → false ≡ mapped_below n (mapped_of r)
 target-outside n r k b l =
-    sym (below_of n r ∙ and-fails-right (ltb r.expr n) (each (TargetBelow n r) r.size) (each-fails (TargetBelow n r) r.size k b (le-ltb (get_or r.targets k 0) n l)))
+    sym (below_of n r ∙ and_fails_right (ltb r.expr n) (each (TargetBelow n r) r.size) (each_fails (TargetBelow n r) r.size k b (le-ltb (get_or r.targets k 0) n l)))
 
-pub source-inside : (n : ℕ) (r : Source) → r.expr < n → each (TargetBelow n r) r.size ≡ true → true ≡ mappedBelow n (mappedOf r)
+pub source-inside : (n : ℕ) (r : Source) → r.expr < n → each (TargetBelow n r) r.size ≡ true → true ≡ mapped_below n (mapped_of r)
 source-inside n r l h = sym (below_of n r ∙ and_both (lt-ltb r.expr n l) h)
 
 -- what it says
-pub below-expr : (n : ℕ) (r : Source) → mappedBelow n (mappedOf r) ≡ true → r.expr < n
+pub below-expr : (n : ℕ) (r : Source) → mapped_below n (mapped_of r) ≡ true → r.expr < n
 below-expr n r h = ltb-true r.expr n (and_left (ltb r.expr n) (each (TargetBelow n r) r.size) (sym (below_of n r) ∙ h))
 
-pub below-target : (n : ℕ) (r : Source) → mappedBelow n (mappedOf r) ≡ true → (k : ℕ) → k < r.size → get_or r.targets k 0 < n
+pub below-target : (n : ℕ) (r : Source) → mapped_below n (mapped_of r) ≡ true → (k : ℕ) → k < r.size → get_or r.targets k 0 < n
 below-target n r h k l =
     ltb-true (get_or r.targets k 0) n (each_holds (TargetBelow n r) r.size k (and_right (ltb r.expr n) (each (TargetBelow n r) r.size) (sym (below_of n r) ∙ h)) l)
 
 module _ (m : Mapping) where
   -- all of them
-  pub mapping-below-of : (n : ℕ) → mappingBelow n (decode m) ≡ each (SourceBelow n m) m.count
-  unfolding mappingBelow
-  mapping-below-of n =
+  pub mapping_below-of : (n : ℕ) → mapping_below n (decode m) ≡ each (SourceBelow n m) m.count
+  unfolding mapping_below
+  mapping_below-of n =
       let d : Mapped = record { source = 0; targets = [] } in
-      ap (each (λ i. mappedBelow n (get_or (decode m) i d))) (decode-length m)
-      ∙ each-cong (λ i. mappedBelow n (get_or (decode m) i d)) (SourceBelow n m) m.count (λ i l. ap (λ (p : Mapped). mappedBelow n p) (decode-at m i d l))
+      ap (each (λ i. mapped_below n (get_or (decode m) i d))) (decode-length m)
+      ∙ each_cong (λ i. mapped_below n (get_or (decode m) i d)) (SourceBelow n m) m.count (λ i l. ap (λ (p : Mapped). mapped_below n p) (decode-at m i d l))
 
   -- source k does not stand before its place
   pub fresh-of : (k : ℕ) → k < m.count → fresh (sources (decode m)) k ≡ each (Unlike m k) k
   unfolding fresh
   fresh-of k l =
-      each-cong (λ i. not (eqb (get_or (sources (decode m)) i 0) (get_or (sources (decode m)) k 0))) (Unlike m k) k
+      each_cong (λ i. not (eqb (get_or (sources (decode m)) i 0) (get_or (sources (decode m)) k 0))) (Unlike m k) k
       (λ i b. ap₂ (λ (x y : ℕ). not (eqb x y)) (decode-source m i (omega arith)) (decode-source m k l))
 
   -- no source stands twice
-  pub apart_of : sourcesApart (decode m) ≡ each (λ k. fresh (sources (decode m)) k) m.count
-  unfolding sourcesApart
+  pub apart_of : sources_apart (decode m) ≡ each (λ k. fresh (sources (decode m)) k) m.count
+  unfolding sources_apart
   apart_of = ap (each (λ k. fresh (sources (decode m)) k)) (decode-length m)
 
   -- the tests of what the code reads
-  pub like-read : (k i : ℕ) → (readIn m i).expr ≡ (readIn m k).expr → Unlike m k i ≡ false
+  pub like-read : (k i : ℕ) → (read_in m i).expr ≡ (read_in m k).expr → Unlike m k i ≡ false
   like-read k i e = ap not (eq-eqb (place_in m i).expr (place_in m k).expr (sym (read-expr m i) ∙ e ∙ read-expr m k))
 
-  pub unlike-read : (k i : ℕ) → ((readIn m i).expr ≡ (readIn m k).expr → ⊥) → Unlike m k i ≡ true
+  pub unlike-read : (k i : ℕ) → ((read_in m i).expr ≡ (read_in m k).expr → ⊥) → Unlike m k i ≡ true
   unlike-read k i n = ap not (ne_eqb (place_in m i).expr (place_in m k).expr (λ e. n (read-expr m i ∙ e ∙ sym (read-expr m k))))
 
-  pub below-read : (n i : ℕ) (t : Bool) → mappedBelow n (mappedOf (readIn m i)) ≡ t → SourceBelow n m i ≡ t
-  below-read n i t e = ap (λ (p : Mapped). mappedBelow n p) (sym (read_mapped m i)) ∙ e
+  pub below-read : (n i : ℕ) (t : Bool) → mapped_below n (mapped_of (read_in m i)) ≡ t → SourceBelow n m i ≡ t
+  below-read n i t e = ap (λ (p : Mapped). mapped_below n p) (sym (read_mapped m i)) ∙ e

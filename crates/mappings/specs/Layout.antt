@@ -14,12 +14,12 @@ abbrev pub place_in : Mapping → ℕ → Source
 place_in m i = get_or m.list i unused
 
 -- the source in a place with its targets
-unfoldable pub mappedOf : Source → Mapped
-mappedOf r = record { source = r.expr; targets = table (λ k. get_or r.targets k 0) r.size }
+unfoldable pub mapped_of : Source → Mapped
+mapped_of r = record { source = r.expr; targets = table (λ k. get_or r.targets k 0) r.size }
 
 -- the mapping in a struct
 unfoldable pub decode : Mapping → List Mapped
-decode m = table (λ i. mappedOf (place_in m i)) m.count
+decode m = table (λ i. mapped_of (place_in m i)) m.count
 
 -- the counts of a struct are within their bounds: 64 sources, 1 to 8 targets each
 pub record Bounded (m : Mapping) : Type 0 where

@@ -2,10 +2,10 @@
 ghost use Rattle.std.specs.Prelude.{true, not, ◌&&◌, ◌≡◌, ℕ, ◌≤◌, ◌<◌, ◌+◌, leb, length, get_or};
 ghost use Rattle.laws.specs.Tests.{each};
 ghost use Rattle.classes.specs.Layout.{fresh};
-ghost use Rattle.mappings.specs.Mapping.{sources, sourcesApart, mappedBelow, mappingBelow};
-ghost use Rattle.mappings.specs.Lent.{targetCount, empty_at, targetsGiven, whole_at, whole, mappedLent, mappingLent, lawfulMapping};
-ghost use Rattle.mappings.specs.Layout.{unused, place_in, mappedOf, decode, Bounded};
-ghost use Rattle.mappings.specs.Calls.{projectNumber};
+ghost use Rattle.mappings.specs.Mapping.{sources, sources_apart, mapped_below, mapping_below};
+ghost use Rattle.mappings.specs.Lent.{target_count, empty_at, targets_given, whole_at, whole, mapped_lent, mapping_lent, lawful_mapping};
+ghost use Rattle.mappings.specs.Layout.{unused, place_in, mapped_of, decode, Bounded};
+ghost use Rattle.mappings.specs.Calls.{project_number};
 
 use crate::{Mapping, Source};
 use arena::cells::{node_count, wide};
@@ -16,7 +16,7 @@ use lent_classes::lent::number_at;
 // How many targets the source at a place has.
 fn count_at(numbers: &[u32], at: usize) -> usize
     requires { at < length numbers.now }
-    ensures { (result ≡ targetCount numbers.now at) × (result < 4294967296) }
+    ensures { (result ≡ target_count numbers.now at) × (result < 4294967296) }
 {
     wide(number_at(numbers, at + 1))
 }
@@ -34,7 +34,7 @@ fn empty_at(numbers: &[u32], at: usize) -> bool
 
 // No source says that it has no targets.
 fn targets_given(numbers: &[u32]) -> bool
-    ensures { result ≡ targetsGiven numbers.now }
+    ensures { result ≡ targets_given numbers.now }
 {
     let n = numbers.len();
     let mut at = 0;
@@ -76,7 +76,7 @@ fn is_whole(numbers: &[u32]) -> bool
 
 // There are at most 64 sources.
 fn sources_few(numbers: &[u32]) -> bool
-    ensures { result ≡ leb (length (mappingLent numbers.now)) 64 }
+    ensures { result ≡ leb (length (mapping_lent numbers.now)) 64 }
 {
     let n = numbers.len();
     let mut count = 0usize;
@@ -94,7 +94,7 @@ fn sources_few(numbers: &[u32]) -> bool
 // The source at a place with its targets.
 fn source_at(numbers: &[u32], at: usize) -> Source
     requires { (at < length numbers.now) × (whole_at numbers.now at ≡ true) }
-    ensures { (mappedOf result ≡ mappedLent numbers.now at) × (result.size ≡ targetCount numbers.now at) }
+    ensures { (mapped_of result ≡ mapped_lent numbers.now at) × (result.size ≡ target_count numbers.now at) }
 {
     let size = count_at(numbers, at);
     let mut targets = [0u32; 8];
@@ -123,8 +123,8 @@ fn nothing() -> Source
 
 // The mapping in its struct.
 pub fn read_mapping(numbers: &[u32]) -> Mapping
-    requires { (whole numbers.now ≡ true) × (length (mappingLent numbers.now) ≤ 64) }
-    ensures { (decode result ≡ mappingLent numbers.now) × (result.count ≤ 64) }
+    requires { (whole numbers.now ≡ true) × (length (mapping_lent numbers.now) ≤ 64) }
+    ensures { (decode result ≡ mapping_lent numbers.now) × (result.count ≤ 64) }
 {
     let n = numbers.len();
     let mut out = Mapping {
@@ -159,7 +159,7 @@ fn source_fresh(m: Mapping, k: usize) -> bool
 // No source stands twice.
 fn sources_apart(m: Mapping) -> bool
     requires { m.count ≤ 64 }
-    ensures { result ≡ sourcesApart (decode m) }
+    ensures { result ≡ sources_apart (decode m) }
 {
     let n = m.count;
     let mut k = 0;
@@ -174,7 +174,7 @@ fn sources_apart(m: Mapping) -> bool
 
 // The mapping keeps document 01's rules.
 fn lawful_mapping(numbers: &[u32]) -> bool
-    ensures { result ≡ lawfulMapping numbers.now }
+    ensures { result ≡ lawful_mapping numbers.now }
 {
     if !is_whole(numbers) {
         return false;
@@ -188,7 +188,7 @@ fn lawful_mapping(numbers: &[u32]) -> bool
 // A source and its targets are below n.
 fn source_below(source: Source, n: usize) -> bool
     requires { source.size ≤ 8 }
-    ensures { result ≡ mappedBelow n (mappedOf source) }
+    ensures { result ≡ mapped_below n (mapped_of source) }
 {
     if n <= wide(source.expr) {
         return false;
@@ -207,7 +207,7 @@ fn source_below(source: Source, n: usize) -> bool
 // Every source and target is below n.
 fn mapping_below(m: Mapping, n: usize) -> bool
     requires { (m.count ≤ 64) × ((i : ℕ) → i < m.count → (place_in m i).size ≤ 8) }
-    ensures { result ≡ mappingBelow n (decode m) }
+    ensures { result ≡ mapping_below n (decode m) }
 {
     let count = m.count;
     let mut i = 0;
@@ -222,7 +222,7 @@ fn mapping_below(m: Mapping, n: usize) -> bool
 
 // The check of what a projection is lent: 0, or 12, 11 or 1, whichever is first.
 pub fn project_number(cells: &[u32; 11265], g: Group, numbers: &[u32]) -> u32
-    ensures { result ≡ projectNumber cells.now g numbers.now }
+    ensures { result ≡ project_number cells.now g numbers.now }
 {
     if !targets_given(numbers) {
         return 12;

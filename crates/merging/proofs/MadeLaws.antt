@@ -5,7 +5,7 @@ use Rattle.classes.specs.Layout.{encode, decode}
 use Rattle.classes.specs.Inner.{Coded}
 use Rattle.classes.specs.declared.Group.{Group}
 use Rattle.classes.specs.declared.Changed.{Changed}
-use Rattle.merging.specs.Calls.{madeGroup}
+use Rattle.merging.specs.Calls.{made_group}
 
 -- the struct of a group with its limit changed is the layout of its classes with that limit
 pub made-is : (g : Group) → Coded g
@@ -15,8 +15,8 @@ pub made-is : (g : Group) → Coded g
       answer = true;
       group = record { limit = 256; count = g.count; used = g.used; sizes = g.sizes; flavours = g.flavours; values = g.values; members = g.members };
     })
-    (madeGroup (decode g))
-unfolding madeGroup encode
+    (made_group (decode g))
+unfolding made_group encode
 made-is g v =
     let f : Group → Changed = λ h. record {
       number = 0;

@@ -19,53 +19,53 @@ use Rattle.classes.specs.Inner.{Coded, place_of}
 use Rattle.classes.specs.declared.Group.{Group}
 use Rattle.classes.specs.declared.Place.TheVariants.{At, Nowhere}
 use Rattle.classes.proofs.Codec.{length-decode, class-inside, members-part}
-use Rattle.merging.specs.Extending.{anyAmong, containsAny}
-use Rattle.merging.specs.Merging.{meetingBelow, lastMeeting}
+use Rattle.merging.specs.Extending.{any_among, contains_any}
+use Rattle.merging.specs.Merging.{meeting_below, last_meeting}
 
 -- the members of a table from a place on
 abbrev pub Part : List ℕ → ℕ → ℕ → ℕ
 Part members start k = get_or members (start + k) 0
 
 -- true on the right is true
-or-true : (b : Bool) → (b || true) ≡ true
-or-true true = refl
-or-true false = refl
+or_true : (b : Bool) → (b || true) ≡ true
+or_true true = refl
+or_true false = refl
 
 -- two lists, one after the other
-any_append : (ms xs ys : List ℕ) → anyAmong (xs ++ ys) ms ≡ (anyAmong xs ms || anyAmong ys ms)
-unfolding anyAmong
+any_append : (ms xs ys : List ℕ) → any_among (xs ++ ys) ms ≡ (any_among xs ms || any_among ys ms)
+unfolding any_among
 any_append ms [] ys = refl
 any_append ms (x ∷ xs) ys = go (among x ms) (any_append ms xs ys)
   where
-    go : (b : Bool) → anyAmong (xs ++ ys) ms ≡ (anyAmong xs ms || anyAmong ys ms) → (b || anyAmong (xs ++ ys) ms) ≡ ((b || anyAmong xs ms) || anyAmong ys ms)
+    go : (b : Bool) → any_among (xs ++ ys) ms ≡ (any_among xs ms || any_among ys ms) → (b || any_among (xs ++ ys) ms) ≡ ((b || any_among xs ms) || any_among ys ms)
     go true h = refl
     go false h = h
 
 module _ (ms : List ℕ) (f : ℕ → ℕ) where
   -- one number more
-  turn : (k : ℕ) (b : Bool) → among (f k) ms ≡ b → anyAmong (table f (suc k)) ms ≡ (anyAmong (table f k) ms || (b || false))
-  unfolding anyAmong table
+  turn : (k : ℕ) (b : Bool) → among (f k) ms ≡ b → any_among (table f (suc k)) ms ≡ (any_among (table f k) ms || (b || false))
+  unfolding any_among table
   turn k b q = any_append ms (table f k) (f k ∷ []) ∙ rw q
 
-  pub any_none : anyAmong (table f 0) ms ≡ false
-  unfolding anyAmong table
+  pub any_none : any_among (table f 0) ms ≡ false
+  unfolding any_among table
   any_none = refl
 
   -- a turn that goes on
-  pub any-more : (k : ℕ) → anyAmong (table f k) ms ≡ false → among (f k) ms ≡ false → anyAmong (table f (k + 1)) ms ≡ false
+  pub any-more : (k : ℕ) → any_among (table f k) ms ≡ false → among (f k) ms ≡ false → any_among (table f (k + 1)) ms ≡ false
   any-more k r q = rw (add-one, turn k false q, r)
 
   -- a turn that finds
-  pub any-hit : (n k : ℕ) → k < n → among (f k) ms ≡ true → true ≡ anyAmong (table f n) ms
+  pub any-hit : (n k : ℕ) → k < n → among (f k) ms ≡ true → true ≡ any_among (table f n) ms
   any-hit zero k l q = absurd (omega arith)
   any-hit (suc n) k l q = sym (at (ℕ_discrete k n) (λ l'. sym (any-hit n k l' q)))
     where
-      at : Dec (k ≡ n) → (k < n → anyAmong (table f n) ms ≡ true) → anyAmong (table f (suc n)) ms ≡ true
-      at (yes s) r = turn n true (rw s at q) ∙ or-true (anyAmong (table f n) ms)
+      at : Dec (k ≡ n) → (k < n → any_among (table f n) ms ≡ true) → any_among (table f (suc n)) ms ≡ true
+      at (yes s) r = turn n true (rw s at q) ∙ or_true (any_among (table f n) ms)
       at (no s) r = turn n (among (f n) ms) refl ∙ rw (r (omega arith))
 
   -- the end
-  pub any-ends : (n k : ℕ) → k ≤ n → n ≤ k → anyAmong (table f k) ms ≡ false → false ≡ anyAmong (table f n) ms
+  pub any-ends : (n k : ℕ) → k ≤ n → n ≤ k → any_among (table f k) ms ≡ false → false ≡ any_among (table f n) ms
   any-ends n k a b h = let s : k ≡ n = omega arith in sym (rw s at h)
 
 -- the answer for the part of the table is the answer for the class
@@ -79,72 +79,72 @@ module _ (g : Group) (v : Coded g) (i start : ℕ) (p : start ≡ sum_to g.sizes
   pub part-among : (e : ℕ) (b : Bool) → b ≡ among e (table (Part g.members start) (get_or g.sizes i 0)) → b ≡ among e (class_at (decode g) i).members
   part-among e b q = q ∙ ap (among e) part-is
 
-  pub part_meets : (j : ℕ) (b : Bool) → b ≡ anyAmong (table (Part g.members start) (get_or g.sizes i 0)) (class_at (decode g) j).members
-      → b ≡ containsAny (class_at (decode g) i) (class_at (decode g) j)
-  unfolding containsAny
-  part_meets j b q = q ∙ ap (λ (xs : List ℕ). anyAmong xs (class_at (decode g) j).members) part-is
+  pub part_meets : (j : ℕ) (b : Bool) → b ≡ any_among (table (Part g.members start) (get_or g.sizes i 0)) (class_at (decode g) j).members
+      → b ≡ contains_any (class_at (decode g) i) (class_at (decode g) j)
+  unfolding contains_any
+  part_meets j b q = q ∙ ap (λ (xs : List ℕ). any_among xs (class_at (decode g) j).members) part-is
 
 -- the search from the back
 module _ (cs : List Class) (i : ℕ) where
   -- the class before the place meets
-  meeting-hit : (j : ℕ) → i < j → containsAny (class_at cs i) (class_at cs j) ≡ true → meetingBelow cs i (suc j) ≡ some j
-  unfolding meetingBelow
-  meeting-hit j l q = rw (lt-ltb i j l, q)
+  meeting_hit : (j : ℕ) → i < j → contains_any (class_at cs i) (class_at cs j) ≡ true → meeting_below cs i (suc j) ≡ some j
+  unfolding meeting_below
+  meeting_hit j l q = rw (lt-ltb i j l, q)
 
   -- it doesn't
-  meeting-on : (j : ℕ) → containsAny (class_at cs i) (class_at cs j) ≡ false → meetingBelow cs i (suc j) ≡ meetingBelow cs i j
-  unfolding meetingBelow
-  meeting-on j q = go (ltb i j)
+  meeting_on : (j : ℕ) → contains_any (class_at cs i) (class_at cs j) ≡ false → meeting_below cs i (suc j) ≡ meeting_below cs i j
+  unfolding meeting_below
+  meeting_on j q = go (ltb i j)
     where
-      go : (b : Bool) → (if b && containsAny (class_at cs i) (class_at cs j) then some j else meetingBelow cs i j) ≡ meetingBelow cs i j
+      go : (b : Bool) → (if b && contains_any (class_at cs i) (class_at cs j) then some j else meeting_below cs i j) ≡ meeting_below cs i j
       go true = rw q
       go false = refl
 
   -- no class after i is left
-  pub meeting-ends : (j : ℕ) → j ≤ i + 1 → meetingBelow cs i j ≡ none
-  unfolding meetingBelow
-  meeting-ends zero l = refl
-  meeting-ends (suc j) l = rw (le-ltb i j (omega arith)) (meeting-ends j (omega arith))
+  pub meeting_ends : (j : ℕ) → j ≤ i + 1 → meeting_below cs i j ≡ none
+  unfolding meeting_below
+  meeting_ends zero l = refl
+  meeting_ends (suc j) l = rw (le-ltb i j (omega arith)) (meeting_ends j (omega arith))
 
   -- what it finds
-  meeting-some : (n j : ℕ) → meetingBelow cs i n ≡ some j → (i < j) × ((j < n) × (containsAny (class_at cs i) (class_at cs j) ≡ true))
-  unfolding meetingBelow
-  meeting-some zero j e = absurd (let z : ◌≡◌ {A = ℕ} 0 1 = cc in omega arith)
-  meeting-some (suc n) j e = go (dec_lt i n) (containsAny (class_at cs i) (class_at cs n)) refl e (meeting-some n j)
+  meeting_some : (n j : ℕ) → meeting_below cs i n ≡ some j → (i < j) × ((j < n) × (contains_any (class_at cs i) (class_at cs j) ≡ true))
+  unfolding meeting_below
+  meeting_some zero j e = absurd (let z : ◌≡◌ {A = ℕ} 0 1 = cc in omega arith)
+  meeting_some (suc n) j e = go (dec_lt i n) (contains_any (class_at cs i) (class_at cs n)) refl e (meeting_some n j)
     where
-      go : Dec (i < n) → (b : Bool) → containsAny (class_at cs i) (class_at cs n) ≡ b → meetingBelow cs i (suc n) ≡ some j
-          → (meetingBelow cs i n ≡ some j → (i < j) × ((j < n) × (containsAny (class_at cs i) (class_at cs j) ≡ true)))
-          → (i < j) × ((j < suc n) × (containsAny (class_at cs i) (class_at cs j) ≡ true))
+      go : Dec (i < n) → (b : Bool) → contains_any (class_at cs i) (class_at cs n) ≡ b → meeting_below cs i (suc n) ≡ some j
+          → (meeting_below cs i n ≡ some j → (i < j) × ((j < n) × (contains_any (class_at cs i) (class_at cs j) ≡ true)))
+          → (i < j) × ((j < suc n) × (contains_any (class_at cs i) (class_at cs j) ≡ true))
       go (yes l) true q h r =
-          let s : some n ≡ some j = sym (meeting-hit n l q) ∙ h in
+          let s : some n ≡ some j = sym (meeting_hit n l q) ∙ h in
           let t : n ≡ j = cc in
-          (omega arith, (omega arith, subst (λ (k : ℕ). containsAny (class_at cs i) (class_at cs k) ≡ true) t q))
-      go (yes l) false q h r = let s = r (sym (meeting-on n q) ∙ h) in (s.0, (omega (arith, s.1.0), s.1.1))
-      go (no l) b q h r = absurd (let s : none ≡ some j = sym (meeting-ends (suc n) (omega arith)) ∙ h in let z : ◌≡◌ {A = ℕ} 0 1 = cc in omega arith)
+          (omega arith, (omega arith, subst (λ (k : ℕ). contains_any (class_at cs i) (class_at cs k) ≡ true) t q))
+      go (yes l) false q h r = let s = r (sym (meeting_on n q) ∙ h) in (s.0, (omega (arith, s.1.0), s.1.1))
+      go (no l) b q h r = absurd (let s : none ≡ some j = sym (meeting_ends (suc n) (omega arith)) ∙ h in let z : ◌≡◌ {A = ℕ} 0 1 = cc in omega arith)
 
   -- the search over all classes
-  pub meeting-is : (j : ℕ) → lastMeeting cs i ≡ some j → (i < j) × ((j < length cs) × (containsAny (class_at cs i) (class_at cs j) ≡ true))
-  unfolding lastMeeting
-  meeting-is j e = meeting-some (length cs) j e
+  pub meeting_is : (j : ℕ) → last_meeting cs i ≡ some j → (i < j) × ((j < length cs) × (contains_any (class_at cs i) (class_at cs j) ≡ true))
+  unfolding last_meeting
+  meeting_is j e = meeting_some (length cs) j e
 
 -- the same over the struct
 module _ (g : Group) (i : ℕ) where
-  pub search-begins : lastMeeting (decode g) i ≡ meetingBelow (decode g) i g.count
-  unfolding lastMeeting
-  search-begins = rw (length-decode g)
+  pub search_begins : last_meeting (decode g) i ≡ meeting_below (decode g) i g.count
+  unfolding last_meeting
+  search_begins = rw (length-decode g)
 
   -- a turn that finds
-  pub search-hit : (j : ℕ) (b : Bool) → i + 1 < j → b ≡ containsAny (class_at (decode g) i) (class_at (decode g) (j - 1)) → b ≡ true → lastMeeting (decode g) i ≡ meetingBelow (decode g) i j → At (j - 1) ≡ place_of (lastMeeting (decode g) i)
-  search-hit j b l q h p =
+  pub search_hit : (j : ℕ) (b : Bool) → i + 1 < j → b ≡ contains_any (class_at (decode g) i) (class_at (decode g) (j - 1)) → b ≡ true → last_meeting (decode g) i ≡ meeting_below (decode g) i j → At (j - 1) ≡ place_of (last_meeting (decode g) i)
+  search_hit j b l q h p =
       let s : j ≡ suc (j - 1) = omega arith in
-      ap place_of (sym (p ∙ ap (λ (n : ℕ). meetingBelow (decode g) i n) s ∙ meeting-hit (decode g) i (j - 1) (omega arith) (sym q ∙ h)))
+      ap place_of (sym (p ∙ ap (λ (n : ℕ). meeting_below (decode g) i n) s ∙ meeting_hit (decode g) i (j - 1) (omega arith) (sym q ∙ h)))
 
   -- a turn that goes on
-  pub search-on : (j : ℕ) (b : Bool) → i + 1 < j → b ≡ containsAny (class_at (decode g) i) (class_at (decode g) (j - 1)) → b ≡ false → lastMeeting (decode g) i ≡ meetingBelow (decode g) i j → lastMeeting (decode g) i ≡ meetingBelow (decode g) i (j - 1)
-  search-on j b l q h p =
+  pub search_on : (j : ℕ) (b : Bool) → i + 1 < j → b ≡ contains_any (class_at (decode g) i) (class_at (decode g) (j - 1)) → b ≡ false → last_meeting (decode g) i ≡ meeting_below (decode g) i j → last_meeting (decode g) i ≡ meeting_below (decode g) i (j - 1)
+  search_on j b l q h p =
       let s : j ≡ suc (j - 1) = omega arith in
-      p ∙ ap (λ (n : ℕ). meetingBelow (decode g) i n) s ∙ meeting-on (decode g) i (j - 1) (sym q ∙ h)
+      p ∙ ap (λ (n : ℕ). meeting_below (decode g) i n) s ∙ meeting_on (decode g) i (j - 1) (sym q ∙ h)
 
   -- the end
-  pub search-ends : (j : ℕ) → j ≤ i + 1 → lastMeeting (decode g) i ≡ meetingBelow (decode g) i j → Nowhere ≡ place_of (lastMeeting (decode g) i)
-  search-ends j l p = ap place_of (sym (p ∙ meeting-ends (decode g) i j l))
+  pub search_ends : (j : ℕ) → j ≤ i + 1 → last_meeting (decode g) i ≡ meeting_below (decode g) i j → Nowhere ≡ place_of (last_meeting (decode g) i)
+  search_ends j l p = ap place_of (sym (p ∙ meeting_ends (decode g) i j l))

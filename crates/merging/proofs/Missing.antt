@@ -8,22 +8,22 @@ use native.Mathlib.Omega.{arith}
 use lib.ListN.{length, get_or, take, set}
 use lib.Seq.{take-suc, take_all, length-take-le}
 use Rattle.laws.specs.Tests.{if◌then◌else◌}
-use Rattle.laws.proofs.Table.{getD-table}
-use Rattle.arena.specs.Node.{Node, nodeAt}
-use Rattle.classes.specs.Class.{Constant, noConstant, Class, taken, carried, single, merged}
-use Rattle.classes.specs.Group.{among, class_at, total, removed, length_removed, mergedAt, constantAt}
+use Rattle.laws.proofs.Table.{get_or-table}
+use Rattle.arena.specs.Node.{Node, node_at}
+use Rattle.classes.specs.Class.{Constant, no_constant, Class, taken, carried, single, merged}
+use Rattle.classes.specs.Group.{among, class_at, total, removed, length_removed, merged_at, constant_at}
 use Rattle.classes.specs.Good.{flat}
-use Rattle.classes.specs.Layout.{flavourOf, value_of, constantFrom, padded, encode, sum_to, decode}
+use Rattle.classes.specs.Layout.{flavour_of, value_of, constant_from, padded, encode, sum_to, decode}
 use Rattle.classes.specs.Inner.{Coded, Room, mark_of}
 use Rattle.classes.specs.declared.Group.{Group}
 use Rattle.classes.specs.declared.Mark.{Mark}
 use Rattle.classes.proofs.Marks.{mark-constant}
-use Rattle.classes.proofs.Codec.{snoc-padded, size-encode, built-count, built-used, built-limit, built-classes, built-coded, length-decode, used-is, size_is, class-inside, members-part}
+use Rattle.classes.proofs.Codec.{snoc_padded, size-encode, built-count, built-used, built-limit, built-classes, built-coded, length-decode, used-is, size_is, class-inside, members-part}
 use Rattle.classes.proofs.Places.{total-removed}
 use Rattle.classes.proofs.OneClass.{alone, one-coded, one-count, one_size, one-is}
 use Rattle.merging.specs.Extending.{without, missing}
 use Rattle.merging.specs.Merging.{bridged}
-use Rattle.merging.specs.Inner.{missingSome}
+use Rattle.merging.specs.Inner.{missing_some}
 
 -- there are no more than were there
 pub without-length : (ms es : List ℕ) → length (without ms es) ≤ length es
@@ -67,13 +67,13 @@ missing-length c d = without-length c.members d.members
 
 -- what the first k members bring
 module _ (k : ℕ) (c d : Class) where
-  some-length : length (missingSome k c d).members ≤ length (take k d.members)
-  unfolding missingSome
+  some-length : length (missing_some k c d).members ≤ length (take k d.members)
+  unfolding missing_some
   some-length = without-length c.members (take k d.members)
 
   -- the next is there already
-  some-held : k < length d.members → among (get_or d.members k 0) c.members ≡ true → missingSome k c d ≡ missingSome (k + 1) c d
-  unfolding missingSome
+  some-held : k < length d.members → among (get_or d.members k 0) c.members ≡ true → missing_some k c d ≡ missing_some (k + 1) c d
+  unfolding missing_some
   some-held l q = λ i. record { members = same i; constant = d.constant }
     where
       same : without c.members (take k d.members) ≡ without c.members (take (k + 1) d.members)
@@ -81,16 +81,16 @@ module _ (k : ℕ) (c d : Class) where
 
   -- the next is missing
   some-new : k < length d.members → among (get_or d.members k 0) c.members ≡ false
-      → merged (missingSome k c d) (alone (get_or d.members k 0) noConstant) ≡ missingSome (k + 1) c d
-  unfolding missingSome merged taken
+      → merged (missing_some k c d) (alone (get_or d.members k 0) no_constant) ≡ missing_some (k + 1) c d
+  unfolding missing_some merged taken
   some-new l q = λ i. record { members = same i; constant = d.constant }
     where
       same : without c.members (take k d.members) ++ (get_or d.members k 0 ∷ []) ≡ without c.members (take (k + 1) d.members)
       same = sym (without-next c.members d.members k l ∙ rw (without-new c.members (get_or d.members k 0) q))
 
   -- all of them
-  some-all : length d.members ≤ k → missingSome k c d ≡ missing c d
-  unfolding missingSome missing
+  some-all : length d.members ≤ k → missing_some k c d ≡ missing c d
+  unfolding missing_some missing
   some-all l = rw (take_all k d.members l)
 
 -- the stores into the empty group: a class with a constant and no member
@@ -102,8 +102,8 @@ empty-built g m k p q =
     let l : g.limit ≡ 256 = ap (λ (h : Group). h.limit) p in
     let u : g.used ≡ 0 = ap (λ (h : Group). h.used) p in
     let s : g.sizes ≡ padded 64 (0 ∷ []) = ap (λ (h : Group). h.sizes) p in
-    let f : set g.flavours 0 m.flavour ≡ padded 64 (flavourOf k ∷ []) = ap (λ (h : Group). set h.flavours 0 m.flavour) p ∙ ap (λ (n : Mark). set (padded 64 []) 0 n.flavour) q ∙ snoc-padded 64 [] (flavourOf k) (omega arith) in
-    let w : set g.values 0 m.value ≡ padded 64 (value_of k ∷ []) = ap (λ (h : Group). set h.values 0 m.value) p ∙ ap (λ (n : Mark). set (padded 64 []) 0 n.value) q ∙ snoc-padded 64 [] (value_of k) (omega arith) in
+    let f : set g.flavours 0 m.flavour ≡ padded 64 (flavour_of k ∷ []) = ap (λ (h : Group). set h.flavours 0 m.flavour) p ∙ ap (λ (n : Mark). set (padded 64 []) 0 n.flavour) q ∙ snoc_padded 64 [] (flavour_of k) (omega arith) in
+    let w : set g.values 0 m.value ≡ padded 64 (value_of k ∷ []) = ap (λ (h : Group). set h.values 0 m.value) p ∙ ap (λ (n : Mark). set (padded 64 []) 0 n.value) q ∙ snoc_padded 64 [] (value_of k) (omega arith) in
     let x : g.members ≡ padded 256 [] = ap (λ (h : Group). h.members) p in
     (λ i. record { limit = l i; count = 1; used = u i; sizes = s i; flavours = f i; values = w i; members = x i })
 
@@ -111,10 +111,10 @@ empty-built g m k p q =
 module _ (out : Group) (v : Coded out) (some : 0 < out.count) (room : out.used < 256) (one : Group) (e : ℕ) (c : Constant) (p : one ≡ encode 256 (alone e c ∷ [])) where
   pub member-asks : Room out one 0 × (0 < out.count)
   member-asks =
-      (record { out-coded = v; src-coded = one-coded one e c p; there = one-count one e c p; members = omega (arith, one_size one e c p) }, some)
+      (record { out-coded = v; src_coded = one-coded one e c p; there = one-count one e c p; members = omega (arith, one_size one e c p) }, some)
 
-  pub member_is : (r : Group) → r ≡ encode out.limit (mergedAt (decode out) (out.count - 1) (class_at (decode one) 0)) → r ≡ encode out.limit (mergedAt (decode out) (out.count - 1) (alone e c))
-  member_is r q = q ∙ ap (λ (d : Class). encode out.limit (mergedAt (decode out) (out.count - 1) d)) (one-is one e c p)
+  pub member_is : (r : Group) → r ≡ encode out.limit (merged_at (decode out) (out.count - 1) (class_at (decode one) 0)) → r ≡ encode out.limit (merged_at (decode out) (out.count - 1) (alone e c))
+  member_is r q = q ∙ ap (λ (d : Class). encode out.limit (merged_at (decode out) (out.count - 1) d)) (one-is one e c p)
 
 -- a group of one class
 module _ (one : Group) (c : Class) (p : one ≡ encode 256 (c ∷ [])) where
@@ -136,17 +136,17 @@ module _ (one : Group) (c : Class) (p : one ≡ encode 256 (c ∷ [])) where
   only-is = ap (λ (cs : List Class). class_at cs 0) (built-classes 256 (c ∷ []) one p)
 
   -- a class merged into it
-  only-merged : (r : Group) (d : Class) → r ≡ encode one.limit (mergedAt (decode one) (one.count - 1) d) → r ≡ encode 256 (merged c d ∷ [])
-  unfolding mergedAt
+  only-merged : (r : Group) (d : Class) → r ≡ encode one.limit (merged_at (decode one) (one.count - 1) d) → r ≡ encode 256 (merged c d ∷ [])
+  unfolding merged_at
   only-merged r d q =
       let z : one.count - 1 ≡ 0 = omega (arith, only-count) in
       q
-      ∙ ap (λ (l : ℕ). encode l (mergedAt (decode one) (one.count - 1) d)) (built-limit 256 (c ∷ []) one p)
-      ∙ ap (λ (n : ℕ). encode 256 (mergedAt (decode one) n d)) z
-      ∙ ap (λ (cs : List Class). encode 256 (mergedAt cs 0 d)) (built-classes 256 (c ∷ []) one p)
+      ∙ ap (λ (l : ℕ). encode l (merged_at (decode one) (one.count - 1) d)) (built-limit 256 (c ∷ []) one p)
+      ∙ ap (λ (n : ℕ). encode 256 (merged_at (decode one) n d)) z
+      ∙ ap (λ (cs : List Class). encode 256 (merged_at cs 0 d)) (built-classes 256 (c ∷ []) one p)
 
 -- two classes of a group, what the first k members of the second bring to the first, as a group of one class
-module _ (g : Group) (v : Coded g) (i j k : ℕ) (l : k < get_or g.sizes j 0) (out : Group) (p : out ≡ encode 256 (missingSome k (class_at (decode g) i) (class_at (decode g) j) ∷ [])) where
+module _ (g : Group) (v : Coded g) (i j k : ℕ) (l : k < get_or g.sizes j 0) (out : Group) (p : out ≡ encode 256 (missing_some k (class_at (decode g) i) (class_at (decode g) j) ∷ [])) where
   abbrev first : Class
   first = class_at (decode g) i
 
@@ -156,7 +156,7 @@ module _ (g : Group) (v : Coded g) (i j k : ℕ) (l : k < get_or g.sizes j 0) (o
   inside : k < length second.members
   inside = omega (arith, size_is g v j)
 
-  few : length (missingSome k first second).members ≤ k
+  few : length (missing_some k first second).members ≤ k
   few = omega (arith, some-length k first second, length-take-le k second.members (omega (arith, inside)))
 
   small : k < 256
@@ -170,7 +170,7 @@ module _ (g : Group) (v : Coded g) (i j k : ℕ) (l : k < get_or g.sizes j 0) (o
   member-at : (start : ℕ) → start ≡ sum_to g.sizes j → get_or g.members (start + k) 0 ≡ get_or second.members k 0
   member-at start q =
       rw q
-      (sym (getD-table (λ (n : ℕ). get_or g.members (sum_to g.sizes j + n) 0) (get_or g.sizes j 0) k 0 l)
+      (sym (get_or-table (λ (n : ℕ). get_or g.members (sum_to g.sizes j + n) 0) (get_or g.sizes j 0) k 0 l)
       ∙ ap (λ (xs : List ℕ). get_or xs k 0) (members-part g v j))
 
   module _ (start : ℕ) (q : start ≡ sum_to g.sizes j) (b : Bool) (t : b ≡ among (get_or g.members (start + k) 0) first.members) where
@@ -178,29 +178,29 @@ module _ (g : Group) (v : Coded g) (i j k : ℕ) (l : k < get_or g.sizes j 0) (o
     told = sym (t ∙ ap (λ (e : ℕ). among e first.members) (member-at start q))
 
     -- the first has it
-    pub next-held : b ≡ true → out ≡ encode 256 (missingSome (k + 1) first second ∷ [])
+    pub next-held : b ≡ true → out ≡ encode 256 (missing_some (k + 1) first second ∷ [])
     next-held h = p ∙ ap (λ (c : Class). encode 256 (c ∷ [])) (some-held k first second inside (told ∙ h))
 
     -- the first doesn't have it
-    pub next-new : b ≡ false → (r : Group) → r ≡ encode out.limit (mergedAt (decode out) (out.count - 1) (alone (get_or g.members (start + k) 0) noConstant))
-        → r ≡ encode 256 (missingSome (k + 1) first second ∷ [])
+    pub next-new : b ≡ false → (r : Group) → r ≡ encode out.limit (merged_at (decode out) (out.count - 1) (alone (get_or g.members (start + k) 0) no_constant))
+        → r ≡ encode 256 (missing_some (k + 1) first second ∷ [])
     next-new h r s =
-        only-merged out (missingSome k first second) p r (alone (get_or second.members k 0) noConstant)
-        (s ∙ ap (λ (e : ℕ). encode out.limit (mergedAt (decode out) (out.count - 1) (alone e noConstant))) (member-at start q))
+        only-merged out (missing_some k first second) p r (alone (get_or second.members k 0) no_constant)
+        (s ∙ ap (λ (e : ℕ). encode out.limit (merged_at (decode out) (out.count - 1) (alone e no_constant))) (member-at start q))
         ∙ ap (λ (c : Class). encode 256 (c ∷ [])) (some-new k first second inside (told ∙ h))
 
   -- and there is room for it
   pub next-room : Coded out × ((0 < out.count) × (out.used < 256))
   next-room =
-      let c = missingSome k first second in
+      let c = missing_some k first second in
       (only-coded out c p (omega (arith, few, small)), (omega (arith, only-count out c p), omega (arith, only-used out c p, few, small)))
 
 -- the class before the first member, and after the last
-pub missing-begins : (c d : Class) (m : Mark) (out : Group) → m ≡ mark_of d.constant → out ≡ encode 256 (record { members = []; constant = constantFrom m.flavour m.value } ∷ []) → out ≡ encode 256 (missingSome 0 c d ∷ [])
-unfolding missingSome without
+pub missing-begins : (c d : Class) (m : Mark) (out : Group) → m ≡ mark_of d.constant → out ≡ encode 256 (record { members = []; constant = constant_from m.flavour m.value } ∷ []) → out ≡ encode 256 (missing_some 0 c d ∷ [])
+unfolding missing_some without
 missing-begins c d m out p q = q ∙ ap (λ (k : Constant). encode 256 (record { members = []; constant = k } ∷ [])) (mark-constant m d.constant p)
 
-pub missing-ends : (g : Group) → Coded g → (i j k : ℕ) (out : Group) → get_or g.sizes j 0 ≤ k → out ≡ encode 256 (missingSome k (class_at (decode g) i) (class_at (decode g) j) ∷ [])
+pub missing-ends : (g : Group) → Coded g → (i j k : ℕ) (out : Group) → get_or g.sizes j 0 ≤ k → out ≡ encode 256 (missing_some k (class_at (decode g) i) (class_at (decode g) j) ∷ [])
     → out ≡ encode 256 (missing (class_at (decode g) i) (class_at (decode g) j) ∷ [])
 missing-ends g v i j k out l p =
     p ∙ ap (λ (c : Class). encode 256 (c ∷ [])) (some-all k (class_at (decode g) i) (class_at (decode g) j) (omega (arith, size_is g v j)))
@@ -231,36 +231,36 @@ module _ (g : Group) (v : Coded g) (i j : ℕ) (a : i < j) (b : j < g.count) (mo
     ),
   )
 
-  pub extend-is : (r : Group) → r ≡ encode rest.limit (mergedAt (decode rest) i (class_at (decode more) 0)) → r ≡ encode g.limit (bridged (decode g) i j)
+  pub extend-is : (r : Group) → r ≡ encode rest.limit (merged_at (decode rest) i (class_at (decode more) 0)) → r ≡ encode g.limit (bridged (decode g) i j)
   unfolding bridged
   extend-is r q =
       q
-      ∙ ap (λ (l : ℕ). encode l (mergedAt (decode rest) i (class_at (decode more) 0))) (built-limit g.limit left rest p)
-      ∙ ap (λ (cs : List Class). encode g.limit (mergedAt cs i (class_at (decode more) 0))) (built-classes g.limit left rest p)
-      ∙ ap (λ (c : Class). encode g.limit (mergedAt left i c)) (only-is more brought m)
+      ∙ ap (λ (l : ℕ). encode l (merged_at (decode rest) i (class_at (decode more) 0))) (built-limit g.limit left rest p)
+      ∙ ap (λ (cs : List Class). encode g.limit (merged_at cs i (class_at (decode more) 0))) (built-classes g.limit left rest p)
+      ∙ ap (λ (c : Class). encode g.limit (merged_at left i c)) (only-is more brought m)
 
 -- an expression pushed to a class: its constant alone where the class has it, else all of it
 module _ (ns : List Node) (c : Class) (e : ℕ) where
-  pushed-held : among e c.members ≡ true → merged c (missing c (single ns e)) ≡ record { members = c.members; constant = taken c.constant (carried (nodeAt ns e)) }
+  pushed-held : among e c.members ≡ true → merged c (missing c (single ns e)) ≡ record { members = c.members; constant = taken c.constant (carried (node_at ns e)) }
   unfolding merged missing single
-  pushed-held q = λ i. record { members = same i; constant = taken c.constant (carried (nodeAt ns e)) }
+  pushed-held q = λ i. record { members = same i; constant = taken c.constant (carried (node_at ns e)) }
     where
       same : c.members ++ without c.members (e ∷ []) ≡ c.members
       same = rw (without-held c.members e q) (append-nil c.members)
 
   pushed-new : among e c.members ≡ false → missing c (single ns e) ≡ single ns e
   unfolding missing single
-  pushed-new q = λ i. record { members = without-new c.members e q i; constant = carried (nodeAt ns e) }
+  pushed-new q = λ i. record { members = without-new c.members e q i; constant = carried (node_at ns e) }
 
 module _ (ns : List Node) (out : Group) (at e : ℕ) (b : Bool) (t : b ≡ among e (class_at (decode out) at).members) where
-  pub push-held : b ≡ true → (m : Mark) (r : Group) → m ≡ mark_of (carried (nodeAt ns e)) → r ≡ encode out.limit (constantAt (decode out) at (constantFrom m.flavour m.value))
-      → r ≡ encode out.limit (mergedAt (decode out) at (missing (class_at (decode out) at) (single ns e)))
-  unfolding constantAt mergedAt
+  pub push-held : b ≡ true → (m : Mark) (r : Group) → m ≡ mark_of (carried (node_at ns e)) → r ≡ encode out.limit (constant_at (decode out) at (constant_from m.flavour m.value))
+      → r ≡ encode out.limit (merged_at (decode out) at (missing (class_at (decode out) at) (single ns e)))
+  unfolding constant_at merged_at
   push-held h m r p q =
       q
-      ∙ ap (λ (k : Constant). encode out.limit (constantAt (decode out) at k)) (mark-constant m (carried (nodeAt ns e)) p)
+      ∙ ap (λ (k : Constant). encode out.limit (constant_at (decode out) at k)) (mark-constant m (carried (node_at ns e)) p)
       ∙ ap (λ (c : Class). encode out.limit (set (decode out) at c)) (sym (pushed-held ns (class_at (decode out) at) e (sym t ∙ h)))
 
-  pub push-new : b ≡ false → (r : Group) → r ≡ encode out.limit (mergedAt (decode out) at (single ns e))
-      → r ≡ encode out.limit (mergedAt (decode out) at (missing (class_at (decode out) at) (single ns e)))
-  push-new h r q = q ∙ ap (λ (c : Class). encode out.limit (mergedAt (decode out) at c)) (sym (pushed-new ns (class_at (decode out) at) e (sym t ∙ h)))
+  pub push-new : b ≡ false → (r : Group) → r ≡ encode out.limit (merged_at (decode out) at (single ns e))
+      → r ≡ encode out.limit (merged_at (decode out) at (missing (class_at (decode out) at) (single ns e)))
+  push-new h r q = q ∙ ap (λ (c : Class). encode out.limit (merged_at (decode out) at c)) (sym (pushed-new ns (class_at (decode out) at) e (sym t ∙ h)))

@@ -11,13 +11,13 @@ use borrow.Author.Tests.{ltb-true, lt-ltb}
 use lib.Dec.{eqb, ltb}
 use lib.ListN.{length}
 use Rattle.laws.specs.Tests.{if◌then◌else◌}
-use Rattle.laws.proofs.Booleans.{true-not-false}
+use Rattle.laws.proofs.Booleans.{true_not_false}
 use Rattle.classes.specs.Class.{Class, merged}
-use Rattle.classes.specs.Group.{among, class_at, removed, length_removed, mergedAt}
+use Rattle.classes.specs.Group.{among, class_at, removed, length_removed, merged_at}
 use Rattle.classes.specs.Good.{flat}
-use Rattle.classes.proofs.Places.{sum, count, count-append, count-other, among-once, once-among, among-never, among-left, among-right, among-either, among_one, one-among, counts, All, flat-class, count-flat, removed-gap, removed-other, length-mergedAt, mergedAt-same, mergedAt-other, all-removed}
-use Rattle.merging.specs.Extending.{without, missing, extended, anyAmong, containsAny, isTrivial}
-use Rattle.merging.specs.Merging.{droppedAt, dropBelow, keptClasses, meetingBelow, lastMeeting, bridged, length-bridged, bridgeRest, bridge-end, bridge-next, bridge-meets, bridgeClasses, fromClasses}
+use Rattle.classes.proofs.Places.{sum, count, count-append, count-other, among-once, once-among, among-never, among-left, among-right, among-either, among_one, one-among, counts, All, flat-class, count-flat, removed-gap, removed-other, length-merged_at, merged_at-same, merged_at-other, all-removed}
+use Rattle.merging.specs.Extending.{without, missing, extended, any_among, contains_any, is_trivial}
+use Rattle.merging.specs.Merging.{dropped_at, drop_below, kept_classes, meeting_below, last_meeting, bridged, length-bridged, bridge_rest, bridge_end, bridge_next, bridge_meets, bridge_classes, from_classes}
 
 -- ---- what a class brings to another
 
@@ -40,7 +40,7 @@ module _ (e : ℕ) (ms : List ℕ) where
     where
       go : (b : Bool) → among x ms ≡ b → count e (without ms es) ≡ 0 → count e (if b then without ms es else x ∷ without ms es) ≡ 0
       go true q r = r
-      go false q r = omega (arith, count-other e x (λ t. true-not-false h (subst (λ (k : ℕ). among k ms ≡ false) t q)))
+      go false q r = omega (arith, count-other e x (λ t. true_not_false h (subst (λ (k : ℕ). among k ms ≡ false) t q)))
 
   -- and as often as before where it doesn't
   pub without-kept : (es : List ℕ) → among e ms ≡ false → count e (without ms es) ≡ count e es
@@ -49,7 +49,7 @@ module _ (e : ℕ) (ms : List ℕ) where
   without-kept (x ∷ es) h = go (among x ms) refl (without-kept es h)
     where
       go : (b : Bool) → among x ms ≡ b → count e (without ms es) ≡ count e es → count e (if b then without ms es else x ∷ without ms es) ≡ (if eqb x e then 1 else 0) + count e es
-      go true q r = omega (arith, count-other e x (λ t. true-not-false (subst (λ (k : ℕ). among k ms ≡ true) t q) h))
+      go true q r = omega (arith, count-other e x (λ t. true_not_false (subst (λ (k : ℕ). among k ms ≡ true) t q) h))
       go false q r = omega arith
 
   -- what is left over was there
@@ -107,98 +107,98 @@ module _ (c d : Class) (e : ℕ) where
 -- ---- classes that meet
 
 -- what two lists have in common
-pub any-common : (xs ms : List ℕ) → anyAmong xs ms ≡ true → (e : ℕ) × (among e xs ≡ true) × (among e ms ≡ true)
-unfolding anyAmong
-any-common [] ms h = absurd (true-not-false h refl)
+pub any-common : (xs ms : List ℕ) → any_among xs ms ≡ true → (e : ℕ) × (among e xs ≡ true) × (among e ms ≡ true)
+unfolding any_among
+any-common [] ms h = absurd (true_not_false h refl)
 any-common (x ∷ xs) ms h = go (among x ms) refl h (any-common xs ms)
   where
-    go : (b : Bool) → among x ms ≡ b → (b || anyAmong xs ms) ≡ true → (anyAmong xs ms ≡ true → (e : ℕ) × (among e xs ≡ true) × (among e ms ≡ true))
+    go : (b : Bool) → among x ms ≡ b → (b || any_among xs ms) ≡ true → (any_among xs ms ≡ true → (e : ℕ) × (among e xs ≡ true) × (among e ms ≡ true))
         → (e : ℕ) × (among e (x ∷ xs) ≡ true) × (among e ms ≡ true)
     go true q s r = (x, among-left x (x ∷ []) xs (one-among x), q)
     go false q s r = let p = r s in (p.0, among-right p.0 (x ∷ []) xs p.1, p.2)
 
 -- lists that have nothing in common
-pub any-apart : (xs ms : List ℕ) → anyAmong xs ms ≡ false → (e : ℕ) → among e xs ≡ true → among e ms ≡ true → ⊥
-unfolding anyAmong among
-any-apart [] ms h e a b = true-not-false a refl
+pub any-apart : (xs ms : List ℕ) → any_among xs ms ≡ false → (e : ℕ) → among e xs ≡ true → among e ms ≡ true → ⊥
+unfolding any_among among
+any-apart [] ms h e a b = true_not_false a refl
 any-apart (x ∷ xs) ms h e a b = go (among x ms) refl h (any-apart xs ms)
   where
-    go : (t : Bool) → among x ms ≡ t → (t || anyAmong xs ms) ≡ false → (anyAmong xs ms ≡ false → (e : ℕ) → among e xs ≡ true → among e ms ≡ true → ⊥) → ⊥
-    go true q s r = true-not-false refl s
+    go : (t : Bool) → among x ms ≡ t → (t || any_among xs ms) ≡ false → (any_among xs ms ≡ false → (e : ℕ) → among e xs ≡ true → among e ms ≡ true → ⊥) → ⊥
+    go true q s r = true_not_false refl s
     go false q s r = at (among-either e (x ∷ []) xs a)
       where
         at : (among e (x ∷ []) ≡ true) ⊎ (among e xs ≡ true) → ⊥
-        at (inl m) = true-not-false b (subst (λ (k : ℕ). among k ms ≡ false) (among_one e x m) q)
+        at (inl m) = true_not_false b (subst (λ (k : ℕ). among k ms ≡ false) (among_one e x m) q)
         at (inr m) = r s e m b
 
 -- class j stands after class i and has an expression in common with it
 pub record Meets (cs : List Class) (i j : ℕ) : Type 0 where
   pub after : i < j
   pub below : j < length cs
-  pub common : containsAny (class_at cs i) (class_at cs j) ≡ true
+  pub common : contains_any (class_at cs i) (class_at cs j) ≡ true
 
 module _ (cs : List Class) (i : ℕ) where
   -- one that was found among the first n
-  meeting-some : (n j : ℕ) → meetingBelow cs i n ≡ some j → (i < j) × (j < n) × (containsAny (class_at cs i) (class_at cs j) ≡ true)
-  unfolding meetingBelow
-  meeting-some zero j h = absurd (let z : ◌≡◌ {A = ℕ} 0 1 = cc in omega arith)
-  meeting-some (suc k) j h = go (ltb i k) (containsAny (class_at cs i) (class_at cs k)) refl refl h (meeting-some k j)
+  meeting_some : (n j : ℕ) → meeting_below cs i n ≡ some j → (i < j) × (j < n) × (contains_any (class_at cs i) (class_at cs j) ≡ true)
+  unfolding meeting_below
+  meeting_some zero j h = absurd (let z : ◌≡◌ {A = ℕ} 0 1 = cc in omega arith)
+  meeting_some (suc k) j h = go (ltb i k) (contains_any (class_at cs i) (class_at cs k)) refl refl h (meeting_some k j)
     where
-      go : (b c : Bool) → ltb i k ≡ b → containsAny (class_at cs i) (class_at cs k) ≡ c → (if b && c then some k else meetingBelow cs i k) ≡ some j
-          → (meetingBelow cs i k ≡ some j → (i < j) × (j < k) × (containsAny (class_at cs i) (class_at cs j) ≡ true)) → (i < j) × (j < suc k) × (containsAny (class_at cs i) (class_at cs j) ≡ true)
+      go : (b c : Bool) → ltb i k ≡ b → contains_any (class_at cs i) (class_at cs k) ≡ c → (if b && c then some k else meeting_below cs i k) ≡ some j
+          → (meeting_below cs i k ≡ some j → (i < j) × (j < k) × (contains_any (class_at cs i) (class_at cs j) ≡ true)) → (i < j) × (j < suc k) × (contains_any (class_at cs i) (class_at cs j) ≡ true)
       go true true p q s r =
           let t : k ≡ j = cc in
-          (omega (arith, ltb-true i k p), omega arith, subst (λ (x : ℕ). containsAny (class_at cs i) (class_at cs x) ≡ true) t q)
+          (omega (arith, ltb-true i k p), omega arith, subst (λ (x : ℕ). contains_any (class_at cs i) (class_at cs x) ≡ true) t q)
       go true false p q s r = let u = r s in (u.0, omega (arith, u.1), u.2)
       go false c p q s r = let u = r s in (u.0, omega (arith, u.1), u.2)
 
   -- none was found among the first n
-  meeting-none : (n : ℕ) → meetingBelow cs i n ≡ none → (j : ℕ) → i < j → j < n → containsAny (class_at cs i) (class_at cs j) ≡ false
-  unfolding meetingBelow
-  meeting-none zero h j a b = absurd (omega arith)
-  meeting-none (suc k) h j a b = go (ltb i k) (containsAny (class_at cs i) (class_at cs k)) refl refl h (meeting-none k) (ℕ_discrete j k)
+  meeting_none : (n : ℕ) → meeting_below cs i n ≡ none → (j : ℕ) → i < j → j < n → contains_any (class_at cs i) (class_at cs j) ≡ false
+  unfolding meeting_below
+  meeting_none zero h j a b = absurd (omega arith)
+  meeting_none (suc k) h j a b = go (ltb i k) (contains_any (class_at cs i) (class_at cs k)) refl refl h (meeting_none k) (ℕ_discrete j k)
     where
-      go : (b c : Bool) → ltb i k ≡ b → containsAny (class_at cs i) (class_at cs k) ≡ c → (if b && c then some k else meetingBelow cs i k) ≡ none
-          → (meetingBelow cs i k ≡ none → (j : ℕ) → i < j → j < k → containsAny (class_at cs i) (class_at cs j) ≡ false) → Dec (j ≡ k) → containsAny (class_at cs i) (class_at cs j) ≡ false
+      go : (b c : Bool) → ltb i k ≡ b → contains_any (class_at cs i) (class_at cs k) ≡ c → (if b && c then some k else meeting_below cs i k) ≡ none
+          → (meeting_below cs i k ≡ none → (j : ℕ) → i < j → j < k → contains_any (class_at cs i) (class_at cs j) ≡ false) → Dec (j ≡ k) → contains_any (class_at cs i) (class_at cs j) ≡ false
       go true true p q s r d = absurd (let z : ◌≡◌ {A = ℕ} 0 1 = cc in omega arith)
-      go true false p q s r (yes t) = subst (λ (x : ℕ). containsAny (class_at cs i) (class_at cs x) ≡ false) (sym t) q
+      go true false p q s r (yes t) = subst (λ (x : ℕ). contains_any (class_at cs i) (class_at cs x) ≡ false) (sym t) q
       go true false p q s r (no t) = r s j a (omega arith)
-      go false c p q s r (yes t) = absurd (true-not-false (lt-ltb i k (omega arith)) p)
+      go false c p q s r (yes t) = absurd (true_not_false (lt-ltb i k (omega arith)) p)
       go false c p q s r (no t) = r s j a (omega arith)
 
   -- the last class after i that meets it
-  pub last_some : (j : ℕ) → lastMeeting cs i ≡ some j → Meets cs i j
-  unfolding lastMeeting
-  last_some j h = let m = meeting-some (length cs) j h in record { after = m.0; below = m.1; common = m.2 }
+  pub last_some : (j : ℕ) → last_meeting cs i ≡ some j → Meets cs i j
+  unfolding last_meeting
+  last_some j h = let m = meeting_some (length cs) j h in record { after = m.0; below = m.1; common = m.2 }
 
   -- none after i meets it
-  pub last_none : lastMeeting cs i ≡ none → (j : ℕ) → i < j → j < length cs → containsAny (class_at cs i) (class_at cs j) ≡ false
-  unfolding lastMeeting
-  last_none h j a b = meeting-none (length cs) h j a b
+  pub last_none : last_meeting cs i ≡ none → (j : ℕ) → i < j → j < length cs → contains_any (class_at cs i) (class_at cs j) ≡ false
+  unfolding last_meeting
+  last_none h j a b = meeting_none (length cs) h j a b
 
 -- ---- the steps of bridging
 
 -- what the two steps keep, bridging keeps, and it comes to the end
 module _ (P : ℕ → List Class → Type 0)
-    (next : (i : ℕ) (cs : List Class) → i < length cs → lastMeeting cs i ≡ none → P i cs → P (i + 1) cs)
+    (next : (i : ℕ) (cs : List Class) → i < length cs → last_meeting cs i ≡ none → P i cs → P (i + 1) cs)
     (meets : (i j : ℕ) (cs : List Class) → i < length cs → Meets cs i j → P i cs → P i (bridged cs i j)) where
   -- from a place on, n classes before the end
-  rest-keeps : (n i : ℕ) (cs : List Class) → length cs - i ≡ n → P i cs → (k : ℕ) × (length (bridgeRest i cs) ≤ k) × P k (bridgeRest i cs)
-  rest-keeps zero i cs e p = rw (bridge-end i cs (omega arith)) (i, omega arith, p)
-  rest-keeps (suc n) i cs e p = go (lastMeeting cs i) refl (rest-keeps n)
+  rest-keeps : (n i : ℕ) (cs : List Class) → length cs - i ≡ n → P i cs → (k : ℕ) × (length (bridge_rest i cs) ≤ k) × P k (bridge_rest i cs)
+  rest-keeps zero i cs e p = rw (bridge_end i cs (omega arith)) (i, omega arith, p)
+  rest-keeps (suc n) i cs e p = go (last_meeting cs i) refl (rest-keeps n)
     where
       l : i < length cs
       l = omega arith
 
-      go : (o : Option ℕ) → lastMeeting cs i ≡ o → ((i : ℕ) (cs : List Class) → length cs - i ≡ n → P i cs → (k : ℕ) × (length (bridgeRest i cs) ≤ k) × P k (bridgeRest i cs))
-          → (k : ℕ) × (length (bridgeRest i cs) ≤ k) × P k (bridgeRest i cs)
-      go none q r = rw (bridge-next i cs l q) (r (i + 1) cs (omega arith) (next i cs l q p))
-      go (some j) q r = rw (bridge-meets i cs j l q) (r i (bridged cs i j) (omega (arith, length-bridged cs i j)) (meets i j cs l (last_some cs i j q) p))
+      go : (o : Option ℕ) → last_meeting cs i ≡ o → ((i : ℕ) (cs : List Class) → length cs - i ≡ n → P i cs → (k : ℕ) × (length (bridge_rest i cs) ≤ k) × P k (bridge_rest i cs))
+          → (k : ℕ) × (length (bridge_rest i cs) ≤ k) × P k (bridge_rest i cs)
+      go none q r = rw (bridge_next i cs l q) (r (i + 1) cs (omega arith) (next i cs l q p))
+      go (some j) q r = rw (bridge_meets i cs j l q) (r i (bridged cs i j) (omega (arith, length-bridged cs i j)) (meets i j cs l (last_some cs i j q) p))
 
   -- from the first place on
-  pub bridge-keeps : (cs : List Class) → P 0 cs → (k : ℕ) × (length (bridgeClasses cs) ≤ k) × P k (bridgeClasses cs)
-  unfolding bridgeClasses
-  bridge-keeps cs p = rest-keeps (length cs) 0 cs (omega arith) p
+  pub bridge_keeps : (cs : List Class) → P 0 cs → (k : ℕ) × (length (bridge_classes cs) ≤ k) × P k (bridge_classes cs)
+  unfolding bridge_classes
+  bridge_keeps cs p = rest-keeps (length cs) 0 cs (omega arith) p
 
 module _ (cs : List Class) (i j : ℕ) (m : Meets cs i j) where
   -- class i is there also without class j
@@ -212,13 +212,13 @@ module _ (cs : List Class) (i j : ℕ) (m : Meets cs i j) where
   -- class i is extended by class j
   pub bridged-at : class_at (bridged cs i j) i ≡ extended (class_at cs i) (class_at cs j)
   unfolding bridged extended
-  bridged-at = mergedAt-same (removed cs j) i (missing (class_at cs i) (class_at cs j)) meets-low ∙ ap (λ (c : Class). merged c (missing (class_at cs i) (class_at cs j))) same
+  bridged-at = merged_at-same (removed cs j) i (missing (class_at cs i) (class_at cs j)) meets-low ∙ ap (λ (c : Class). merged c (missing (class_at cs i) (class_at cs j))) same
 
   -- a class before i stays
   pub bridged-before : (a : ℕ) → a < i → class_at (bridged cs i j) a ≡ class_at cs a
   unfolding bridged
   bridged-before a l =
-      mergedAt-other (removed cs j) i a (missing (class_at cs i) (class_at cs j)) (λ t. omega arith)
+      merged_at-other (removed cs j) i a (missing (class_at cs i) (class_at cs j)) (λ t. omega arith)
       ∙ removed-other cs j a (omega (arith, m.after, m.below)) (λ t. omega (arith, m.after))
 
   -- another class comes from a place that is not before its own
@@ -227,12 +227,12 @@ module _ (cs : List Class) (i j : ℕ) (m : Meets cs i j) where
   bridged-from p l n = go (ℕ_discrete p j)
     where
       few : p < length cs - 1
-      few = omega (arith, length-mergedAt (removed cs j) i (missing (class_at cs i) (class_at cs j)), length_removed cs j)
+      few = omega (arith, length-merged_at (removed cs j) i (missing (class_at cs i) (class_at cs j)), length_removed cs j)
 
-      other : class_at (mergedAt (removed cs j) i (missing (class_at cs i) (class_at cs j))) p ≡ class_at (removed cs j) p
-      other = mergedAt-other (removed cs j) i p (missing (class_at cs i) (class_at cs j)) n
+      other : class_at (merged_at (removed cs j) i (missing (class_at cs i) (class_at cs j))) p ≡ class_at (removed cs j) p
+      other = merged_at-other (removed cs j) i p (missing (class_at cs i) (class_at cs j)) n
 
-      go : Dec (p ≡ j) → (q : ℕ) × (p ≤ q) × (q < length cs) × (class_at (mergedAt (removed cs j) i (missing (class_at cs i) (class_at cs j))) p ≡ class_at cs q)
+      go : Dec (p ≡ j) → (q : ℕ) × (p ≤ q) × (q < length cs) × (class_at (merged_at (removed cs j) i (missing (class_at cs i) (class_at cs j))) p ≡ class_at cs q)
       go (yes e) = (length cs - 1, omega (arith, few), omega (arith, few), other ∙ subst (λ (k : ℕ). class_at (removed cs j) k ≡ class_at cs (length cs - 1)) (sym e) (removed-gap cs j (omega (arith, few))))
       go (no e) = (p, omega arith, omega (arith, few), other ∙ removed-other cs j p few e)
 
@@ -241,16 +241,16 @@ module _ (cs : List Class) (i j : ℕ) (m : Meets cs i j) where
   unfolding bridged
   bridged-to q l ni nj = go (dec_lt q (length cs - 1))
     where
-      long : length (mergedAt (removed cs j) i (missing (class_at cs i) (class_at cs j))) ≡ length cs - 1
-      long = length-mergedAt (removed cs j) i (missing (class_at cs i) (class_at cs j)) ∙ length_removed cs j
+      long : length (merged_at (removed cs j) i (missing (class_at cs i) (class_at cs j))) ≡ length cs - 1
+      long = length-merged_at (removed cs j) i (missing (class_at cs i) (class_at cs j)) ∙ length_removed cs j
 
-      go : Dec (q < length cs - 1) → (p : ℕ) × (p < length (mergedAt (removed cs j) i (missing (class_at cs i) (class_at cs j)))) × (class_at (mergedAt (removed cs j) i (missing (class_at cs i) (class_at cs j))) p ≡ class_at cs q)
-      go (yes k) = (q, omega (arith, long), mergedAt-other (removed cs j) i q (missing (class_at cs i) (class_at cs j)) ni ∙ removed-other cs j q k nj)
+      go : Dec (q < length cs - 1) → (p : ℕ) × (p < length (merged_at (removed cs j) i (missing (class_at cs i) (class_at cs j)))) × (class_at (merged_at (removed cs j) i (missing (class_at cs i) (class_at cs j))) p ≡ class_at cs q)
+      go (yes k) = (q, omega (arith, long), merged_at-other (removed cs j) i q (missing (class_at cs i) (class_at cs j)) ni ∙ removed-other cs j q k nj)
       go (no k) =
           let e : length cs - 1 ≡ q = omega arith in (
             j,
             omega (arith, long, m.below),
-            mergedAt-other (removed cs j) i j (missing (class_at cs i) (class_at cs j)) (λ t. omega (arith, m.after)) ∙ removed-gap cs j (omega (arith, m.below)) ∙ ap (λ (k : ℕ). class_at cs k) e,
+            merged_at-other (removed cs j) i j (missing (class_at cs i) (class_at cs j)) (λ t. omega (arith, m.after)) ∙ removed-gap cs j (omega (arith, m.below)) ∙ ap (λ (k : ℕ). class_at cs k) e,
           )
 
   -- what holds for every class and for the extended one holds for every class afterwards
@@ -263,76 +263,76 @@ module _ (cs : List Class) (i j : ℕ) (m : Meets cs i j) where
 
 -- a property of classes that a class keeps when another that it meets extends it
 abbrev pub Extending : (Class → Type 0) → Type 0
-Extending Q = (c d : Class) → containsAny c d ≡ true → Q c → Q d → Q (extended c d)
+Extending Q = (c d : Class) → contains_any c d ≡ true → Q c → Q d → Q (extended c d)
 
 -- bridging keeps such a property
-pub all-bridge : (Q : Class → Type 0) → Extending Q → (cs : List Class) → All Q cs → All Q (bridgeClasses cs)
-all-bridge Q x cs h =
-    (bridge-keeps (λ i ds. All Q ds) (λ i ds l q p. p)
+pub all_bridge : (Q : Class → Type 0) → Extending Q → (cs : List Class) → All Q cs → All Q (bridge_classes cs)
+all_bridge Q x cs h =
+    (bridge_keeps (λ i ds. All Q ds) (λ i ds l q p. p)
     (λ i j ds l m p. all-bridged ds i j m Q p (x (class_at ds i) (class_at ds j) m.common (p i l) (p j m.below))) cs h).2
 
 -- ---- the kept list
 
 -- a class that goes if it says nothing
-pub all-dropped : (Q : Class → Type 0) (cs : List Class) (i : ℕ) → All Q cs → All Q (droppedAt cs i)
-unfolding droppedAt
-all-dropped Q cs i h = go (isTrivial (class_at cs i))
+pub all-dropped : (Q : Class → Type 0) (cs : List Class) (i : ℕ) → All Q cs → All Q (dropped_at cs i)
+unfolding dropped_at
+all-dropped Q cs i h = go (is_trivial (class_at cs i))
   where
     go : (b : Bool) → All Q (if b then removed cs i else cs)
     go true = all-removed Q cs i h
     go false = h
 
 -- the classes before a place
-pub all-below : (Q : Class → Type 0) (i : ℕ) (cs : List Class) → All Q cs → All Q (dropBelow i cs)
-unfolding dropBelow
+pub all-below : (Q : Class → Type 0) (i : ℕ) (cs : List Class) → All Q cs → All Q (drop_below i cs)
+unfolding drop_below
 all-below Q zero cs h = h
-all-below Q (suc i) cs h = all-below Q i (droppedAt cs i) (all-dropped Q cs i h)
+all-below Q (suc i) cs h = all-below Q i (dropped_at cs i) (all-dropped Q cs i h)
 
 -- what holds for every class holds for every kept one
-pub all-kept : (Q : Class → Type 0) (cs : List Class) → All Q cs → All Q (keptClasses cs)
-unfolding keptClasses
+pub all-kept : (Q : Class → Type 0) (cs : List Class) → All Q cs → All Q (kept_classes cs)
+unfolding kept_classes
 all-kept Q cs h = all-below Q (length cs) cs h
 
 -- every class from a place on says something
 abbrev Saying : ℕ → List Class → Type 0
-Saying i cs = (k : ℕ) → i ≤ k → k < length cs → isTrivial (class_at cs k) ≡ false
+Saying i cs = (k : ℕ) → i ≤ k → k < length cs → is_trivial (class_at cs k) ≡ false
 
 -- a class that says nothing goes, and the last moves into its gap
-saying-dropped : (cs : List Class) (i : ℕ) → suc i ≤ length cs → Saying (suc i) cs → (i ≤ length (droppedAt cs i)) × Saying i (droppedAt cs i)
-unfolding droppedAt
-saying-dropped cs i l h = go (isTrivial (class_at cs i)) refl
+saying-dropped : (cs : List Class) (i : ℕ) → suc i ≤ length cs → Saying (suc i) cs → (i ≤ length (dropped_at cs i)) × Saying i (dropped_at cs i)
+unfolding dropped_at
+saying-dropped cs i l h = go (is_trivial (class_at cs i)) refl
   where
-    go : (b : Bool) → isTrivial (class_at cs i) ≡ b → (i ≤ length (if b then removed cs i else cs)) × Saying i (if b then removed cs i else cs)
+    go : (b : Bool) → is_trivial (class_at cs i) ≡ b → (i ≤ length (if b then removed cs i else cs)) × Saying i (if b then removed cs i else cs)
     go true q = (omega (arith, length_removed cs i), λ k a b. at k a (omega (arith, length_removed cs i)) (ℕ_discrete k i))
       where
-        at : (k : ℕ) → i ≤ k → k < length cs - 1 → Dec (k ≡ i) → isTrivial (class_at (removed cs i) k) ≡ false
+        at : (k : ℕ) → i ≤ k → k < length cs - 1 → Dec (k ≡ i) → is_trivial (class_at (removed cs i) k) ≡ false
         at k a b (yes e) =
-            subst (λ (x : ℕ). isTrivial (class_at (removed cs i) x) ≡ false) (sym e)
-            (ap isTrivial (removed-gap cs i (omega arith)) ∙ h (length cs - 1) (omega arith) (omega arith))
-        at k a b (no e) = ap isTrivial (removed-other cs i k b e) ∙ h k (omega arith) (omega arith)
+            subst (λ (x : ℕ). is_trivial (class_at (removed cs i) x) ≡ false) (sym e)
+            (ap is_trivial (removed-gap cs i (omega arith)) ∙ h (length cs - 1) (omega arith) (omega arith))
+        at k a b (no e) = ap is_trivial (removed-other cs i k b e) ∙ h k (omega arith) (omega arith)
     go false q = (omega arith, λ k a b. at k a b (ℕ_discrete k i))
       where
-        at : (k : ℕ) → i ≤ k → k < length cs → Dec (k ≡ i) → isTrivial (class_at cs k) ≡ false
-        at k a b (yes e) = subst (λ (x : ℕ). isTrivial (class_at cs x) ≡ false) (sym e) q
+        at : (k : ℕ) → i ≤ k → k < length cs → Dec (k ≡ i) → is_trivial (class_at cs k) ≡ false
+        at k a b (yes e) = subst (λ (x : ℕ). is_trivial (class_at cs x) ≡ false) (sym e) q
         at k a b (no e) = h k (omega arith) b
 
 -- the classes before a place likewise
-saying-below : (i : ℕ) (cs : List Class) → i ≤ length cs → Saying i cs → Saying 0 (dropBelow i cs)
-unfolding dropBelow
+saying-below : (i : ℕ) (cs : List Class) → i ≤ length cs → Saying i cs → Saying 0 (drop_below i cs)
+unfolding drop_below
 saying-below zero cs l h = h
-saying-below (suc i) cs l h = let d = saying-dropped cs i l h in saying-below i (droppedAt cs i) d.0 d.1
+saying-below (suc i) cs l h = let d = saying-dropped cs i l h in saying-below i (dropped_at cs i) d.0 d.1
 
 -- every kept class says something
-pub kept-says : (cs : List Class) (k : ℕ) → k < length (keptClasses cs) → isTrivial (class_at (keptClasses cs) k) ≡ false
-unfolding keptClasses
+pub kept-says : (cs : List Class) (k : ℕ) → k < length (kept_classes cs) → is_trivial (class_at (kept_classes cs) k) ≡ false
+unfolding kept_classes
 kept-says cs k l = saying-below (length cs) cs (omega arith) (λ k a b. absurd (omega arith)) k (omega arith) l
 
 -- ---- the whole
 
 -- `new` keeps a property that holds for every class and that extending keeps
-pub all_from : (Q : Class → Type 0) → Extending Q → (cs : List Class) → All Q cs → All Q (fromClasses cs)
-unfolding fromClasses
-all_from Q x cs h = all-bridge Q x (keptClasses cs) (all-kept Q cs h)
+pub all_from : (Q : Class → Type 0) → Extending Q → (cs : List Class) → All Q cs → All Q (from_classes cs)
+unfolding from_classes
+all_from Q x cs h = all_bridge Q x (kept_classes cs) (all-kept Q cs h)
 
 -- whoever is in one class is related
 abbrev pub Within : (ℕ → ℕ → Type 0) → Class → Type 0
@@ -340,7 +340,7 @@ Within R c = (x y : ℕ) → among x c.members ≡ true → among y c.members �
 
 -- by a relation that goes on, and then also whoever is in one class that was extended by one that it meets
 pub within-extending : (R : ℕ → ℕ → Type 0) → ((x e y : ℕ) → R x e → R e y → R x y) → Extending (Within R)
-unfolding containsAny
+unfolding contains_any
 within-extending R on c d h p q x y a b =
     let e = any-common c.members d.members h in
     at e (extended-from c d x a) (extended-from c d y b)
@@ -357,8 +357,8 @@ abbrev pub ApartBelow : ℕ → List Class → Type 0
 ApartBelow i cs = (e a b : ℕ) → a < i → a < b → b < length cs → among e (class_at cs a).members ≡ true → among e (class_at cs b).members ≡ true → ⊥
 
 -- class i has nothing in common with any later one
-apart_next : (i : ℕ) (cs : List Class) → i < length cs → lastMeeting cs i ≡ none → ApartBelow i cs → ApartBelow (i + 1) cs
-unfolding containsAny
+apart_next : (i : ℕ) (cs : List Class) → i < length cs → last_meeting cs i ≡ none → ApartBelow i cs → ApartBelow (i + 1) cs
+unfolding contains_any
 apart_next i cs l q h e a b la lb lc p r = at (ℕ_discrete a i)
   where
     at : Dec (a ≡ i) → ⊥
@@ -405,7 +405,7 @@ pub single-extending : Extending Single
 single-extending c d h p q e = extended-once c d e (p e) (q e)
 
 -- after bridging no expression is there twice
-pub bridge-once : (cs : List Class) → All Single cs → (e : ℕ) → counts e (bridgeClasses cs) ≤ 1
-bridge-once cs h e =
-    let r = bridge-keeps ApartBelow apart_next apart-meets cs (λ e a b la lb lc p q. omega arith) in
-    apart-once e (bridgeClasses cs) (λ i l. all-bridge Single single-extending cs h i l e) (λ x a b la lb lc p q. r.2 x a b (omega (arith, r.1)) lb lc p q)
+pub bridge_once : (cs : List Class) → All Single cs → (e : ℕ) → counts e (bridge_classes cs) ≤ 1
+bridge_once cs h e =
+    let r = bridge_keeps ApartBelow apart_next apart-meets cs (λ e a b la lb lc p q. omega arith) in
+    apart-once e (bridge_classes cs) (λ i l. all_bridge Single single-extending cs h i l e) (λ x a b la lb lc p q. r.2 x a b (omega (arith, r.1)) lb lc p q)

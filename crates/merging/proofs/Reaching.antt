@@ -9,63 +9,63 @@ use native.Mathlib.Omega.{arith}
 use borrow.Author.Tests.{eq-eqb}
 use lib.ListN.{length, get_or, take, drop, length-append, length-take, length-drop, get_or-append}
 use lib.Seq.{get_or-take, get_or-drop, get_or-append-add, append_snoc}
-use Rattle.laws.proofs.Booleans.{true-not-false}
-use Rattle.arena.specs.Node.{Node, literal, nodeAt}
+use Rattle.laws.proofs.Booleans.{true_not_false}
+use Rattle.arena.specs.Node.{Node, literal, node_at}
 use Rattle.arena.specs.Arena.{Extends}
 use Rattle.arena.proofs.Nodes.{extends-longer, extends-node}
-use Rattle.classes.specs.Class.{Constant, Class, isUniform, taken, carried, single, merged}
+use Rattle.classes.specs.Class.{Constant, Class, is_uniform, taken, carried, single, merged}
 use Rattle.classes.specs.Group.{among, class_at}
 use Rattle.classes.specs.Good.{flat, Distinct, Good}
-use Rattle.classes.proofs.Places.{count, count-append, count_same, count-other, never-among, among_one, getD-among, distinct-count, count-distinct, nothing, All, distinct-once, once-distinct, class-flat, flat-class, sum-at}
+use Rattle.classes.proofs.Places.{count, count-append, count_same, count-other, never-among, among_one, get_or-among, distinct-count, count-distinct, nothing, All, distinct-once, once-distinct, class-flat, flat-class, sum-at}
 use Rattle.demands.proofs.GoodKept.{taken-keeps, taken-uniform}
-use Rattle.merging.specs.Extending.{without, missing, extended, pushed, pushedAll, classFrom, isTrivial}
-use Rattle.merging.specs.Merging.{keptClasses, bridgeClasses, fromClasses}
+use Rattle.merging.specs.Extending.{without, missing, extended, pushed, pushed_all, class_from, is_trivial}
+use Rattle.merging.specs.Merging.{kept_classes, bridge_classes, from_classes}
 use Rattle.merging.specs.Inner.{Fair, AllBelow}
-use Rattle.merging.proofs.Overlaps.{extended-from, extended-once, Single, Extending, all-kept, kept-says, all-bridge, all_from, bridge-once}
+use Rattle.merging.proofs.Overlaps.{extended-from, extended-once, Single, Extending, all-kept, kept-says, all_bridge, all_from, bridge_once}
 
 -- ---- one class of a fair list
 
 -- no expression twice, a literal's class uniform, every member in the arena
 pub record Sane (ns : List Node) (c : Class) : Type 0 where
   pub once : Single c
-  pub uniform : (e v : ℕ) → among e c.members ≡ true → nodeAt ns e ≡ literal v → isUniform c.constant ≡ true
+  pub uniform : (e v : ℕ) → among e c.members ≡ true → node_at ns e ≡ literal v → is_uniform c.constant ≡ true
   pub inside : (e : ℕ) → among e c.members ≡ true → e < length ns
 
 -- each class of a fair list is such
-pub fair-sane : (ns : List Node) (cs : List Class) → Fair ns cs → All (Sane ns) cs
-fair-sane ns cs f i l = record {
+pub fair_sane : (ns : List Node) (cs : List Class) → Fair ns cs → All (Sane ns) cs
+fair_sane ns cs f i l = record {
   once = distinct-count (class_at cs i).members (f.apart i l);
   uniform = λ e v h q. f.uniform i e v l h q;
   inside = λ e h. f.inside e (class-flat cs e i l h);
 }
 
 -- and a list of such classes is fair
-pub sane-fair : (ns : List Node) (cs : List Class) → All (Sane ns) cs → Fair ns cs
-sane-fair ns cs h = record {
+pub sane_fair : (ns : List Node) (cs : List Class) → All (Sane ns) cs → Fair ns cs
+sane_fair ns cs h = record {
   apart = λ i l. count-distinct (class_at cs i).members (h i l).once;
   uniform = λ i e v l m q. (h i l).uniform e v m q;
   inside = λ e m. let f = flat-class cs e m in (h f.0 f.1).inside e f.2;
 }
 
 -- one constant over another is uniform where either is
-pub taken-either : (old new : Constant) → (isUniform old ≡ true) ⊎ (isUniform new ≡ true) → isUniform (taken old new) ≡ true
+pub taken-either : (old new : Constant) → (is_uniform old ≡ true) ⊎ (is_uniform new ≡ true) → is_uniform (taken old new) ≡ true
 taken-either old new (inl h) = taken-keeps old new h
 taken-either old new (inr h) = taken-uniform old new h
 
 -- the constant of a class that was extended is uniform where either was
-pub extended-uniform : (c d : Class) → (isUniform c.constant ≡ true) ⊎ (isUniform d.constant ≡ true) → isUniform (extended c d).constant ≡ true
+pub extended-uniform : (c d : Class) → (is_uniform c.constant ≡ true) ⊎ (is_uniform d.constant ≡ true) → is_uniform (extended c d).constant ≡ true
 unfolding extended merged missing
 extended-uniform c d h = taken-either c.constant d.constant h
 
 -- a class stays such when it is extended by one
-pub sane-extended : (ns : List Node) (c d : Class) → Sane ns c → Sane ns d → Sane ns (extended c d)
-sane-extended ns c d p q = record {
+pub sane_extended : (ns : List Node) (c d : Class) → Sane ns c → Sane ns d → Sane ns (extended c d)
+sane_extended ns c d p q = record {
   once = λ e. extended-once c d e (p.once e) (q.once e);
   uniform = λ e v h r. extended-uniform c d (uniform-at e v r (extended-from c d e h));
   inside = λ e h. inside-at e (extended-from c d e h);
 }
   where
-    uniform-at : (e v : ℕ) → nodeAt ns e ≡ literal v → (among e c.members ≡ true) ⊎ (among e d.members ≡ true) → (isUniform c.constant ≡ true) ⊎ (isUniform d.constant ≡ true)
+    uniform-at : (e v : ℕ) → node_at ns e ≡ literal v → (among e c.members ≡ true) ⊎ (among e d.members ≡ true) → (is_uniform c.constant ≡ true) ⊎ (is_uniform d.constant ≡ true)
     uniform-at e v r (inl h) = inl (p.uniform e v h r)
     uniform-at e v r (inr h) = inr (q.uniform e v h r)
 
@@ -76,12 +76,12 @@ sane-extended ns c d p q = record {
 -- ---- what comes of a fair list
 
 -- a class that says something has a member
-pub says-filled : (c : Class) → isTrivial c ≡ false → 0 < length c.members
-unfolding isTrivial
+pub says-filled : (c : Class) → is_trivial c ≡ false → 0 < length c.members
+unfolding is_trivial
 says-filled c h = go (ℕ_discrete (length c.members) 0)
   where
     go : Dec (length c.members ≡ 0) → 0 < length c.members
-    go (yes e) = absurd (true-not-false (rw (eq-eqb (length c.members) 0 e)) h)
+    go (yes e) = absurd (true_not_false (rw (eq-eqb (length c.members) 0 e)) h)
     go (no n) = omega arith
 
 -- a class that is extended has a member
@@ -90,26 +90,26 @@ unfolding extended merged missing
 filled-extending c d h p q = omega (arith, length-append c.members (without c.members d.members))
 
 -- a fair list becomes a good group
-pub from-good : (ns : List Node) (cs : List Class) → Fair ns cs → Good ns (fromClasses cs)
-unfolding fromClasses
+pub from-good : (ns : List Node) (cs : List Class) → Fair ns cs → Good ns (from_classes cs)
+unfolding from_classes
 from-good ns cs f =
-    let s = fair-sane ns cs f in
-    let a = all_from (Sane ns) (λ c d h p q. sane-extended ns c d p q) cs s in
+    let s = fair_sane ns cs f in
+    let a = all_from (Sane ns) (λ c d h p q. sane_extended ns c d p q) cs s in
     record {
-      distinct = once-distinct (bridgeClasses (keptClasses cs)) (bridge-once (keptClasses cs) (all-kept Single cs (λ i l. (s i l).once)));
-      filled = all-bridge (λ c. 0 < length c.members) filled-extending (keptClasses cs) (λ i l. says-filled (class_at (keptClasses cs) i) (kept-says cs i l));
+      distinct = once-distinct (bridge_classes (kept_classes cs)) (bridge_once (kept_classes cs) (all-kept Single cs (λ i l. (s i l).once)));
+      filled = all_bridge (λ c. 0 < length c.members) filled-extending (kept_classes cs) (λ i l. says-filled (class_at (kept_classes cs) i) (kept-says cs i l));
       uniform = λ i e v l h q. (a i l).uniform e v h q;
-      inside = λ e h. let p = flat-class (bridgeClasses (keptClasses cs)) e h in (a p.0 p.1).inside e p.2;
+      inside = λ e h. let p = flat-class (bridge_classes (kept_classes cs)) e h in (a p.0 p.1).inside e p.2;
     }
 
 -- ---- a class of expressions
 
 -- a class of one is such
-sane-single : (ns : List Node) (e : ℕ) → e < length ns → Sane ns (single ns e)
-unfolding single carried isUniform
-sane-single ns e l = record {
+sane_single : (ns : List Node) (e : ℕ) → e < length ns → Sane ns (single ns e)
+unfolding single carried is_uniform
+sane_single ns e l = record {
   once = λ x. one x (ℕ_discrete e x);
-  uniform = λ x v h q. let t : nodeAt ns e ≡ literal v = ap (λ (y : ℕ). nodeAt ns y) (among_one x e h) ∙ q in rw t;
+  uniform = λ x v h q. let t : node_at ns e ≡ literal v = ap (λ (y : ℕ). node_at ns y) (among_one x e h) ∙ q in rw t;
   inside = λ x h. subst (λ (k : ℕ). k < length ns) (among_one x e h) l;
 }
   where
@@ -118,17 +118,17 @@ sane-single ns e l = record {
     one x (no q) = omega (arith, count-other x e q)
 
 -- expressions pushed one after the other
-sane-pushed : (ns : List Node) (es : List ℕ) → AllBelow (length ns) es → (c : Class) → Sane ns c → Sane ns (pushedAll ns c es)
-unfolding pushedAll pushed
-sane-pushed ns [] b c s = s
-sane-pushed ns (e ∷ es) b c s =
-    sane-pushed ns es (λ k l. b (suc k) (omega arith)) (extended c (single ns e)) (sane-extended ns c (single ns e) s (sane-single ns e (b 0 (omega arith))))
+sane_pushed : (ns : List Node) (es : List ℕ) → AllBelow (length ns) es → (c : Class) → Sane ns c → Sane ns (pushed_all ns c es)
+unfolding pushed_all pushed
+sane_pushed ns [] b c s = s
+sane_pushed ns (e ∷ es) b c s =
+    sane_pushed ns es (λ k l. b (suc k) (omega arith)) (extended c (single ns e)) (sane_extended ns c (single ns e) s (sane_single ns e (b 0 (omega arith))))
 
 -- the class of expressions of an arena
-pub sane-from : (ns : List Node) (es : List ℕ) → AllBelow (length ns) es → Sane ns (classFrom ns es)
-unfolding classFrom count among
-sane-from ns es b =
-    sane-pushed ns es b nothing (record { once = λ e. omega arith; uniform = λ e v h q. absurd (true-not-false h refl); inside = λ e h. absurd (true-not-false h refl) })
+pub sane_from : (ns : List Node) (es : List ℕ) → AllBelow (length ns) es → Sane ns (class_from ns es)
+unfolding class_from count among
+sane_from ns es b =
+    sane_pushed ns es b nothing (record { once = λ e. omega arith; uniform = λ e v h q. absurd (true_not_false h refl); inside = λ e h. absurd (true_not_false h refl) })
 
 -- one that is new is pushed at the end
 pushed-new : (ns : List Node) (c : Class) (e : ℕ) → among e c.members ≡ false → (pushed ns c e).members ≡ c.members ++ (e ∷ [])
@@ -136,8 +136,8 @@ unfolding pushed extended merged missing single without
 pushed-new ns c e h = rw h
 
 -- different expressions that are new stand behind each other
-pushed-all : (ns : List Node) (es : List ℕ) (c : Class) → ((x : ℕ) → count x (c.members ++ es) ≤ 1) → (pushedAll ns c es).members ≡ c.members ++ es
-unfolding pushedAll
+pushed-all : (ns : List Node) (es : List ℕ) (c : Class) → ((x : ℕ) → count x (c.members ++ es) ≤ 1) → (pushed_all ns c es).members ≡ c.members ++ es
+unfolding pushed_all
 pushed-all ns [] c h = sym (append-nil c.members)
 pushed-all ns (e ∷ es) c h =
     let f : among e c.members ≡ false =
@@ -147,8 +147,8 @@ pushed-all ns (e ∷ es) c h =
     pushed-all ns es (pushed ns c e) (λ x. subst (λ (l : List ℕ). count x l ≤ 1) (sym r) (h x)) ∙ r
 
 -- a class of different expressions has them all, in their order
-pub members-from : (ns : List Node) (es : List ℕ) → Distinct es → (classFrom ns es).members ≡ es
-unfolding classFrom
+pub members-from : (ns : List Node) (es : List ℕ) → Distinct es → (class_from ns es).members ≡ es
+unfolding class_from
 members-from ns es d = pushed-all ns es nothing (λ x. distinct-count es d x)
 
 -- ---- parts of lists, and lists one after the other
@@ -189,8 +189,8 @@ all_append Q cs ds h k i l = go (dec_lt i (length cs))
         subst (λ (j : ℕ). Q (class_at (cs ++ ds) j)) (sym e) (subst Q (sym (get_or-append-add cs ds (i - length cs) nothing)) (k (i - length cs) b))
 
 -- each class of a good group is such, also in an arena that has grown
-pub good-sane : (ns os : List Node) (ls : List Class) → Extends ns os → Good ns ls → All (Sane os) ls
-good-sane ns os ls x g i l = record {
+pub good_sane : (ns os : List Node) (ls : List Class) → Extends ns os → Good ns ls → All (Sane os) ls
+good_sane ns os ls x g i l = record {
   once = λ e. omega (arith, sum-at (λ (c : Class). count e c.members) ls i nothing l, distinct-once ls g.distinct e);
   uniform = λ e v h q. g.uniform i e v l h (sym (extends-node x e (g.inside e (class-flat ls e i l h))) ∙ q);
   inside = λ e h. let b = g.inside e (class-flat ls e i l h) in omega (arith, extends-longer x);
@@ -198,4 +198,4 @@ good-sane ns os ls x g i l = record {
 
 -- the members of a good group are in the arena, by their places
 pub flat-below : (ns : List Node) (rs : List Class) → Good ns rs → AllBelow (length ns) (flat rs)
-flat-below ns rs g k l = g.inside (get_or (flat rs) k 0) (getD-among (flat rs) k l)
+flat-below ns rs g k l = g.inside (get_or (flat rs) k 0) (get_or-among (flat rs) k l)

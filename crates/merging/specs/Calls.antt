@@ -6,26 +6,26 @@ use Rattle.laws.specs.Tests.{if◌then◌else◌}
 use Rattle.arena.specs.Node.{Node}
 use Rattle.classes.specs.Class.{Class}
 use Rattle.classes.specs.Layout.{encode}
-use Rattle.classes.specs.Calls.{noGroup}
+use Rattle.classes.specs.Calls.{no_group}
 use Rattle.classes.specs.declared.Group.{Group}
 use Rattle.classes.specs.declared.Changed.{Changed}
-use Rattle.merging.specs.Merging.{fromClasses}
-use Rattle.lent_classes.specs.Check.{newNumber}
-use Rattle.lent_classes.specs.Lent.{classesLent}
+use Rattle.merging.specs.Merging.{from_classes}
+use Rattle.lent_classes.specs.Check.{new_number}
+use Rattle.lent_classes.specs.Lent.{classes_lent}
 
 -- a group that was made, of limit 256
-unfoldable pub madeGroup : List Class → Changed
-madeGroup cs = record { number = 0; answer = true; group = encode 256 cs }
+unfoldable pub made_group : List Class → Changed
+made_group cs = record { number = 0; answer = true; group = encode 256 cs }
 
 -- the group of a list of classes, or the refusal
-unfoldable pub newAnswer : List ℕ → List ℕ → Changed
-newAnswer cells numbers = if eqb (newNumber cells numbers) 0 then madeGroup (fromClasses (classesLent numbers)) else noGroup (newNumber cells numbers)
+unfoldable pub new_answer : List ℕ → List ℕ → Changed
+new_answer cells numbers = if eqb (new_number cells numbers) 0 then made_group (from_classes (classes_lent numbers)) else no_group (new_number cells numbers)
 
 -- a refusal of a call that is lent a group: the group as it was, and the arena
-unfoldable pub refusedGroup : ℕ → Group → List Node → Changed × List Node
-refusedGroup k g ns = (record { number = k; answer = false; group = g }, ns)
+unfoldable pub refused_group : ℕ → Group → List Node → Changed × List Node
+refused_group k g ns = (record { number = k; answer = false; group = g }, ns)
 
 -- the classes as a group that was made, or 4, and then the arena is as it was
-unfoldable pub madeOrRefused : Group → List Node → List Node → Option (List Class) → Changed × List Node
-madeOrRefused g ns ms (some cs) = (madeGroup cs, ms)
-madeOrRefused g ns ms none = refusedGroup 4 g ns
+unfoldable pub made_or_refused : Group → List Node → List Node → Option (List Class) → Changed × List Node
+made_or_refused g ns ms (some cs) = (made_group cs, ms)
+made_or_refused g ns ms none = refused_group 4 g ns

@@ -2,7 +2,7 @@
 use Rattle.std.specs.Prelude.{ℕ, Bool, false, not, ◌&&◌, ◌||◌, List, [], ◌∷◌, eqb, length}
 use Rattle.laws.specs.Tests.{if◌then◌else◌}
 use Rattle.arena.specs.Node.{Node}
-use Rattle.classes.specs.Class.{Class, noConstant, single, merged, isConstant}
+use Rattle.classes.specs.Class.{Class, no_constant, single, merged, is_constant}
 use Rattle.classes.specs.Group.{among}
 
 -- the second list without what stands in the first
@@ -23,23 +23,23 @@ unfoldable pub pushed : List Node → Class → ℕ → Class
 pushed ns c e = extended c (single ns e)
 
 -- expressions pushed one after the other
-unfoldable pub pushedAll : List Node → Class → List ℕ → Class
-pushedAll ns c [] = c
-pushedAll ns c (e ∷ es) = pushedAll ns (pushed ns c e) es
+unfoldable pub pushed_all : List Node → Class → List ℕ → Class
+pushed_all ns c [] = c
+pushed_all ns c (e ∷ es) = pushed_all ns (pushed ns c e) es
 
 -- the class of these expressions: its constant is the first literal's, or none
-unfoldable pub classFrom : List Node → List ℕ → Class
-classFrom ns es = pushedAll ns (record { members = []; constant = noConstant }) es
+unfoldable pub class_from : List Node → List ℕ → Class
+class_from ns es = pushed_all ns (record { members = []; constant = no_constant }) es
 
 -- some number of the first list stands in the second
-unfoldable pub anyAmong : List ℕ → List ℕ → Bool
-anyAmong [] ms = false
-anyAmong (e ∷ es) ms = among e ms || anyAmong es ms
+unfoldable pub any_among : List ℕ → List ℕ → Bool
+any_among [] ms = false
+any_among (e ∷ es) ms = among e ms || any_among es ms
 
 -- two classes have an expression in common
-unfoldable pub containsAny : Class → Class → Bool
-containsAny c d = anyAmong c.members d.members
+unfoldable pub contains_any : Class → Class → Bool
+contains_any c d = any_among c.members d.members
 
 -- a class says nothing: it is empty, or has one member and no constant
-unfoldable pub isTrivial : Class → Bool
-isTrivial c = eqb (length c.members) 0 || (eqb (length c.members) 1 && not (isConstant c.constant))
+unfoldable pub is_trivial : Class → Bool
+is_trivial c = eqb (length c.members) 0 || (eqb (length c.members) 1 && not (is_constant c.constant))

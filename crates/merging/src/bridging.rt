@@ -3,8 +3,8 @@
 ghost use Rattle.std.specs.Prelude.{◌≡◌, ◌≤◌, ◌<◌};
 ghost use Rattle.classes.specs.Layout.{encode, decode};
 ghost use Rattle.classes.specs.Inner.{Coded, place_of};
-ghost use Rattle.merging.specs.Merging.{droppedAt, keptClasses, lastMeeting, bridgeClasses, fromClasses};
-ghost use Rattle.merging.specs.Calls.{madeGroup};
+ghost use Rattle.merging.specs.Merging.{dropped_at, kept_classes, last_meeting, bridge_classes, from_classes};
+ghost use Rattle.merging.specs.Calls.{made_group};
 ghost use Rattle.merging.specs.Inner.{Stepped};
 
 use crate::Bridged;
@@ -15,7 +15,7 @@ use classes::{Changed, Group, Place};
 // The class at a place goes if it says nothing.
 fn drop_at(g: Group, i: usize) -> Group
     requires { Coded g × (i < g.count) }
-    ensures { result ≡ encode g.limit (droppedAt (decode g) i) }
+    ensures { result ≡ encode g.limit (dropped_at (decode g) i) }
 {
     if is_trivial(g, i) {
         return remove_class_at_idx(g, i);
@@ -26,7 +26,7 @@ fn drop_at(g: Group, i: usize) -> Group
 // The classes that say nothing go, back to front.
 pub fn drop_trivial(g: Group) -> Group
     requires { Coded g }
-    ensures { result ≡ encode g.limit (keptClasses (decode g)) }
+    ensures { result ≡ encode g.limit (kept_classes (decode g)) }
 {
     let mut out = g;
     let mut i = g.count;
@@ -40,7 +40,7 @@ pub fn drop_trivial(g: Group) -> Group
 // The last class after i that has an expression in common with class i.
 fn last_meeting(g: Group, i: usize) -> Place
     requires { Coded g × (i < g.count) }
-    ensures { result ≡ place_of (lastMeeting (decode g) i) }
+    ensures { result ≡ place_of (last_meeting (decode g) i) }
 {
     let mut j = g.count;
     while i + 1 < j {
@@ -72,7 +72,7 @@ fn bridge_step(g: Group, i: usize) -> Bridged
 // Classes that overlap become one.
 pub fn bridge_classes(g: Group) -> Group
     requires { Coded g }
-    ensures { result ≡ encode g.limit (bridgeClasses (decode g)) }
+    ensures { result ≡ encode g.limit (bridge_classes (decode g)) }
 {
     let mut out = g;
     let mut i = 0;
@@ -87,7 +87,7 @@ pub fn bridge_classes(g: Group) -> Group
 // The group of a list of classes.
 pub fn from_classes(list: Group) -> Group
     requires { Coded list }
-    ensures { result ≡ encode list.limit (fromClasses (decode list)) }
+    ensures { result ≡ encode list.limit (from_classes (decode list)) }
 {
     bridge_classes(drop_trivial(list))
 }
@@ -95,7 +95,7 @@ pub fn from_classes(list: Group) -> Group
 // A group that was made, with limit 256.
 pub fn made(g: Group) -> Changed
     requires { Coded g }
-    ensures { result ≡ madeGroup (decode g) }
+    ensures { result ≡ made_group (decode g) }
 {
     let mut group = g;
     group.limit = 256;

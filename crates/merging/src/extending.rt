@@ -2,13 +2,13 @@
 ghost use Rattle.std.specs.Prelude.{[], ◌∷◌, ◌++◌, ◌≡◌, ◌≤◌, ◌<◌, ◌+◌, ◌-◌, length, get_or};
 ghost use Rattle.arena.specs.Layout.{decode as nodes};
 ghost use Rattle.arena.specs.Inner.{Known};
-ghost use Rattle.classes.specs.Class.{noConstant, single};
-ghost use Rattle.classes.specs.Group.{among, class_at, mergedAt};
-ghost use Rattle.classes.specs.Layout.{encode, decode, constantFrom};
+ghost use Rattle.classes.specs.Class.{no_constant, single};
+ghost use Rattle.classes.specs.Group.{among, class_at, merged_at};
+ghost use Rattle.classes.specs.Layout.{encode, decode, constant_from};
 ghost use Rattle.classes.specs.Inner.{Coded};
-ghost use Rattle.merging.specs.Extending.{missing, containsAny, isTrivial};
+ghost use Rattle.merging.specs.Extending.{missing, contains_any, is_trivial};
 ghost use Rattle.merging.specs.Merging.{bridged};
-ghost use Rattle.merging.specs.Inner.{missingSome};
+ghost use Rattle.merging.specs.Inner.{missing_some};
 
 use arena::cells::wide;
 use classes::building::{
@@ -39,7 +39,7 @@ pub fn class_holds(g: Group, i: usize, e: u32) -> bool
 // Two classes have an expression in common.
 pub fn contains_any(g: Group, i: usize, j: usize) -> bool
     requires { Coded g × ((i < g.count) × (j < g.count)) }
-    ensures { result ≡ containsAny (class_at (decode g) i) (class_at (decode g) j) }
+    ensures { result ≡ contains_any (class_at (decode g) i) (class_at (decode g) j) }
 {
     let sizes = g.sizes;
     let start = class_start(sizes, i);
@@ -57,7 +57,7 @@ pub fn contains_any(g: Group, i: usize, j: usize) -> bool
 // A class says nothing: it is empty, or has one member and no constant.
 pub fn is_trivial(g: Group, i: usize) -> bool
     requires { Coded g × (i < g.count) }
-    ensures { result ≡ isTrivial (class_at (decode g) i) }
+    ensures { result ≡ is_trivial (class_at (decode g) i) }
 {
     let size = g.sizes[i];
     if size == 0 {
@@ -71,7 +71,7 @@ pub fn is_trivial(g: Group, i: usize) -> bool
 
 // A group of one class that has a constant and no member yet.
 pub fn one_empty(mark: Mark) -> Group
-    ensures { result ≡ encode 256 (record { members = []; constant = constantFrom mark.flavour mark.value } ∷ []) }
+    ensures { result ≡ encode 256 (record { members = []; constant = constant_from mark.flavour mark.value } ∷ []) }
 {
     let said = mark_from(mark);
     let mut g = empty(256);
@@ -84,7 +84,7 @@ pub fn one_empty(mark: Mark) -> Group
 // An expression at the end of the last class, with nothing else.
 fn append_member(out: Group, e: u32) -> Group
     requires { Coded out × ((0 < out.count) × (out.used < 256)) }
-    ensures { result ≡ encode out.limit (mergedAt (decode out) (out.count - 1) (record { members = e ∷ []; constant = noConstant })) }
+    ensures { result ≡ encode out.limit (merged_at (decode out) (out.count - 1) (record { members = e ∷ []; constant = no_constant })) }
 {
     let none = Mark {
         flavour: 0,
@@ -96,8 +96,8 @@ fn append_member(out: Group, e: u32) -> Group
 
 // The first k members of class j that class i doesn't have, and the next of them if class i doesn't have it.
 fn add_missing(out: Group, g: Group, i: usize, j: usize, k: usize) -> Group
-    requires { (Coded g × ((i < g.count) × (j < g.count))) × ((k < get_or g.sizes j 0) × (out ≡ encode 256 (missingSome k (class_at (decode g) i) (class_at (decode g) j) ∷ []))) }
-    ensures { result ≡ encode 256 (missingSome (k + 1) (class_at (decode g) i) (class_at (decode g) j) ∷ []) }
+    requires { (Coded g × ((i < g.count) × (j < g.count))) × ((k < get_or g.sizes j 0) × (out ≡ encode 256 (missing_some k (class_at (decode g) i) (class_at (decode g) j) ∷ []))) }
+    ensures { result ≡ encode 256 (missing_some (k + 1) (class_at (decode g) i) (class_at (decode g) j) ∷ []) }
 {
     let sizes = g.sizes;
     let start = class_start(sizes, j);
@@ -136,7 +136,7 @@ pub fn extend(g: Group, i: usize, j: usize) -> Group
 // An expression is pushed to the last class, which may have it already.
 pub fn push(cells: &[u32; 11265], out: Group, e: u32) -> Group
     requires { (Coded out × ((0 < out.count) × (out.used < 256))) × Known cells.now e }
-    ensures { result ≡ encode out.limit (mergedAt (decode out) (out.count - 1) (missing (class_at (decode out) (out.count - 1)) (single (nodes cells.now) e))) }
+    ensures { result ≡ encode out.limit (merged_at (decode out) (out.count - 1) (missing (class_at (decode out) (out.count - 1)) (single (nodes cells.now) e))) }
 {
     let last = out.count - 1;
     if class_holds(out, last, e) {

@@ -7,7 +7,7 @@ pub mod bridging;
 pub mod extending;
 
 ghost use Rattle.std.specs.Prelude.{◌≡◌};
-ghost use Rattle.merging.specs.Calls.{newAnswer};
+ghost use Rattle.merging.specs.Calls.{new_answer};
 
 use bridging::{from_classes, made};
 use classes::refusing::no_group;
@@ -25,7 +25,7 @@ pub struct Bridged {
 // its flavour (0 none, 1 heterogeneous, 2 uniform unknown, 3 uniform with a value), its value, its member count and its
 // members. The limit is 256. Refusals: 12, 11, 1, 4, with a group of limit 0, which is none.
 pub fn new(cells: &[u32; 11265], list: &[u32]) -> Changed
-    ensures { result ≡ newAnswer cells.now list.now }
+    ensures { result ≡ new_answer cells.now list.now }
 {
     let number = new_number(cells, list);
     if number != 0 {

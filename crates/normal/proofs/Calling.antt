@@ -8,11 +8,11 @@ use borrow.Author.Tests.{eq-eqb, ne_eqb, lt-ltb, le-ltb}
 use lib.ListN.{length, get_or, replicate}
 use lib.Seq.{take_all}
 use Rattle.arena.specs.Node.{Node}
-use Rattle.arena.specs.Expression.{Expression, Expressions, col, lit, op, ∅, ◌▹◌, expressionAt}
-use Rattle.arena.specs.Arena.{Sound, addExpression}
+use Rattle.arena.specs.Expression.{Expression, Expressions, col, lit, op, ∅, ◌▹◌, expression_at}
+use Rattle.arena.specs.Arena.{Sound, add_expression}
 use Rattle.arena.specs.Layout.{count, decode as nodes}
-use Rattle.arena.specs.Calls.{answered, inCells}
-use Rattle.arena.specs.Inner.{Holds, told, is_refused, mapAll, Walked}
+use Rattle.arena.specs.Calls.{answered, in_cells}
+use Rattle.arena.specs.Inner.{Holds, told, is_refused, map_all, Walked}
 use Rattle.arena.specs.declared.Added.{Added}
 use Rattle.arena.specs.declared.Added.TheVariants.{Number, Refused}
 use Rattle.arena.proofs.Layouts.{length-decode, coded-cells}
@@ -20,36 +20,36 @@ use Rattle.arena.proofs.Walking.{memo-none}
 use Rattle.classes.specs.Class.{Class}
 use Rattle.classes.specs.Layout.{decode}
 use Rattle.classes.specs.Inner.{Held}
-use Rattle.classes.specs.Calls.{groupNumber}
+use Rattle.classes.specs.Calls.{group_number}
 use Rattle.classes.specs.declared.Group.{Group}
-use Rattle.normal.specs.Normal.{number_of, first_of, replacedBy, replaced, normalBy, normalsBy, normal, normals}
-use Rattle.normal.specs.Inner.{Firsts, olds, rewriting, Ready, settledBy}
-use Rattle.normal.specs.Calls.{onChecked, normalizeExpr, normalized}
+use Rattle.normal.specs.Normal.{number_of, first_of, replaced_by, replaced, normal_by, normals_by, normal, normals}
+use Rattle.normal.specs.Inner.{Firsts, olds, rewriting, Ready, settled_by}
+use Rattle.normal.specs.Calls.{on_checked, normalize_expr, normalized}
 use Rattle.normal.proofs.Numbers.{number-some}
 use Rattle.normal.proofs.FirstMembers.{first-inside}
 use Rattle.normal.proofs.Rewriting.{normals-all}
 
 -- the normal form depends only on what replaces the arena's numbers
 module _ (ns : List Node) (s : Sound ns) (to other : ℕ → ℕ) (same : (k : ℕ) → k < length ns → to k ≡ other k) where
-  replaced-cong : (x : Expression) → replaced ns to x ≡ replaced ns other x
-  unfolding replaced replacedBy
-  replaced-cong x = go (number_of ns x) refl
+  replaced_cong : (x : Expression) → replaced ns to x ≡ replaced ns other x
+  unfolding replaced replaced_by
+  replaced_cong x = go (number_of ns x) refl
     where
-      go : (o : Option ℕ) → number_of ns x ≡ o → replacedBy ns to x o ≡ replacedBy ns other x o
+      go : (o : Option ℕ) → number_of ns x ≡ o → replaced_by ns to x o ≡ replaced_by ns other x o
       go none e = refl
-      go (some k) e = ap (expressionAt ns) (same k (number-some ns s x k e).below)
+      go (some k) e = ap (expression_at ns) (same k (number-some ns s x k e).below)
 
   mutual
-    unfolding normalBy normalsBy
+    unfolding normal_by normals_by
 
-    pub normal-cong : (x : Expression) → normalBy ns to x ≡ normalBy ns other x
-    normal-cong (col name index) = replaced-cong (col name index)
-    normal-cong (lit v) = replaced-cong (lit v)
-    normal-cong (op label xs) = replaced-cong (op label (normalsBy ns to xs)) ∙ ap (λ (ys : Expressions). replaced ns other (op label ys)) (normals-cong xs)
+    pub normal_cong : (x : Expression) → normal_by ns to x ≡ normal_by ns other x
+    normal_cong (col name index) = replaced_cong (col name index)
+    normal_cong (lit v) = replaced_cong (lit v)
+    normal_cong (op label xs) = replaced_cong (op label (normals_by ns to xs)) ∙ ap (λ (ys : Expressions). replaced ns other (op label ys)) (normals_cong xs)
 
-    pub normals-cong : (xs : Expressions) → normalsBy ns to xs ≡ normalsBy ns other xs
-    normals-cong ∅ = refl
-    normals-cong (x ▹ xs) = ap₂ {C = Expressions} (λ a b. a ▹ b) (normal-cong x) (normals-cong xs)
+    pub normals_cong : (xs : Expressions) → normals_by ns to xs ≡ normals_by ns other xs
+    normals_cong ∅ = refl
+    normals_cong (x ▹ xs) = ap₂ {C = Expressions} (λ a b. a ▹ b) (normal_cong x) (normals_cong xs)
 
 -- a walk over all nodes of the arena, by the table of a checked group
 module _ (s : List ℕ) (g : Group) (old : ℕ) (firsts : List ℕ) (holds : Holds s) (held : Held (nodes s) g) (all : old ≡ count s) (table : Firsts (decode g) old firsts) where
@@ -66,15 +66,15 @@ module _ (s : List ℕ) (g : Group) (old : ℕ) (firsts : List ℕ) (holds : Hol
   -- the rewriting is the normal form
   pub rewriting-normal : (x : Expression) → rewriting old firsts s x ≡ normal (nodes s) (decode g) x
   rewriting-normal x =
-      ap (λ (ns : List Node). normalBy ns (λ e. get_or firsts e 0) x) whole
-      ∙ normal-cong (nodes s) holds.sound (λ e. get_or firsts e 0) (first_of (decode g)) agrees x
+      ap (λ (ns : List Node). normal_by ns (λ e. get_or firsts e 0) x) whole
+      ∙ normal_cong (nodes s) holds.sound (λ e. get_or firsts e 0) (first_of (decode g)) agrees x
 
   -- also of expressions in a row
-  pub rewriting-normals : (xs : Expressions) → mapAll (rewriting old firsts s) xs ≡ normals (nodes s) (decode g) xs
+  pub rewriting-normals : (xs : Expressions) → map_all (rewriting old firsts s) xs ≡ normals (nodes s) (decode g) xs
   rewriting-normals xs =
       sym (normals-all (olds old s) (λ e. get_or firsts e 0) xs)
-      ∙ ap (λ (ns : List Node). normalsBy ns (λ e. get_or firsts e 0) xs) whole
-      ∙ normals-cong (nodes s) holds.sound (λ e. get_or firsts e 0) (first_of (decode g)) agrees xs
+      ∙ ap (λ (ns : List Node). normals_by ns (λ e. get_or firsts e 0) xs) whole
+      ∙ normals_cong (nodes s) holds.sound (λ e. get_or firsts e 0) (first_of (decode g)) agrees xs
 
   module _ (e : ℕ) (below : e < count s) where
     -- it can begin, with an empty memo
@@ -85,37 +85,37 @@ module _ (s : List ℕ) (g : Group) (old : ℕ) (firsts : List ℕ) (holds : Hol
           there = omega arith;
           inside = table-inside;
           below = omega arith;
-          memo-true = memo-none (rewriting old firsts s) (nodes s) n;
+          memo_true = memo-none (rewriting old firsts s) (nodes s) n;
         }
 
     module _ (t memo : List ℕ) where
       -- it has answered, or there was no room
       pub whole-settled : (a : Added) → Walked (rewriting old firsts s) s t memo e a
-          → settledBy s t a ≡ inCells (answered (nodes s) (addExpression (normal (nodes s) (decode g) (expressionAt (nodes s) e)) (nodes s)))
-      unfolding settledBy inCells answered told is_refused
-      whole-settled (Number i) w = rw (← rewriting-normal (expressionAt (nodes s) e), ← w.grew.is, coded-cells t w.grew.holds)
-      whole-settled (Refused k) w = rw (← rewriting-normal (expressionAt (nodes s) e), ← w.grew.is, coded-cells s holds)
+          → settled_by s t a ≡ in_cells (answered (nodes s) (add_expression (normal (nodes s) (decode g) (expression_at (nodes s) e)) (nodes s)))
+      unfolding settled_by in_cells answered told is_refused
+      whole-settled (Number i) w = rw (← rewriting-normal (expression_at (nodes s) e), ← w.grew.is, coded-cells t w.grew.holds)
+      whole-settled (Refused k) w = rw (← rewriting-normal (expression_at (nodes s) e), ← w.grew.is, coded-cells s holds)
 
 -- a call after the check's number
-module _ {A : Type 0} (number : ℕ) (refusedBy : ℕ → A) (call : List Node → List Class → A × List Node) (cells : List ℕ) (g : Group) where
-  pub checked-done : number ≡ 0 → onChecked number refusedBy call cells g ≡ inCells (call (nodes cells) (decode g))
-  unfolding onChecked
+module _ {A : Type 0} (number : ℕ) (refused_by : ℕ → A) (call : List Node → List Class → A × List Node) (cells : List ℕ) (g : Group) where
+  pub checked-done : number ≡ 0 → on_checked number refused_by call cells g ≡ in_cells (call (nodes cells) (decode g))
+  unfolding on_checked
   checked-done e = rw (eq-eqb number 0 e)
 
-  pub checked_refused : (number ≡ 0 → ⊥) → ◌≡◌ {A = A × List ℕ} (refusedBy number, cells) (onChecked number refusedBy call cells g)
-  unfolding onChecked
+  pub checked_refused : (number ≡ 0 → ⊥) → ◌≡◌ {A = A × List ℕ} (refused_by number, cells) (on_checked number refused_by call cells g)
+  unfolding on_checked
   checked_refused z = rw (ne_eqb number 0 z)
 
 -- the normal form of an expression, by its test
-module _ (e : ℕ) (cells : List ℕ) (g : Group) (z : groupNumber cells g ≡ 0) where
+module _ (e : ℕ) (cells : List ℕ) (g : Group) (z : group_number cells g ≡ 0) where
   pub expr-unknown : Holds cells → count cells ≤ e → ◌≡◌ {A = Added × List ℕ} (Refused 1, cells) (normalized e cells g)
-  unfolding normalizeExpr inCells
+  unfolding normalize_expr in_cells
   expr-unknown h l =
       let m : length (nodes cells) ≤ e = omega (arith, length-decode cells) in
-      sym (checked-done (groupNumber cells g) Refused (normalizeExpr e) cells g z ∙ rw (le-ltb e (length (nodes cells)) m, coded-cells cells h))
+      sym (checked-done (group_number cells g) Refused (normalize_expr e) cells g z ∙ rw (le-ltb e (length (nodes cells)) m, coded-cells cells h))
 
-  pub expr-known : e < count cells → (o : Added × List ℕ) → o ≡ inCells (answered (nodes cells) (addExpression (normal (nodes cells) (decode g) (expressionAt (nodes cells) e)) (nodes cells))) → o ≡ normalized e cells g
-  unfolding normalizeExpr
+  pub expr-known : e < count cells → (o : Added × List ℕ) → o ≡ in_cells (answered (nodes cells) (add_expression (normal (nodes cells) (decode g) (expression_at (nodes cells) e)) (nodes cells))) → o ≡ normalized e cells g
+  unfolding normalize_expr
   expr-known l o q =
       let m : e < length (nodes cells) = omega (arith, length-decode cells) in
-      q ∙ sym (checked-done (groupNumber cells g) Refused (normalizeExpr e) cells g z ∙ rw (lt-ltb e (length (nodes cells)) m))
+      q ∙ sym (checked-done (group_number cells g) Refused (normalize_expr e) cells g z ∙ rw (lt-ltb e (length (nodes cells)) m))

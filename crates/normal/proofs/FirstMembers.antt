@@ -8,7 +8,7 @@ use native.Mathlib.Decide.{ℕ_discrete}
 use native.Mathlib.Omega.{arith}
 use lib.ListN.{length, get_or, set}
 use lib.Seq.{get_or-set_same, get_or-set_other}
-use Rattle.laws.proofs.Booleans.{true-not-false}
+use Rattle.laws.proofs.Booleans.{true_not_false}
 use Rattle.arena.specs.Node.{Node}
 use Rattle.classes.specs.Class.{Class}
 use Rattle.classes.specs.Group.{among, class_at, class_of}
@@ -19,19 +19,19 @@ use Rattle.classes.specs.declared.Group.{Group}
 use Rattle.classes.specs.declared.Place.TheVariants.{At, Nowhere}
 use Rattle.classes.proofs.ClassPlaces.{place_at, place-nowhere}
 use Rattle.classes.proofs.Codec.{size_is}
-use Rattle.classes.proofs.Places.{getD-among, classOf-some, class-flat}
+use Rattle.classes.proofs.Places.{get_or-among, class_of-some, class-flat}
 use Rattle.normal.specs.Normal.{first_at, first_of}
 use Rattle.normal.specs.Inner.{Firsts}
 
 -- a class that was found is not empty
 filled-list : (e : ℕ) (l : List ℕ) → among e l ≡ true → 0 < length l
 unfolding among
-filled-list e [] q = absurd (true-not-false q refl)
+filled-list e [] q = absurd (true_not_false q refl)
 filled-list e (m ∷ ms) q = omega arith
 
 pub place-filled : (g : Group) (e i : ℕ) → Coded g → At i ≡ place_of (class_of (decode g) e) → 0 < get_or g.sizes i 0
 place-filled g e i c q =
-    let f = classOf-some (decode g) e i (place_at (class_of (decode g) e) i q) in
+    let f = class_of-some (decode g) e i (place_at (class_of (decode g) e) i q) in
     omega (arith, size_is g c i, filled-list e (class_at (decode g) i).members f.1)
 
 -- the first member of the class that was found
@@ -60,6 +60,6 @@ first-inside ns cs g e l = go (class_of cs e) refl
     go : (o : Option ℕ) → class_of cs e ≡ o → first_at cs e o < length ns
     go none q = l
     go (some i) q =
-        let f = classOf-some cs e i q in
+        let f = class_of-some cs e i q in
         let m = (class_at cs i).members in
-        g.inside (get_or m 0 0) (class-flat cs (get_or m 0 0) i f.0 (getD-among m 0 (filled-list e m f.1)))
+        g.inside (get_or m 0 0) (class-flat cs (get_or m 0 0) i f.0 (get_or-among m 0 (filled-list e m f.1)))

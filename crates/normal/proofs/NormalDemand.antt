@@ -6,32 +6,32 @@ use mathlib.Core.Path.{◌≡◌, refl, sym, ap, ◌∙◌}
 use native.Mathlib.Decide.{ℕ_discrete}
 use lib.ListN.{length}
 use Rattle.arena.specs.Node.{Node}
-use Rattle.arena.specs.Expression.{expressionAt}
+use Rattle.arena.specs.Expression.{expression_at}
 use Rattle.arena.specs.Value.{Row, Meaning, value}
 use Rattle.arena.specs.Arena.{Sound, Extends}
 use Rattle.arena.specs.declared.Added.TheVariants.{Number}
 use Rattle.classes.specs.Class.{Class}
-use Rattle.classes.specs.Group.{among, class_at, sameClass}
+use Rattle.classes.specs.Group.{among, class_at, same_class}
 use Rattle.classes.specs.Good.{Good}
 use Rattle.conditions.specs.Steps.{after, accepted}
-use Rattle.classes.proofs.Places.{classOf-only}
+use Rattle.classes.proofs.Places.{class_of-only}
 use Rattle.demands.proofs.Answers.{place_same}
 use Rattle.demands.proofs.Chains.{Equivalence, chain-within}
-use Rattle.demands.proofs.Demands.{same-class-exactly}
+use Rattle.demands.proofs.Demands.{same_class_exactly}
 use Rattle.demands.proofs.GoodKept.{empty-good, after-good}
 use Rattle.classes.specs.Agree.{Same, MembersAgree, PairsAgree}
 use Rattle.normal.specs.Normal.{normal}
-use Rattle.normal.specs.Calls.{normalizeExpr}
-use Rattle.normal.proofs.NormalValue.{normal-form-value, same-normal-form, same-number-value}
+use Rattle.normal.specs.Calls.{normalize_expr}
+use Rattle.normal.proofs.NormalValue.{normal_form-value, same-normal_form, same_number-value}
 
 -- to have one value on a row is an equivalence
-same-equivalence : {A : Type 0} (ns : List Node) (m : Meaning A) (row : Row A) → Equivalence (λ a b. Same ns m row a b)
-same-equivalence ns m row = record { self = λ x. refl; turned = λ x y p. sym p; through = λ x y z p q. p ∙ q }
+same_equivalence : {A : Type 0} (ns : List Node) (m : Meaning A) (row : Row A) → Equivalence (λ a b. Same ns m row a b)
+same_equivalence ns m row = record { self = λ x. refl; turned = λ x y p. sym p; through = λ x y z p q. p ∙ q }
 
 -- two members of one class are in one class, by the question
-members-together : (ns : List Node) (cs : List Class) → Good ns cs → (i a b : ℕ) → i < length cs → among a (class_at cs i).members ≡ true → among b (class_at cs i).members ≡ true → sameClass cs a b ≡ true
-members-together ns cs g i a b l p q =
-    place_same cs a b (record { place = i; left = classOf-only cs g.distinct a i l p; right = classOf-only cs g.distinct b i l q })
+members_together : (ns : List Node) (cs : List Class) → Good ns cs → (i a b : ℕ) → i < length cs → among a (class_at cs i).members ≡ true → among b (class_at cs i).members ≡ true → same_class cs a b ≡ true
+members_together ns cs g i a b l p q =
+    place_same cs a b (record { place = i; left = class_of-only cs g.distinct a i l p; right = class_of-only cs g.distinct b i l q })
 
 -- the group after a sequence of equal conditions, from an empty one
 module _ (limit : ℕ) (ns : List Node) (ps : List (ℕ × ℕ)) where
@@ -48,19 +48,19 @@ module _ (limit : ℕ) (ns : List Node) (ps : List (ℕ × ℕ)) where
     members-agree i a b l p q = go (ℕ_discrete a b)
       where
         go : Dec (a ≡ b) → Same ns m row a b
-        go (yes e) = ap (λ (k : ℕ). value (expressionAt ns k) m row) e
+        go (yes e) = ap (λ (k : ℕ). value (expression_at ns k) m row) e
         go (no d) =
-            chain-within (λ x y. Same ns m row x y) (same-equivalence ns m row) h
-            ((same-class-exactly ns limit ps a b d).0 (members-together ns group conditions-good i a b l p q))
+            chain-within (λ x y. Same ns m row x y) (same_equivalence ns m row) h
+            ((same_class_exactly ns limit ps a b d).0 (members_together ns group conditions-good i a b l p q))
 
     -- the number that the call answers has the expression's value
-    pub normal-form-keeps-value : Sound ns → (e i : ℕ) (ms : List Node) → normalizeExpr e ns group ≡ (Number i, ms) → value (expressionAt ms i) m row ≡ value (expressionAt ns e) m row
-    normal-form-keeps-value s e i ms q = normal-form-value e ns group i ms m row s conditions-good members-agree q
+    pub normal_form-keeps-value : Sound ns → (e i : ℕ) (ms : List Node) → normalize_expr e ns group ≡ (Number i, ms) → value (expression_at ms i) m row ≡ value (expression_at ns e) m row
+    normal_form-keeps-value s e i ms q = normal_form-value e ns group i ms m row s conditions-good members-agree q
 
     -- expressions with one normal form have one value
-    pub one-normal-form : Sound ns → (a b : ℕ) → normal ns group (expressionAt ns a) ≡ normal ns group (expressionAt ns b) → Same ns m row a b
-    one-normal-form s a b e = same-normal-form ns group m row s conditions-good members-agree (expressionAt ns a) (expressionAt ns b) e
+    pub one-normal_form : Sound ns → (a b : ℕ) → normal ns group (expression_at ns a) ≡ normal ns group (expression_at ns b) → Same ns m row a b
+    one-normal_form s a b e = same-normal_form ns group m row s conditions-good members-agree (expression_at ns a) (expression_at ns b) e
 
     -- two calls that answer one number, the second on what the first left or on any sound extension of it: one value
-    pub one_number : Sound ns → (a b i : ℕ) (ms os qs : List Node) → normalizeExpr a ns group ≡ (Number i, ms) → Sound os → Extends ms os → normalizeExpr b os group ≡ (Number i, qs) → Same os m row a b
-    one_number s a b i ms os qs q t y r = same-number-value a b ns group i ms os qs m row s conditions-good members-agree q t y r
+    pub one_number : Sound ns → (a b i : ℕ) (ms os qs : List Node) → normalize_expr a ns group ≡ (Number i, ms) → Sound os → Extends ms os → normalize_expr b os group ≡ (Number i, qs) → Same os m row a b
+    one_number s a b i ms os qs q t y r = same_number-value a b ns group i ms os qs m row s conditions-good members-agree q t y r

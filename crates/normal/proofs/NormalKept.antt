@@ -9,10 +9,10 @@ use lib.Dec.{ltb}
 use lib.ListN.{length}
 use Rattle.laws.specs.Tests.{if◌then◌else◌}
 use Rattle.arena.specs.Node.{Node}
-use Rattle.arena.specs.Expression.{Expression, expressionAt}
-use Rattle.arena.specs.Arena.{Sound, Extends, Placed, placed, full, addExpression}
+use Rattle.arena.specs.Expression.{Expression, expression_at}
+use Rattle.arena.specs.Arena.{Sound, Extends, Placed, placed, full, add_expression}
 use Rattle.arena.specs.Layout.{encode, lawful, decode as nodes}
-use Rattle.arena.specs.Calls.{answered, inCells, addedNumber}
+use Rattle.arena.specs.Calls.{answered, in_cells, added_number}
 use Rattle.arena.specs.declared.Added.TheVariants.{Number, Refused}
 use Rattle.arena.proofs.Nodes.{extends-none}
 use Rattle.arena.proofs.Growing.{add-expression}
@@ -20,13 +20,13 @@ use Rattle.arena.proofs.Layouts.{encode-holds, coded-cells, holds-lawful, lawful
 use Rattle.classes.specs.Class.{Class}
 use Rattle.classes.specs.Good.{Good}
 use Rattle.classes.specs.Layout.{decode}
-use Rattle.classes.specs.Calls.{groupNumber}
+use Rattle.classes.specs.Calls.{group_number}
 use Rattle.classes.specs.declared.Group.{Group}
 use Rattle.group_checks.proofs.HeldLaws.{number-lawful, number-fit}
 use Rattle.normal.specs.Normal.{normal}
-use Rattle.normal.specs.Calls.{onChecked, normalizeExpr, normalized}
+use Rattle.normal.specs.Calls.{on_checked, normalize_expr, normalized}
 use Rattle.normal.proofs.Calling.{checked-done, checked_refused}
-use Rattle.normal.proofs.NormalValue.{normal-form-small}
+use Rattle.normal.proofs.NormalValue.{normal_form-small}
 
 -- a call on a sound arena, by the number of its answer: the arena stays sound, old nodes keep number and content, a refusal leaves it as it was
 pub record Kept {A : Type 0} (number : A → ℕ) (ns : List Node) (o : A × List Node) : Type 0 where
@@ -44,58 +44,58 @@ module _ {A : Type 0} (number : A → ℕ) (a : A) (ns : List Node) where
   kept-done z ms s x = record { sound = s; extends = x; refused = λ h. absurd (h z) }
 
 -- the normal form of an expression keeps the arena
-pub form-kept : (e : ℕ) (ns : List Node) (cs : List Class) → Sound ns → Good ns cs → Kept addedNumber ns (normalizeExpr e ns cs)
-unfolding normalizeExpr answered
-form-kept e ns cs s g = go (ltb e (length ns)) refl (addExpression x ns) refl
+pub form-kept : (e : ℕ) (ns : List Node) (cs : List Class) → Sound ns → Good ns cs → Kept added_number ns (normalize_expr e ns cs)
+unfolding normalize_expr answered
+form-kept e ns cs s g = go (ltb e (length ns)) refl (add_expression x ns) refl
   where
     x : Expression
-    x = normal ns cs (expressionAt ns e)
+    x = normal ns cs (expression_at ns e)
 
-    go : (b : Bool) → ltb e (length ns) ≡ b → (p : Placed ℕ) → addExpression x ns ≡ p → Kept addedNumber ns (if b then answered ns p else (Refused 1, ns))
+    go : (b : Bool) → ltb e (length ns) ≡ b → (p : Placed ℕ) → add_expression x ns ≡ p → Kept added_number ns (if b then answered ns p else (Refused 1, ns))
     go true t (placed i ms) q =
-        let m = add-expression x ns s (normal-form-small e ns cs s g (ltb-true e (length ns) t)) i ms q in
-        kept-done addedNumber (Number i) ns refl ms m.sound m.extends
-    go true t full q = kept-none addedNumber (Refused 3) ns s
-    go false t p q = kept-none addedNumber (Refused 1) ns s
+        let m = add-expression x ns s (normal_form-small e ns cs s g (ltb-true e (length ns) t)) i ms q in
+        kept-done added_number (Number i) ns refl ms m.sound m.extends
+    go true t full q = kept-none added_number (Refused 3) ns s
+    go false t p q = kept-none added_number (Refused 1) ns s
 
 -- a call on lent cells and a lent group, after the check's number
-module _ {A : Type 0} (number_of : A → ℕ) (number : ℕ) (refusedBy : ℕ → A) (call : List Node → List Class → A × List Node) (cells : List ℕ) (g : Group)
-    (passed : number ≡ 0 → groupNumber cells g ≡ 0) (keeps : Sound (nodes cells) → Good (nodes cells) (decode g) → Kept number_of (nodes cells) (call (nodes cells) (decode g))) where
+module _ {A : Type 0} (number_of : A → ℕ) (number : ℕ) (refused_by : ℕ → A) (call : List Node → List Class → A × List Node) (cells : List ℕ) (g : Group)
+    (passed : number ≡ 0 → group_number cells g ≡ 0) (keeps : Sound (nodes cells) → Good (nodes cells) (decode g) → Kept number_of (nodes cells) (call (nodes cells) (decode g))) where
   -- where the check passed, the call keeps the arena
   checked-kept : number ≡ 0 → Kept number_of (nodes cells) (call (nodes cells) (decode g))
   checked-kept z = keeps (lawful-holds cells (number-lawful cells g (passed z))).sound (number-fit cells g (passed z)).good
 
   -- a refusal leaves every cell as it was
-  pub checked-refusal : (number_of (onChecked number refusedBy call cells g).0 ≡ 0 → ⊥) → (onChecked number refusedBy call cells g).1 ≡ cells
-  unfolding inCells
+  pub checked-refusal : (number_of (on_checked number refused_by call cells g).0 ≡ 0 → ⊥) → (on_checked number refused_by call cells g).1 ≡ cells
+  unfolding in_cells
   checked-refusal q = go (ℕ_discrete number 0)
     where
-      go : Dec (number ≡ 0) → (onChecked number refusedBy call cells g).1 ≡ cells
+      go : Dec (number ≡ 0) → (on_checked number refused_by call cells g).1 ≡ cells
       go (yes z) =
-          let o = checked-done number refusedBy call cells g z in
+          let o = checked-done number refused_by call cells g z in
           ap (λ (r : A × List ℕ). r.1) o
           ∙ ap encode ((checked-kept z).refused (λ w. q (ap (λ (r : A × List ℕ). number_of r.0) o ∙ w)))
           ∙ coded-cells cells (lawful-holds cells (number-lawful cells g (passed z)))
-      go (no z) = sym (ap (λ (r : A × List ℕ). r.1) (checked_refused number refusedBy call cells g z))
+      go (no z) = sym (ap (λ (r : A × List ℕ). r.1) (checked_refused number refused_by call cells g z))
 
   -- cells that are an arena stay one, done or refused
-  pub checked-lawful : lawful cells ≡ true → lawful (onChecked number refusedBy call cells g).1 ≡ true
-  unfolding inCells
+  pub checked-lawful : lawful cells ≡ true → lawful (on_checked number refused_by call cells g).1 ≡ true
+  unfolding in_cells
   checked-lawful l = go (ℕ_discrete number 0)
     where
-      go : Dec (number ≡ 0) → lawful (onChecked number refusedBy call cells g).1 ≡ true
+      go : Dec (number ≡ 0) → lawful (on_checked number refused_by call cells g).1 ≡ true
       go (yes z) =
-          ap (λ (r : A × List ℕ). lawful r.1) (checked-done number refusedBy call cells g z)
+          ap (λ (r : A × List ℕ). lawful r.1) (checked-done number refused_by call cells g z)
           ∙ holds-lawful (encode (call (nodes cells) (decode g)).1) (encode-holds (call (nodes cells) (decode g)).1 (checked-kept z).sound)
-      go (no z) = ap (λ (r : A × List ℕ). lawful r.1) (sym (checked_refused number refusedBy call cells g z)) ∙ l
+      go (no z) = ap (λ (r : A × List ℕ). lawful r.1) (sym (checked_refused number refused_by call cells g z)) ∙ l
 
 module _ (cells : List ℕ) (g : Group) where
   -- a refusal of a normal form leaves every cell as it was
-  pub form-refused : (e : ℕ) → (addedNumber (normalized e cells g).0 ≡ 0 → ⊥) → (normalized e cells g).1 ≡ cells
+  pub form-refused : (e : ℕ) → (added_number (normalized e cells g).0 ≡ 0 → ⊥) → (normalized e cells g).1 ≡ cells
   form-refused e =
-      checked-refusal addedNumber (groupNumber cells g) Refused (normalizeExpr e) cells g (λ z. z) (form-kept e (nodes cells) (decode g))
+      checked-refusal added_number (group_number cells g) Refused (normalize_expr e) cells g (λ z. z) (form-kept e (nodes cells) (decode g))
 
   -- and an arena stays one
   pub form-lawful : (e : ℕ) → lawful cells ≡ true → lawful (normalized e cells g).1 ≡ true
   form-lawful e =
-      checked-lawful addedNumber (groupNumber cells g) Refused (normalizeExpr e) cells g (λ z. z) (form-kept e (nodes cells) (decode g))
+      checked-lawful added_number (group_number cells g) Refused (normalize_expr e) cells g (λ z. z) (form-kept e (nodes cells) (decode g))

@@ -6,11 +6,11 @@ use mathlib.Core.Path.{◌≡◌, refl, sym, ap, ◌∙◌, subst}
 use native.Mathlib.Omega.{arith}
 use lib.ListN.{length, get_or, set, take, drop, take-append-drop}
 use lib.Seq.{length-take-le, take-append-le}
-use Rattle.arena.specs.Node.{Node, operation, nodeAt, childNumbers}
-use Rattle.arena.specs.Expression.{Expression, Expressions, op, those, over, expressions, expressionAt}
-use Rattle.arena.specs.Arena.{Allowed, Sound, Extends, Small, AllSmall, full, and_then, add, addExpression}
-use Rattle.arena.specs.Layout.{row, count, rowOf, node_of, childrenOf, decode}
-use Rattle.arena.specs.Inner.{Holds, Known, Placeable, told, Grew, Memo, noted, Walked, mapAll, toldAll, WalkedAll}
+use Rattle.arena.specs.Node.{Node, operation, node_at, child_numbers}
+use Rattle.arena.specs.Expression.{Expression, Expressions, op, those, over, expressions, expression_at}
+use Rattle.arena.specs.Arena.{Allowed, Sound, Extends, Small, AllSmall, full, and_then, add, add_expression}
+use Rattle.arena.specs.Layout.{row, count, row_of, node_of, children_of, decode}
+use Rattle.arena.specs.Inner.{Holds, Known, Placeable, told, Grew, Memo, noted, Walked, map_all, told_all, WalkedAll}
 use Rattle.arena.specs.declared.Added.{Added}
 use Rattle.arena.specs.declared.Added.TheVariants.{Number, Refused}
 use Rattle.arena.proofs.Nodes.{extends-none, extends-both, extends-longer}
@@ -19,10 +19,10 @@ use Rattle.arena.proofs.Rows.{node_row}
 use Rattle.arena.proofs.Trees.{expression-is, expression-small}
 use Rattle.arena.proofs.Growing.{AddedExpressions, add-expressions}
 use Rattle.arena.proofs.Layouts.{length-decode, node-decode}
-use Rattle.arena.proofs.Walking.{PlacedRow, Through, memo-kept, memo-answers, memo-noted, grew-number, through-begins, through-child, through-more, through-fails}
-use Rattle.normal.specs.Normal.{replaced, normalBy}
+use Rattle.arena.proofs.Walking.{PlacedRow, Through, memo-kept, memo-answers, memo-noted, grew-number, through-begins, through-child, through-more, through_fails}
+use Rattle.normal.specs.Normal.{replaced, normal_by}
 use Rattle.normal.specs.Inner.{replacement, olds, rewriting, Ready, ReadyAll}
-use Rattle.normal.proofs.Rewriting.{sound-before, normal-small, operation-small, operation-is, leaf-added, rewritten-full, rewritten-added}
+use Rattle.normal.proofs.Rewriting.{sound-before, normal-small, operation-small, operation-is, leaf_added, rewritten-full, rewritten-added}
 
 module _ (old : ℕ) (s : List ℕ) (l : old ≤ count s) where
   long : old ≤ length (decode s)
@@ -42,7 +42,7 @@ module _ (old : ℕ) (s : List ℕ) (l : old ≤ count s) where
 
   -- and so does the rewriting
   pub same-rewriting : (firsts t : List ℕ) → Extends (decode s) (decode t) → ◌≡◌ {A = Expression → Expression} (rewriting old firsts t) (rewriting old firsts s)
-  same-rewriting firsts t x = ap {B = Expression → Expression} (λ (ns : List Node) (y : Expression). normalBy ns (λ e. get_or firsts e 0) y) (same-olds t x)
+  same-rewriting firsts t x = ap {B = Expression → Expression} (λ (ns : List Node) (y : Expression). normal_by ns (λ e. get_or firsts e 0) y) (same-olds t x)
 
   -- what was walked after nodes were added was walked by the same rewriting
   pub same-walked : (firsts t u memo : List ℕ) (e : ℕ) (a : Added) → Extends (decode s) (decode t) → Walked (rewriting old firsts t) t u memo e a → Walked (rewriting old firsts s) t u memo e a
@@ -68,23 +68,23 @@ module _ (old : ℕ) (firsts s memo : List ℕ) (e : ℕ) (d : Ready old firsts 
   inside-olds : (k : ℕ) → k < length (olds old s) → get_or firsts k 0 < length (olds old s)
   inside-olds k l = omega (arith, counted, d.inside k (omega (arith, counted)))
 
-  small : Small (expressionAt (decode s) e)
+  small : Small (expression_at (decode s) e)
   small = expression-small (decode s) sound e ready-below
 
   -- an arena can hold the rewritten expression
-  pub ready-small : Small (rewriting old firsts s (expressionAt (decode s) e))
-  ready-small = normal-small (olds old s) (λ k. get_or firsts k 0) (sound-before extended sound) inside-olds (expressionAt (decode s) e) small
+  pub ready-small : Small (rewriting old firsts s (expression_at (decode s) e))
+  ready-small = normal-small (olds old s) (λ k. get_or firsts k 0) (sound-before extended sound) inside-olds (expression_at (decode s) e) small
 
   -- the memo has an entry for node e
   pub memo-hit : (get_or memo e 0 ≡ 0 → ⊥) → Walked (rewriting old firsts s) s s memo e (Number (get_or memo e 0 - 1))
-  memo-hit h = memo-answers (rewriting old firsts s) s memo e d.holds d.memo-true h
+  memo-hit h = memo-answers (rewriting old firsts s) s memo e d.holds d.memo_true h
 
   module _ (t memo₂ : List ℕ) (a : Added) (w : Walked (rewriting old firsts s) s t memo₂ e a) where
     -- a number that is answered is one of the arena
     pub answer-small : (i : ℕ) → a ≡ Number i → i < 1024
     answer-small i q =
-        let g : Grew (rewriting old firsts s (expressionAt (decode s) e)) s t (Number i) = subst (Grew (rewriting old firsts s (expressionAt (decode s) e)) s t) q w.grew in
-        let n = grew-number (rewriting old firsts s) (rewriting old firsts s (expressionAt (decode s) e)) s t i d.holds ready-small g in
+        let g : Grew (rewriting old firsts s (expression_at (decode s) e)) s t (Number i) = subst (Grew (rewriting old firsts s (expression_at (decode s) e)) s t) q w.grew in
+        let n = grew-number (rewriting old firsts s) (rewriting old firsts s (expression_at (decode s) e)) s t i d.holds ready-small g in
         omega (arith, n.0, length-decode t, w.grew.holds.few)
 
     -- and it is noted
@@ -92,7 +92,7 @@ module _ (old : ℕ) (firsts s memo : List ℕ) (e : ℕ) (d : Ready old firsts 
     answer-noted = memo-noted (rewriting old firsts s) s t memo₂ e a d.holds ready-below ready-small w
 
   -- a node without children: what replaces it is there
-  pub leaf_walked : length (childNumbers (nodeAt (decode s) e)) ≡ 0 → Walked (rewriting old firsts s) s s memo e (Number (replacement old firsts e))
+  pub leaf_walked : length (child_numbers (node_at (decode s) e)) ≡ 0 → Walked (rewriting old firsts s) s s memo e (Number (replacement old firsts e))
   unfolding told
   leaf_walked q =
       record {
@@ -100,17 +100,17 @@ module _ (old : ℕ) (firsts s memo : List ℕ) (e : ℕ) (d : Ready old firsts 
             record {
               holds = d.holds;
               extends = extends-none (decode s);
-              is = sym (leaf-added (olds old s) (decode s) firsts old extended sound counted d.inside e d.below q);
+              is = sym (leaf_added (olds old s) (decode s) firsts old extended sound counted d.inside e d.below q);
             };
-        memo-true = d.memo-true;
+        memo_true = d.memo_true;
       }
 
   -- the children of another are walked
-  pub ready-all : (length (childNumbers (nodeAt (decode s) e)) ≡ 0 → ⊥) → (r : List ℕ) → r ≡ rowOf s e → ReadyAll old firsts s memo r e
-  unfolding childNumbers
+  pub ready-all : (length (child_numbers (node_at (decode s) e)) ≡ 0 → ⊥) → (r : List ℕ) → r ≡ row_of s e → ReadyAll old firsts s memo r e
+  unfolding child_numbers
   ready-all h r q =
-      let n : nodeAt (decode s) e ≡ node_of (rowOf s e) = node-decode s e ready-known.below in
-      let o : node_of (rowOf s e) ≡ operation (get_or (rowOf s e) 1 0) (childrenOf (rowOf s e)) = node-operation (rowOf s e) (λ w. h (ap (λ (m : Node). length (childNumbers m)) (n ∙ node-column (rowOf s e) w))) (λ w. h (ap (λ (m : Node). length (childNumbers m)) (n ∙ node-literal (rowOf s e) w))) in
+      let n : node_at (decode s) e ≡ node_of (row_of s e) = node-decode s e ready-known.below in
+      let o : node_of (row_of s e) ≡ operation (get_or (row_of s e) 1 0) (children_of (row_of s e)) = node-operation (row_of s e) (λ w. h (ap (λ (m : Node). length (child_numbers m)) (n ∙ node-column (row_of s e) w))) (λ w. h (ap (λ (m : Node). length (child_numbers m)) (n ∙ node-literal (row_of s e) w))) in
       record {
         ready = d;
         node = rw q (n ∙ o);
@@ -118,78 +118,78 @@ module _ (old : ℕ) (firsts s memo : List ℕ) (e : ℕ) (d : Ready old firsts 
       }
 
 module _ (old : ℕ) (firsts s memo r : List ℕ) (e : ℕ) (d : ReadyAll old firsts s memo r e) where
-  children-allowed : (length (childrenOf r) ≤ 8) × ((k : ℕ) → k < length (childrenOf r) → get_or (childrenOf r) k 0 < e)
+  children-allowed : (length (children_of r) ≤ 8) × ((k : ℕ) → k < length (children_of r) → get_or (children_of r) k 0 < e)
   unfolding Allowed
   children-allowed = subst (Allowed e) d.node (d.ready.holds.sound.allowed e (ready-below old firsts s memo e d.ready))
 
   -- at most 8 children
-  pub children-eight : length (childrenOf r) ≤ 8
-  children-eight = children-allowed.0
+  pub children_eight : length (children_of r) ≤ 8
+  children_eight = children-allowed.0
 
   -- a child is lower
-  child-lower : (k : ℕ) → k < length (childrenOf r) → get_or (childrenOf r) k 0 < e
+  child-lower : (k : ℕ) → k < length (children_of r) → get_or (children_of r) k 0 < e
   child-lower = children-allowed.1
 
   -- so it is in the arena
-  child-known : (k : ℕ) → k < length (childrenOf r) → get_or (childrenOf r) k 0 < length (decode s)
+  child-known : (k : ℕ) → k < length (children_of r) → get_or (children_of r) k 0 < length (decode s)
   child-known k l = omega (arith, child-lower k l, ready-below old firsts s memo e d.ready)
 
   -- the loop over the children can begin
-  pub loop-begins : Through (rewriting old firsts s) s s memo r r 0
-  loop-begins = through-begins (rewriting old firsts s) s r memo d.ready.holds d.ready.memo-true d.row_is
+  pub loop_begins : Through (rewriting old firsts s) s s memo r r 0
+  loop_begins = through-begins (rewriting old firsts s) s r memo d.ready.holds d.ready.memo_true d.row_is
 
   -- it has come to child k
-  module _ (t memo₂ r' : List ℕ) (k : ℕ) (h : Through (rewriting old firsts s) s t memo₂ r r' k) (l : k < length (childrenOf r)) where
-    child : get_or r' (3 + k) 0 ≡ get_or (childrenOf r) k 0
+  module _ (t memo₂ r' : List ℕ) (k : ℕ) (h : Through (rewriting old firsts s) s t memo₂ r r' k) (l : k < length (children_of r)) where
+    child : get_or r' (3 + k) 0 ≡ get_or (children_of r) k 0
     child = through-child (rewriting old firsts s) s r t memo₂ r' k h l
 
     -- which is lower
-    pub loop-lower : get_or r' (3 + k) 0 < e
-    loop-lower = omega (arith, child, child-lower k l)
+    pub loop_lower : get_or r' (3 + k) 0 < e
+    loop_lower = omega (arith, child, child-lower k l)
 
     -- and can be walked
-    pub loop-ready : Ready old firsts t memo₂ (get_or r' (3 + k) 0)
-    loop-ready =
+    pub loop_ready : Ready old firsts t memo₂ (get_or r' (3 + k) 0)
+    loop_ready =
         record {
           holds = h.holds;
           there = omega (arith, d.ready.there, length-decode s, length-decode t, extends-longer h.extends);
           inside = d.ready.inside;
-          below = omega (arith, loop-lower, d.ready.below);
-          memo-true = subst (λ (F : Expression → Expression). Memo F (decode t) memo₂) (sym (same-rewriting old s d.ready.there firsts t h.extends)) h.memo-true;
+          below = omega (arith, loop_lower, d.ready.below);
+          memo_true = subst (λ (F : Expression → Expression). Memo F (decode t) memo₂) (sym (same-rewriting old s d.ready.there firsts t h.extends)) h.memo_true;
         }
 
     module _ (u memo₃ : List ℕ) (a : Added) (w : Walked (rewriting old firsts t) t u memo₃ (get_or r' (3 + k) 0) a) where
       -- it was, by the same rewriting
-      walked : (b : Added) → a ≡ b → Walked (rewriting old firsts s) t u memo₃ (get_or (childrenOf r) k 0) b
+      walked : (b : Added) → a ≡ b → Walked (rewriting old firsts s) t u memo₃ (get_or (children_of r) k 0) b
       walked b q =
           let v : Walked (rewriting old firsts s) t u memo₃ (get_or r' (3 + k) 0) b = same-walked old s d.ready.there firsts t u memo₃ (get_or r' (3 + k) 0) b h.extends (subst (Walked (rewriting old firsts t) t u memo₃ (get_or r' (3 + k) 0)) q w) in
           subst (λ (c : ℕ). Walked (rewriting old firsts s) t u memo₃ c b) child v
 
       -- and has a number
-      pub loop-more : (i : ℕ) → a ≡ Number i → Through (rewriting old firsts s) s u memo₃ r (set r' (3 + k) i) (k + 1)
-      loop-more i q = through-more (rewriting old firsts s) s r t memo₂ r' k h l u memo₃ (child-known k l) i (walked (Number i) q)
+      pub loop_more : (i : ℕ) → a ≡ Number i → Through (rewriting old firsts s) s u memo₃ r (set r' (3 + k) i) (k + 1)
+      loop_more i q = through-more (rewriting old firsts s) s r t memo₂ r' k h l u memo₃ (child-known k l) i (walked (Number i) q)
 
       -- or there was no room
-      pub loop-fails : (j : ℕ) → a ≡ Refused j → WalkedAll (rewriting old firsts s) s u memo₃ r r' false
-      loop-fails j q = through-fails (rewriting old firsts s) s r t memo₂ r' k h l u memo₃ (child-known k l) j (walked (Refused j) q)
+      pub loop_fails : (j : ℕ) → a ≡ Refused j → WalkedAll (rewriting old firsts s) s u memo₃ r r' false
+      loop_fails j q = through_fails (rewriting old firsts s) s r t memo₂ r' k h l u memo₃ (child-known k l) j (walked (Refused j) q)
 
   -- the children, and what is made of them
   abbrev children : Expressions
-  children = those (expressions (decode s)) (childrenOf r)
+  children = those (expressions (decode s)) (children_of r)
 
   abbrev made : Expressions
-  made = mapAll (rewriting old firsts s) children
+  made = map_all (rewriting old firsts s) children
 
   -- the operation over that
   abbrev rewritten : Expression
   rewritten = op (get_or r 1 0) made
 
-  expression : expressionAt (decode s) e ≡ op (get_or r 1 0) children
+  expression : expression_at (decode s) e ≡ op (get_or r 1 0) children
   unfolding over
   expression = expression-is (decode s) d.ready.holds.sound e (ready-below old firsts s memo e d.ready) ∙ ap (over (expressions (decode s))) d.node
 
   -- it is looked up
-  rewriting-is : rewriting old firsts s (expressionAt (decode s) e) ≡ replaced (olds old s) (λ k. get_or firsts k 0) rewritten
+  rewriting-is : rewriting old firsts s (expression_at (decode s) e) ≡ replaced (olds old s) (λ k. get_or firsts k 0) rewritten
   rewriting-is = ap (rewriting old firsts s) expression ∙ operation-is (olds old s) (λ k. get_or firsts k 0) (get_or r 1 0) children
 
   rewritten-small : Small rewritten
@@ -198,7 +198,7 @@ module _ (old : ℕ) (firsts s memo r : List ℕ) (e : ℕ) (d : ReadyAll old fi
       (subst Small expression (small old firsts s memo e d.ready))
 
   -- no room for it
-  refused-walked : (t memo₂ : List ℕ) → Holds t → Extends (decode s) (decode t) → Memo (rewriting old firsts s) (decode t) memo₂ → addExpression rewritten (decode s) ≡ full → (k : ℕ) → Walked (rewriting old firsts s) s t memo₂ e (Refused k)
+  refused-walked : (t memo₂ : List ℕ) → Holds t → Extends (decode s) (decode t) → Memo (rewriting old firsts s) (decode t) memo₂ → add_expression rewritten (decode s) ≡ full → (k : ℕ) → Walked (rewriting old firsts s) s t memo₂ e (Refused k)
   unfolding told
   refused-walked t memo₂ h x m q k =
       record {
@@ -206,49 +206,49 @@ module _ (old : ℕ) (firsts s memo r : List ℕ) (e : ℕ) (d : ReadyAll old fi
             record {
               holds = h;
               extends = x;
-              is = sym (ap (λ (y : Expression). addExpression y (decode s)) rewriting-is ∙ rewritten-full (olds old s) (decode s) firsts old (extended old firsts s memo e d.ready) d.ready.holds.sound (counted old firsts s memo e d.ready) d.ready.inside rewritten q);
+              is = sym (ap (λ (y : Expression). add_expression y (decode s)) rewriting-is ∙ rewritten-full (olds old s) (decode s) firsts old (extended old firsts s memo e d.ready) d.ready.holds.sound (counted old firsts s memo e d.ready) d.ready.inside rewritten q);
             };
-        memo-true = m;
+        memo_true = m;
       }
 
   module _ (t memo₂ r' : List ℕ) where
     -- no room for the children: no room for the expression
     pub children-full : WalkedAll (rewriting old firsts s) s t memo₂ r r' false → (k : ℕ) → Walked (rewriting old firsts s) s t memo₂ e (Refused k)
-    unfolding toldAll addExpression and_then
-    children-full w k = refused-walked t memo₂ w.holds w.extends w.memo-true (rw (← w.is)) k
+    unfolding told_all add_expression and_then
+    children-full w k = refused-walked t memo₂ w.holds w.extends w.memo_true (rw (← w.is)) k
 
     module _ (w : WalkedAll (rewriting old firsts s) s t memo₂ r r' true) where
       all_small : AllSmall made
       unfolding Small
       all_small = rewritten-small.1
 
-      added : AddedExpressions made (decode s) (childrenOf r') (decode t)
-      unfolding toldAll
-      added = add-expressions made (decode s) d.ready.holds.sound all_small (childrenOf r') (decode t) (sym w.is)
+      added : AddedExpressions made (decode s) (children_of r') (decode t)
+      unfolding told_all
+      added = add-expressions made (decode s) d.ready.holds.sound all_small (children_of r') (decode t) (sym w.is)
 
-      allowed : Allowed (count t) (operation (get_or r 1 0) (childrenOf r'))
+      allowed : Allowed (count t) (operation (get_or r 1 0) (children_of r'))
       unfolding Allowed Small
       allowed =
-          let c : length (childrenOf r') ≤ 8 = rw added.counted rewritten-small.0 in
+          let c : length (children_of r') ≤ 8 = rw added.counted rewritten-small.0 in
           (c, λ k l. rw (length-decode t) at (added.below k l))
 
-      node : node_of r' ≡ operation (get_or r 1 0) (childrenOf r')
-      node = ap node_of (w.row_is refl) ∙ node_row (count t) (operation (get_or r 1 0) (childrenOf r')) allowed
+      node : node_of r' ≡ operation (get_or r 1 0) (children_of r')
+      node = ap node_of (w.row_is refl) ∙ node_row (count t) (operation (get_or r 1 0) (children_of r')) allowed
 
       -- the operation over the rewritten children can be placed
       pub operation-placeable : Placeable t r'
       operation-placeable = record { holds = w.holds; coded = ap row node ∙ sym (w.row_is refl); allowed = subst (Allowed (count t)) (sym node) allowed }
 
       -- placing it adds the rewritten expression
-      placing-is : addExpression rewritten (decode s) ≡ add (node_of r') (decode t)
-      unfolding toldAll addExpression and_then
-      placing-is = rw (← w.is, node)
+      placing_is : add_expression rewritten (decode s) ≡ add (node_of r') (decode t)
+      unfolding told_all add_expression and_then
+      placing_is = rw (← w.is, node)
 
       -- there was no room
       pub operation-full : (u : List ℕ) (j : ℕ) → PlacedRow r' t u (Refused j) → (k : ℕ) → Walked (rewriting old firsts s) s u memo₂ e (Refused k)
       unfolding told
       operation-full u j p k =
-          refused-walked u memo₂ p.holds (extends-both w.extends p.extends) (memo-kept (rewriting old firsts s) memo₂ p.extends w.memo-true) (placing-is ∙ sym p.is) k
+          refused-walked u memo₂ p.holds (extends-both w.extends p.extends) (memo-kept (rewriting old firsts s) memo₂ p.extends w.memo_true) (placing_is ∙ sym p.is) k
 
       -- it has a number, and what replaces that is the answer
       pub operation-walked : (u : List ℕ) (i : ℕ) → PlacedRow r' t u (Number i) → Walked (rewriting old firsts s) s u memo₂ e (Number (replacement old firsts i))
@@ -259,7 +259,7 @@ module _ (old : ℕ) (firsts s memo r : List ℕ) (e : ℕ) (d : ReadyAll old fi
                 record {
                   holds = p.holds;
                   extends = extends-both w.extends p.extends;
-                  is = sym (ap (λ (y : Expression). addExpression y (decode s)) rewriting-is ∙ rewritten-added (olds old s) (decode s) firsts old (extended old firsts s memo e d.ready) d.ready.holds.sound (counted old firsts s memo e d.ready) d.ready.inside rewritten rewritten-small i (decode u) (placing-is ∙ sym p.is));
+                  is = sym (ap (λ (y : Expression). add_expression y (decode s)) rewriting-is ∙ rewritten-added (olds old s) (decode s) firsts old (extended old firsts s memo e d.ready) d.ready.holds.sound (counted old firsts s memo e d.ready) d.ready.inside rewritten rewritten-small i (decode u) (placing_is ∙ sym p.is));
                 };
-            memo-true = memo-kept (rewriting old firsts s) memo₂ p.extends w.memo-true;
+            memo_true = memo-kept (rewriting old firsts s) memo₂ p.extends w.memo_true;
           }

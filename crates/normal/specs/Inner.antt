@@ -1,14 +1,14 @@
 -- What the inner functions ask and promise each other. The public contracts (Calls) cite nothing of this file.
 use Rattle.std.specs.Prelude.{ℕ, ◌<◌, ◌≤◌, List, ◌≡◌, ltb, get_or, take}
 use Rattle.laws.specs.Tests.{if◌then◌else◌}
-use Rattle.arena.specs.Node.{Node, operation, nodeAt}
+use Rattle.arena.specs.Node.{Node, operation, node_at}
 use Rattle.arena.specs.Expression.{Expression}
-use Rattle.arena.specs.Layout.{count, childrenOf, decode}
-use Rattle.arena.specs.Inner.{Holds, Memo, is_refused, operationRow}
+use Rattle.arena.specs.Layout.{count, children_of, decode}
+use Rattle.arena.specs.Inner.{Holds, Memo, is_refused, operation_row}
 use Rattle.arena.specs.declared.Added.{Added}
 use Rattle.arena.specs.declared.Added.TheVariants.{Refused}
 use Rattle.classes.specs.Class.{Class}
-use Rattle.normal.specs.Normal.{first_of, normalBy}
+use Rattle.normal.specs.Normal.{first_of, normal_by}
 
 -- a table holds what replaces each of the first n numbers
 abbrev pub Firsts : List Class → ℕ → List ℕ → Type 0
@@ -24,7 +24,7 @@ olds old s = take old (decode s)
 
 -- the rewriting that the walk does: the normal form over the nodes that were there before it
 abbrev pub rewriting : ℕ → List ℕ → List ℕ → Expression → Expression
-rewriting old firsts s x = normalBy (olds old s) (λ e. get_or firsts e 0) x
+rewriting old firsts s x = normal_by (olds old s) (λ e. get_or firsts e 0) x
 
 -- what the walk asks at node e
 pub record Ready (old : ℕ) (firsts s memo : List ℕ) (e : ℕ) : Type 0 where
@@ -32,14 +32,14 @@ pub record Ready (old : ℕ) (firsts s memo : List ℕ) (e : ℕ) : Type 0 where
   pub there : old ≤ count s
   pub inside : (k : ℕ) → k < old → get_or firsts k 0 < old
   pub below : e < old
-  pub memo-true : Memo (rewriting old firsts s) (decode s) memo
+  pub memo_true : Memo (rewriting old firsts s) (decode s) memo
 
 -- what the walk over the children of node e asks: node e is an operation, and r its row
 pub record ReadyAll (old : ℕ) (firsts s memo r : List ℕ) (e : ℕ) : Type 0 where
   pub ready : Ready old firsts s memo e
-  pub node : nodeAt (decode s) e ≡ operation (get_or r 1 0) (childrenOf r)
-  pub row_is : r ≡ operationRow r (childrenOf r)
+  pub node : node_at (decode s) e ≡ operation (get_or r 1 0) (children_of r)
+  pub row_is : r ≡ operation_row r (children_of r)
 
 -- what the caller is told of a walk from the cells s to the cells t: its answer; or, where there was no room, 3 and the cells as they were
-unfoldable pub settledBy : List ℕ → List ℕ → Added → Added × List ℕ
-settledBy s t answer = if is_refused answer then (Refused 3, s) else (answer, t)
+unfoldable pub settled_by : List ℕ → List ℕ → Added → Added × List ℕ
+settled_by s t answer = if is_refused answer then (Refused 3, s) else (answer, t)

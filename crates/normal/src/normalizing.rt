@@ -1,16 +1,16 @@
 // The walk of the normal form, by recursion on the node number, over an arena and a group that are checked already.
 // Each operation is entered once: what was answered stands in the memo.
 ghost use Rattle.std.specs.Prelude.{◌≡◌, ◌<◌, ◌≤◌, ◌+◌, ◌*◌, length};
-ghost use Rattle.arena.specs.Node.{nodeAt, childNumbers};
-ghost use Rattle.arena.specs.Expression.{expressionAt};
-ghost use Rattle.arena.specs.Arena.{addExpression};
+ghost use Rattle.arena.specs.Node.{node_at, child_numbers};
+ghost use Rattle.arena.specs.Expression.{expression_at};
+ghost use Rattle.arena.specs.Arena.{add_expression};
 ghost use Rattle.arena.specs.Layout.{decode as nodes};
-ghost use Rattle.arena.specs.Calls.{answered, inCells};
+ghost use Rattle.arena.specs.Calls.{answered, in_cells};
 ghost use Rattle.arena.specs.Inner.{Known, Walked, WalkedAll};
 ghost use Rattle.classes.specs.Layout.{decode};
 ghost use Rattle.classes.specs.Inner.{Held};
 ghost use Rattle.normal.specs.Normal.{normal};
-ghost use Rattle.normal.specs.Inner.{Ready, ReadyAll, rewriting, replacement as replacementBy, settledBy};
+ghost use Rattle.normal.specs.Inner.{Ready, ReadyAll, rewriting, replacement as replacement_by, settled_by};
 
 use crate::table::class_firsts;
 use arena::Added;
@@ -23,7 +23,7 @@ use classes::Group;
 // What replaces a node: the table's entry for one of the old nodes; a node that was added is in no class.
 fn replacement(firsts: &[u32; 1024], old: usize, i: u32) -> u32
     requires { old ≤ 1024 }
-    ensures { result ≡ replacementBy old firsts.now i }
+    ensures { result ≡ replacement_by old firsts.now i }
 {
     let e = wide(i);
     if e < old { firsts[e] } else { i }
@@ -64,7 +64,7 @@ fn normalize_operation(
     expr: u32,
     old: usize,
 ) -> Added
-    requires { Ready old firsts.now cells.old memo.old expr × (0 < length (childNumbers (nodeAt (nodes cells.old) expr))) }
+    requires { Ready old firsts.now cells.old memo.old expr × (0 < length (child_numbers (node_at (nodes cells.old) expr))) }
     ensures { Walked (rewriting old firsts.now cells.old) cells.old cells.new memo.new expr result }
 {
     let mut row = row_of(cells, wide(expr));
@@ -106,7 +106,7 @@ pub fn normalize(
 
 // What the caller is told of a walk: where it found no room 3, and every cell is as it was saved.
 fn settled(cells: &mut [u32; 11265], saved: &[u32; 11265], answer: Added) -> Added
-    ensures { (result, cells.new) ≡ settledBy saved.now cells.old answer }
+    ensures { (result, cells.new) ≡ settled_by saved.now cells.old answer }
 {
     if refused(answer) {
         *cells = *saved;
@@ -118,7 +118,7 @@ fn settled(cells: &mut [u32; 11265], saved: &[u32; 11265], answer: Added) -> Add
 // The normal form of an expression: 3 where its missing nodes don't fit, and then every cell is as it was.
 pub fn normalize_in(cells: &mut [u32; 11265], g: Group, expr: u32) -> Added
     requires { Known cells.old expr × Held (nodes cells.old) g }
-    ensures { (result, cells.new) ≡ inCells (answered (nodes cells.old) (addExpression (normal (nodes cells.old) (decode g) (expressionAt (nodes cells.old) expr)) (nodes cells.old))) }
+    ensures { (result, cells.new) ≡ in_cells (answered (nodes cells.old) (add_expression (normal (nodes cells.old) (decode g) (expression_at (nodes cells.old) expr)) (nodes cells.old))) }
 {
     let old = node_count(cells);
     let firsts = class_firsts(g, old);

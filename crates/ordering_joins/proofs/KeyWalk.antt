@@ -6,9 +6,9 @@ use mathlib.Core.Path.{◌≡◌, refl, sym, ap, ◌∙◌, subst}
 use native.Mathlib.Omega.{arith}
 use lib.ListN.{length, get_or, drop, length-append}
 use Rattle.arena.specs.Node.{Node}
-use Rattle.arena.specs.Expression.{Expression, expressionAt}
-use Rattle.arena.specs.Arena.{Extends, Placed, placed, full, and_then, addExpression}
-use Rattle.shifting.specs.Shift.{canMove}
+use Rattle.arena.specs.Expression.{Expression, expression_at}
+use Rattle.arena.specs.Arena.{Extends, Placed, placed, full, and_then, add_expression}
+use Rattle.shifting.specs.Shift.{can_move}
 use Rattle.arena.specs.Layout.{decode as nodes}
 use Rattle.arena.specs.Inner.{Holds, Memo, Grew, Walked, told}
 use Rattle.shifting.specs.Inner.{Ready, lifted, shifted_by}
@@ -19,33 +19,33 @@ use Rattle.arena.proofs.Trees.{expression-kept}
 use Rattle.arena.proofs.Layouts.{length-decode as nodes-count}
 use Rattle.arena.proofs.Walking.{grew-number}
 use Rattle.shifting.proofs.Shifts.{ready-small}
-use Rattle.orderings.specs.Ordering.{exprOf, optionsOf, pushed, extended, built}
-use Rattle.orderings.specs.Lists.{orderingAt}
-use Rattle.ordering_joins.specs.Offset.{keysMove, shiftedKeys, shiftedLists}
+use Rattle.orderings.specs.Ordering.{expr_of, options_of, pushed, extended, built}
+use Rattle.orderings.specs.Lists.{ordering_at}
+use Rattle.ordering_joins.specs.Offset.{keys_move, shifted_keys, shifted_lists}
 use Rattle.orderings.specs.Layout.{row, keys_of, encode, decode}
-use Rattle.orderings.specs.Inner.{ShortOrdering, Short, extendedOf, appended, empties}
-use Rattle.ordering_joins.specs.Inner.{ReadyKeys, toldKeys, ShiftedKeys, ReadyLists, toldLists, ShiftedLists}
+use Rattle.orderings.specs.Inner.{ShortOrdering, Short, extended_of, appended, empties}
+use Rattle.ordering_joins.specs.Inner.{ReadyKeys, told_keys, ShiftedKeys, ReadyLists, told_lists, ShiftedLists}
 use Rattle.orderings.specs.declared.Ordering.{Ordering}
 use Rattle.orderings.specs.declared.Orderings.{Orderings}
 use Rattle.orderings.specs.declared.Extended.{Extended}
 use Rattle.orderings.proofs.Codec.{keys-row, size_is, key-is, decode-encode, length-decode, count-few, place_in, place-keys}
 use Rattle.orderings.proofs.OneOrdering.{pushed-fewer, built-fewer, built-more}
 use Rattle.orderings.proofs.Extending.{row-short, short-size, answer, fits-here}
-use Rattle.orderings.proofs.Appending.{short-more, appended-is, short-encode, short-all, told as listedAs}
+use Rattle.orderings.proofs.Appending.{short-more, appended-is, short-encode, short-all, told as listed_as}
 use Rattle.ordering_joins.proofs.KeyTests.{few-keys, key-place, key-there, list-place, place_inside, place-there}
-use Rattle.ordering_joins.proofs.Offsets.{keys-each, lists-each, following, following-none, following-more, afterKey, keys_step, keys-done, buildOf, afterOrdering, lists-step, lists-done, shiftedKeys-cong, keysMove-cong, Inside, grown-shift, grown-moves}
+use Rattle.ordering_joins.proofs.Offsets.{keys-each, lists-each, following, following-none, following-more, after_key, keys_step, keys-done, build_of, after_ordering, lists-step, lists-done, shifted_keys_cong, keys_move_cong, Inside, grown-shift, grown-moves}
 
 -- k keys are done: their shifted expressions are in the arena, the ordering is built from them, and the rest is to be added
 pub record KeysTo (lift : ℕ) (s t memo : List ℕ) (o out : Ordering) (k : ℕ) : Type 0 where
   pub below : k ≤ o.size
   pub holds : Holds t
   pub extends : Extends (nodes s) (nodes t)
-  pub memo-true : Memo (shifted_by lift) (nodes t) memo
+  pub memo_true : Memo (shifted_by lift) (nodes t) memo
   pub done : List ℕ
   pub counted : length done ≡ k
   pub short : ShortOrdering out
   pub out-is : keys_of out ≡ built done
-  pub goes : shiftedKeys (lifted lift) (nodes s) (keys_of o) (nodes s) ≡ following done (shiftedKeys (lifted lift) (nodes s) (drop k (keys_of o)) (nodes t))
+  pub goes : shifted_keys (lifted lift) (nodes s) (keys_of o) (nodes s) ≡ following done (shifted_keys (lifted lift) (nodes s) (drop k (keys_of o)) (nodes t))
 
 module _ (lift : ℕ) (s memo : List ℕ) (o : Ordering) (d : ReadyKeys lift s memo o) where
   abbrev keys : List ℕ
@@ -59,12 +59,12 @@ module _ (lift : ℕ) (s memo : List ℕ) (o : Ordering) (d : ReadyKeys lift s m
         below = omega arith;
         holds = d.keys.holds;
         extends = extends-none (nodes s);
-        memo-true = d.memo-true;
+        memo_true = d.memo_true;
         done = [];
         counted = refl;
         short = subst ShortOrdering (sym e) (row-short [] (omega arith));
         out-is = ap keys_of e ∙ keys-row [];
-        goes = following-none (shiftedKeys (lifted lift) (nodes s) keys (nodes s));
+        goes = following-none (shifted_keys (lifted lift) (nodes s) keys (nodes s));
       }
 
   module _ (t memo₁ : List ℕ) (out : Ordering) (k : ℕ) (h : KeysTo lift s t memo₁ o out k) where
@@ -79,66 +79,66 @@ module _ (lift : ℕ) (s memo : List ℕ) (o : Ordering) (d : ReadyKeys lift s m
       key-at : get_or keys k 0 ≡ key
       key-at = key-is o k l
 
-      there : exprOf key < length (nodes s)
+      there : expr_of key < length (nodes s)
       there = omega (arith, key-there s o d.keys k l, nodes-count s)
 
       -- its expression is as it was
-      same : expressionAt (nodes t) (exprOf key) ≡ expressionAt (nodes s) (exprOf key)
-      same = expression-kept h.extends (exprOf key) there
+      same : expression_at (nodes t) (expr_of key) ≡ expression_at (nodes s) (expr_of key)
+      same = expression-kept h.extends (expr_of key) there
 
-      ready : Ready lift t memo₁ (exprOf key)
+      ready : Ready lift t memo₁ (expr_of key)
       ready = record {
         known = record { holds = h.holds; below = omega (arith, there, extends-longer h.extends, nodes-count t) };
         small = d.small;
-        moves = ap (canMove (lifted lift)) same ∙ subst (λ (x : ℕ). canMove (lifted lift) (expressionAt (nodes s) (exprOf x)) ≡ true) key-at (keys-each (lifted lift) (nodes s) keys d.moves k place);
-        memo-true = h.memo-true;
+        moves = ap (can_move (lifted lift)) same ∙ subst (λ (x : ℕ). can_move (lifted lift) (expression_at (nodes s) (expr_of x)) ≡ true) key-at (keys-each (lifted lift) (nodes s) keys d.moves k place);
+        memo_true = h.memo_true;
       }
 
       -- it can be walked
-      pub key-ready : (e : ℕ) → e ≡ exprOf key → Ready lift t memo₁ e
+      pub key-ready : (e : ℕ) → e ≡ expr_of key → Ready lift t memo₁ e
       key-ready e q = subst (Ready lift t memo₁) (sym q) ready
 
       -- what is to be added after it
       abbrev after : ℕ → List Node → Placed (List ℕ)
-      after e ms = afterKey (lifted lift) (nodes s) key (drop (k + 1) keys) e ms
+      after e ms = after_key (lifted lift) (nodes s) key (drop (k + 1) keys) e ms
 
-      module _ (u memo₂ : List ℕ) (e : ℕ) (x : e ≡ exprOf key) (a : Added) (v : Walked (shifted_by lift) t u memo₂ e a) where
-        w : Walked (shifted_by lift) t u memo₂ (exprOf key) a
+      module _ (u memo₂ : List ℕ) (e : ℕ) (x : e ≡ expr_of key) (a : Added) (v : Walked (shifted_by lift) t u memo₂ e a) where
+        w : Walked (shifted_by lift) t u memo₂ (expr_of key) a
         w = subst (λ (n : ℕ). Walked (shifted_by lift) t u memo₂ n a) x v
 
         -- what was added, by the arena as it was
-        added : addExpression (shifted_by lift (expressionAt (nodes s) (exprOf key))) (nodes t) ≡ told a (nodes u)
-        added = ap (λ (y : Expression). addExpression (shifted_by lift y) (nodes t)) (sym same) ∙ sym w.grew.is
+        added : add_expression (shifted_by lift (expression_at (nodes s) (expr_of key))) (nodes t) ≡ told a (nodes u)
+        added = ap (λ (y : Expression). add_expression (shifted_by lift y) (nodes t)) (sym same) ∙ sym w.grew.is
 
         -- what is to be added, key k first
-        turn : shiftedKeys (lifted lift) (nodes s) (drop k keys) (nodes t) ≡ and_then (told a (nodes u)) after
+        turn : shifted_keys (lifted lift) (nodes s) (drop k keys) (nodes t) ≡ and_then (told a (nodes u)) after
         turn =
             keys_step (lifted lift) (nodes s) keys k (nodes t) place
-            ∙ ap (λ (y : ℕ). and_then (addExpression (shifted_by lift (expressionAt (nodes s) (exprOf y))) (nodes t)) (afterKey (lifted lift) (nodes s) y (drop (k + 1) keys))) key-at
+            ∙ ap (λ (y : ℕ). and_then (add_expression (shifted_by lift (expression_at (nodes s) (expr_of y))) (nodes t)) (after_key (lifted lift) (nodes s) y (drop (k + 1) keys))) key-at
             ∙ ap (λ (z : Placed ℕ). and_then z after) added
 
         -- it has a number
         module _ (i : ℕ) (q : a ≡ Number i) where
           pub number-few : i < 1024
           number-few =
-              let x = shifted_by lift (expressionAt (nodes t) (exprOf key)) in
-              let g = grew-number (shifted_by lift) x t u i h.holds (ready-small lift t memo₁ (exprOf key) ready) (subst (λ (b : Added). Grew (shifted_by lift (expressionAt (nodes t) (exprOf key))) t u b) q w.grew) in
+              let x = shifted_by lift (expression_at (nodes t) (expr_of key)) in
+              let g = grew-number (shifted_by lift) x t u i h.holds (ready-small lift t memo₁ (expr_of key) ready) (subst (λ (b : Added). Grew (shifted_by lift (expression_at (nodes t) (expr_of key))) t u b) q w.grew) in
               omega (arith, g.0, nodes-count u, w.grew.holds.few)
 
           -- one more is done
-          pub keys-more : (n : ℕ) → n ≡ i * 4 + optionsOf key → (next : Extended) → next ≡ extendedOf (pushed (keys_of out) n) → KeysTo lift s u memo₂ o next.ordering (k + 1)
+          pub keys-more : (n : ℕ) → n ≡ i * 4 + options_of key → (next : Extended) → next ≡ extended_of (pushed (keys_of out) n) → KeysTo lift s u memo₂ o next.ordering (k + 1)
           unfolding told and_then
           keys-more n z next y =
               let ks : List ℕ = pushed (keys_of out) n in
               let size = ap (λ (p : List ℕ). length p) h.out-is in
               let c : length ks ≤ 16 = omega (arith, pushed-fewer (keys_of out) n, size, built-fewer h.done, h.counted, few-keys s o d.keys) in
               let r : next.ordering ≡ row ks = ap (λ (p : Extended). p.ordering) (y ∙ fits-here ks c) in
-              let rest : Placed (List ℕ) = shiftedKeys (lifted lift) (nodes s) (drop (k + 1) keys) (nodes u) in
+              let rest : Placed (List ℕ) = shifted_keys (lifted lift) (nodes s) (drop (k + 1) keys) (nodes u) in
               record {
                 below = omega arith;
                 holds = w.grew.holds;
                 extends = extends-both h.extends w.grew.extends;
-                memo-true = w.memo-true;
+                memo_true = w.memo_true;
                 done = h.done ++ (n ∷ []);
                 counted = length-append h.done (n ∷ []) ∙ rw h.counted;
                 short = subst ShortOrdering (sym r) (row-short ks c);
@@ -150,29 +150,29 @@ module _ (lift : ℕ) (s memo : List ℕ) (o : Ordering) (d : ReadyKeys lift s m
 
         -- there was no room
         pub keys-fail : (j : ℕ) → a ≡ Refused j → (none : Ordering) → none ≡ row [] → ShiftedKeys lift s u memo₂ o (answer false none)
-        unfolding told and_then following toldKeys
+        unfolding told and_then following told_keys
         keys-fail j q none z =
             record {
               holds = w.grew.holds;
               extends = extends-both h.extends w.grew.extends;
-              memo-true = w.memo-true;
+              memo_true = w.memo_true;
               short = subst ShortOrdering (sym z) (row-short [] (omega arith));
-              is = sym (ap buildOf (h.goes ∙ ap (following h.done) (turn ∙ ap (λ (b : Added). and_then (told b (nodes u)) after) q)));
+              is = sym (ap build_of (h.goes ∙ ap (following h.done) (turn ∙ ap (λ (b : Added). and_then (told b (nodes u)) after) q)));
             }
 
     -- all done
-    pub keys-end : o.size ≤ k → ShiftedKeys lift s t memo₁ o (answer true out)
-    unfolding and_then following toldKeys
-    keys-end l =
+    pub keys_end : o.size ≤ k → ShiftedKeys lift s t memo₁ o (answer true out)
+    unfolding and_then following told_keys
+    keys_end l =
         let r = keys-done (lifted lift) (nodes s) keys k (nodes t) (omega (arith, size_is o)) in
         record {
           holds = h.holds;
           extends = h.extends;
-          memo-true = h.memo-true;
+          memo_true = h.memo_true;
           short = h.short;
           is =
               ap (λ (p : List ℕ). placed p (nodes t)) (h.out-is ∙ ap built (sym (append-nil h.done)))
-              ∙ sym (ap buildOf (h.goes ∙ ap (following h.done) r));
+              ∙ sym (ap build_of (h.goes ∙ ap (following h.done) r));
         }
 
 -- i orderings are done: they stand in the list, and the rest is to be added
@@ -180,10 +180,10 @@ pub record ListsTo (lift : ℕ) (s t memo : List ℕ) (g list : Orderings) (i : 
   pub below : i ≤ g.count
   pub holds : Holds t
   pub extends : Extends (nodes s) (nodes t)
-  pub memo-true : Memo (shifted_by lift) (nodes t) memo
+  pub memo_true : Memo (shifted_by lift) (nodes t) memo
   pub counted : list.count ≡ i
   pub short : Short list
-  pub goes : shiftedLists (lifted lift) (nodes s) (decode g) (nodes s) ≡ following (decode list) (shiftedLists (lifted lift) (nodes s) (drop i (decode g)) (nodes t))
+  pub goes : shifted_lists (lifted lift) (nodes s) (decode g) (nodes s) ≡ following (decode list) (shifted_lists (lifted lift) (nodes s) (drop i (decode g)) (nodes t))
 
 module _ (lift : ℕ) (s memo : List ℕ) (g : Orderings) (d : ReadyLists lift s memo g) where
   abbrev lists : List (List ℕ)
@@ -199,19 +199,19 @@ module _ (lift : ℕ) (s memo : List ℕ) (g : Orderings) (d : ReadyLists lift s
     below = omega arith;
     holds = d.list.holds;
     extends = extends-none (nodes s);
-    memo-true = d.memo-true;
+    memo_true = d.memo_true;
     counted = refl;
     short = short-encode [] (omega arith) (λ i l. absurd (omega arith));
     goes =
-        following-none (shiftedLists (lifted lift) (nodes s) lists (nodes s))
-        ∙ ap (λ (l : List (List ℕ)). following l (shiftedLists (lifted lift) (nodes s) lists (nodes s))) (sym (decode-encode []));
+        following-none (shifted_lists (lifted lift) (nodes s) lists (nodes s))
+        ∙ ap (λ (l : List (List ℕ)). following l (shifted_lists (lifted lift) (nodes s) lists (nodes s))) (sym (decode-encode []));
   })
 
   module _ (t memo₁ : List ℕ) (list : Orderings) (i : ℕ) (h : ListsTo lift s t memo₁ g list i) where
     module _ (l : i < g.count) where
       -- ordering i
       abbrev ordering : List ℕ
-      ordering = orderingAt lists i
+      ordering = ordering_at lists i
 
       spot : i < length lists
       spot = list-place s g d.list i l
@@ -229,24 +229,24 @@ module _ (lift : ℕ) (s memo : List ℕ) (g : Orderings) (d : ReadyLists lift s
             keys = place-there s g d.list i l t h.holds h.extends;
             small = d.small;
             moves =
-                ap (keysMove (lifted lift) (nodes t)) keys-is
-                ∙ keysMove-cong (lifted lift) (lifted lift) (nodes t) (nodes s) ordering (grown-moves (lifted lift) h.extends ordering inside)
+                ap (keys_move (lifted lift) (nodes t)) keys-is
+                ∙ keys_move_cong (lifted lift) (lifted lift) (nodes t) (nodes s) ordering (grown-moves (lifted lift) h.extends ordering inside)
                 ∙ lists-each (lifted lift) (nodes s) lists d.moves i spot;
-            memo-true = h.memo-true;
+            memo_true = h.memo_true;
           }
 
       -- what is to be added after it
-      abbrev after-it : List ℕ → List Node → Placed (List (List ℕ))
-      after-it o ms = afterOrdering (lifted lift) (nodes s) (drop (i + 1) lists) o ms
+      abbrev after_it : List ℕ → List Node → Placed (List (List ℕ))
+      after_it o ms = after_ordering (lifted lift) (nodes s) (drop (i + 1) lists) o ms
 
       module _ (u memo₂ : List ℕ) (one : Extended) (v : ShiftedKeys lift t u memo₂ (place_in g i) one) where
         -- what is to be added, ordering i first
-        turn-it : shiftedLists (lifted lift) (nodes s) (drop i lists) (nodes t) ≡ and_then (toldKeys one (nodes u)) after-it
-        turn-it =
+        turn_it : shifted_lists (lifted lift) (nodes s) (drop i lists) (nodes t) ≡ and_then (told_keys one (nodes u)) after_it
+        turn_it =
             lists-step (lifted lift) (nodes s) lists i (nodes t) spot
-            ∙ ap (λ (z : Placed (List ℕ)). and_then (buildOf z) after-it)
-            (sym (ap (λ (ks : List ℕ). shiftedKeys (lifted lift) (nodes t) ks (nodes t)) keys-is ∙ shiftedKeys-cong (lifted lift) (lifted lift) (nodes t) (nodes s) ordering (grown-shift (lifted lift) h.extends ordering inside) (nodes t)))
-            ∙ ap (λ (z : Placed (List ℕ)). and_then z after-it) (sym v.is)
+            ∙ ap (λ (z : Placed (List ℕ)). and_then (build_of z) after_it)
+            (sym (ap (λ (ks : List ℕ). shifted_keys (lifted lift) (nodes t) ks (nodes t)) keys-is ∙ shifted_keys_cong (lifted lift) (lifted lift) (nodes t) (nodes s) ordering (grown-shift (lifted lift) h.extends ordering inside) (nodes t)))
+            ∙ ap (λ (z : Placed (List ℕ)). and_then z after_it) (sym v.is)
 
         -- there is a place for it
         pub list-room : list.count < 32
@@ -254,44 +254,44 @@ module _ (lift : ℕ) (s memo : List ℕ) (g : Orderings) (d : ReadyLists lift s
 
         -- one more is done
         pub lists-more : one.fits ≡ true → (r : Orderings) → r ≡ appended list one.ordering → ListsTo lift s u memo₂ g r (i + 1)
-        unfolding toldKeys and_then
+        unfolding told_keys and_then
         lists-more f r z =
             let new : List ℕ = keys_of one.ordering in
             let more : List (List ℕ) = decode list ++ (new ∷ []) in
-            let rest : Placed (List (List ℕ)) = shiftedLists (lifted lift) (nodes s) (drop (i + 1) lists) (nodes u) in
+            let rest : Placed (List (List ℕ)) = shifted_lists (lifted lift) (nodes s) (drop (i + 1) lists) (nodes u) in
             let e : r ≡ encode more = z ∙ ap (appended list) (sym v.short.coded) ∙ appended-is list new h.short list-room in
             let c : decode r ≡ more = ap decode e ∙ decode-encode more in
             let size = ap (λ (y : List (List ℕ)). length y) c in
-            let fit : toldKeys one (nodes u) ≡ placed new (nodes u) = rw f in
+            let fit : told_keys one (nodes u) ≡ placed new (nodes u) = rw f in
             record {
               below = omega arith;
               holds = v.holds;
               extends = extends-both h.extends v.extends;
-              memo-true = v.memo-true;
+              memo_true = v.memo_true;
               counted = omega (arith, size, length-append (decode list) (new ∷ []), length-decode r, length-decode list, h.counted);
               short = subst Short (sym e) (short-encode more (omega (arith, length-append (decode list) (new ∷ []), length-decode list, list-room)) (short-more (decode list) new (short-all list h.short) (short-size one.ordering v.short)));
               goes =
-                  h.goes ∙ ap (following (decode list)) (turn-it ∙ ap (λ (y : Placed (List ℕ)). and_then y after-it) fit)
+                  h.goes ∙ ap (following (decode list)) (turn_it ∙ ap (λ (y : Placed (List ℕ)). and_then y after_it) fit)
                   ∙ following-more (decode list) new rest ∙ ap (λ (y : List (List ℕ)). following y rest) (sym c);
             }
 
         -- there was no room
-        pub lists-fail : one.fits ≡ false → ShiftedLists lift s u g (listedAs 3 g)
-        unfolding toldKeys and_then following toldLists
+        pub lists-fail : one.fits ≡ false → ShiftedLists lift s u g (listed_as 3 g)
+        unfolding told_keys and_then following told_lists
         lists-fail f =
-            let fit : toldKeys one (nodes u) ≡ full = rw f in
+            let fit : told_keys one (nodes u) ≡ full = rw f in
             record {
               holds = v.holds;
               extends = extends-both h.extends v.extends;
               is =
                   sym (ap (λ (y : Placed (List (List ℕ))). and_then y (λ os ps. placed (encode os) ps))
-                  (h.goes ∙ ap (following (decode list)) (turn-it ∙ ap (λ (y : Placed (List ℕ)). and_then y after-it) fit)));
+                  (h.goes ∙ ap (following (decode list)) (turn_it ∙ ap (λ (y : Placed (List ℕ)). and_then y after_it) fit)));
             }
 
     -- all done
-    pub lists-end : g.count ≤ i → ShiftedLists lift s t g (listedAs 0 list)
-    unfolding and_then following toldLists
-    lists-end l =
+    pub lists_end : g.count ≤ i → ShiftedLists lift s t g (listed_as 0 list)
+    unfolding and_then following told_lists
+    lists_end l =
         let r = lists-done (lifted lift) (nodes s) lists i (nodes t) (omega (arith, length-decode g)) in
         record {
           holds = h.holds;

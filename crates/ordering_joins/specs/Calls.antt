@@ -6,46 +6,46 @@ use Rattle.arena.specs.Node.{Node}
 use Rattle.arena.specs.Arena.{Placed, placed, full}
 use Rattle.shifting.specs.Shift.{moved}
 use Rattle.arena.specs.Layout.{decode as nodes}
-use Rattle.arena.specs.Calls.{inCells}
-use Rattle.orderings.specs.Lists.{outputOrdering, joinSuffix}
-use Rattle.ordering_joins.specs.Offset.{listsMove, shiftedLists}
+use Rattle.arena.specs.Calls.{in_cells}
+use Rattle.orderings.specs.Lists.{output_ordering, join_suffix}
+use Rattle.ordering_joins.specs.Offset.{lists_move, shifted_lists}
 use Rattle.orderings.specs.Layout.{row, encode, decode}
 use Rattle.orderings.specs.declared.Orderings.{Orderings}
 use Rattle.orderings.specs.declared.Listed.{Listed}
 use Rattle.ordering_joins.specs.declared.Output.{Output}
-use Rattle.orderings.specs.Calls.{listNumber, askList, twoNumber, listed}
+use Rattle.orderings.specs.Calls.{list_number, ask_list, two_number, listed}
 
 -- no ordering, beside a refusal
-unfoldable pub noOutput : ℕ → Output
-noOutput k = record { number = k; ordering = row [] }
+unfoldable pub no_output : ℕ → Output
+no_output k = record { number = k; ordering = row [] }
 
 -- the joined ordering as an answer: 5 where it has more than 16 keys
-unfoldable pub outputOf : List ℕ → Output
-outputOf o = if leb (length o) 16 then record { number = 0; ordering = row o } else noOutput 5
+unfoldable pub output_of : List ℕ → Output
+output_of o = if leb (length o) 16 then record { number = 0; ordering = row o } else no_output 5
 
 -- the call on lent cells and a lent list
-abbrev pub outputAnswer : List ℕ → Orderings → Output
-outputAnswer cells g = askList noOutput (λ os. outputOf (outputOrdering os)) cells g
+abbrev pub output_answer : List ℕ → Orderings → Output
+output_answer cells g = ask_list no_output (λ os. output_of (output_ordering os)) cells g
 
 -- joining with another list
-unfoldable pub joinAnswer : List ℕ → Orderings → Orderings → Listed
-joinAnswer cells g h =
-    if eqb (twoNumber cells g h) 0 then listed g (joinSuffix (decode g) (decode h))
-    else record { number = twoNumber cells g h; list = g }
+unfoldable pub join_answer : List ℕ → Orderings → Orderings → Listed
+join_answer cells g h =
+    if eqb (two_number cells g h) 0 then listed g (join_suffix (decode g) (decode h))
+    else record { number = two_number cells g h; list = g }
 
 -- a shifted list and the arena afterwards: 3 where the missing nodes don't fit, and then list and arena are as they were
-unfoldable pub offsetBy : Orderings → List Node → Placed (List (List ℕ)) → Listed × List Node
-offsetBy g ns (placed os ms) = (record { number = 0; list = encode os }, ms)
-offsetBy g ns full = (record { number = 3; list = g }, ns)
+unfoldable pub offset_by : Orderings → List Node → Placed (List (List ℕ)) → Listed × List Node
+offset_by g ns (placed os ms) = (record { number = 0; list = encode os }, ms)
+offset_by g ns full = (record { number = 3; list = g }, ns)
 
 -- a list shifted by an offset: 10 where a column leaves 0..65,535
-unfoldable pub offsetList : ℤ → Orderings → List Node → Listed × List Node
-offsetList offset g ns =
-    if listsMove (moved offset) ns (decode g) then offsetBy g ns (shiftedLists (moved offset) ns (decode g) ns)
+unfoldable pub offset_list : ℤ → Orderings → List Node → Listed × List Node
+offset_list offset g ns =
+    if lists_move (moved offset) ns (decode g) then offset_by g ns (shifted_lists (moved offset) ns (decode g) ns)
     else (record { number = 10; list = g }, ns)
 
 -- the call on lent cells and a lent list
-unfoldable pub offsetAnswer : ℤ → List ℕ → Orderings → Listed × List ℕ
-offsetAnswer offset cells g =
-    if eqb (listNumber cells g) 0 then inCells (offsetList offset g (nodes cells))
-    else (record { number = listNumber cells g; list = g }, cells)
+unfoldable pub offset_answer : ℤ → List ℕ → Orderings → Listed × List ℕ
+offset_answer offset cells g =
+    if eqb (list_number cells g) 0 then in_cells (offset_list offset g (nodes cells))
+    else (record { number = list_number cells g; list = g }, cells)

@@ -1,11 +1,11 @@
 // Orderings out of the orderings of one list, or of two, that are checked already.
 ghost use Rattle.std.specs.Prelude.{◌≡◌, ◌++◌, ◌≤◌, ◌<◌, ◌+◌, ◌*◌};
-ghost use Rattle.orderings.specs.Lists.{outputOrdering, suffixed, joinSuffix};
+ghost use Rattle.orderings.specs.Lists.{output_ordering, suffixed, join_suffix};
 ghost use Rattle.orderings.specs.Layout.{keys_of, decode};
-ghost use Rattle.ordering_joins.specs.Calls.{noOutput, outputOf};
+ghost use Rattle.ordering_joins.specs.Calls.{no_output, output_of};
 ghost use Rattle.orderings.specs.Calls.{listed};
 ghost use Rattle.orderings.specs.Inner.{Held, HeldOrdering, Short};
-ghost use Rattle.ordering_joins.specs.Inner.{listedOr};
+ghost use Rattle.ordering_joins.specs.Inner.{listed_or};
 
 use crate::Output;
 use orderings::making::{append, no_orderings, nothing};
@@ -14,7 +14,7 @@ use orderings::{Listed, Ordering, Orderings};
 
 // No ordering, and the number of a refusal.
 pub fn no_output(number: u32) -> Output
-    ensures { result ≡ noOutput number }
+    ensures { result ≡ no_output number }
 {
     Output {
         number: number,
@@ -25,7 +25,7 @@ pub fn no_output(number: u32) -> Output
 // The joined ordering of all: 5 where it has more than 16 keys.
 pub fn output_in(g: Orderings) -> Output
     requires { Held g }
-    ensures { result ≡ outputOf (outputOrdering (decode g)) }
+    ensures { result ≡ output_of (output_ordering (decode g)) }
 {
     let n = g.count;
     let mut out = nothing();
@@ -48,7 +48,7 @@ pub fn output_in(g: Orderings) -> Output
 // keys.
 fn suffix(out: Orderings, g: Orderings, p: Ordering) -> Listed
     requires { (Short out × Held g) × (HeldOrdering p × (out.count + g.count ≤ 32)) }
-    ensures { result ≡ listedOr out (decode out ++ suffixed (decode g) (keys_of p)) }
+    ensures { result ≡ listed_or out (decode out ++ suffixed (decode g) (keys_of p)) }
 {
     let n = g.count;
     let mut list = out;
@@ -73,7 +73,7 @@ fn suffix(out: Orderings, g: Orderings, p: Ordering) -> Listed
 // Each ordering of a list extended by each of another: 5 where there are more than 32, or one has more than 16 keys.
 pub fn join_in(g: Orderings, h: Orderings) -> Listed
     requires { Held g × Held h }
-    ensures { result ≡ listed g (joinSuffix (decode g) (decode h)) }
+    ensures { result ≡ listed g (join_suffix (decode g) (decode h)) }
 {
     let n = g.count;
     let m = h.count;

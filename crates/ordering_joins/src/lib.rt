@@ -4,7 +4,7 @@ pub mod joining;
 pub mod offsetting;
 
 ghost use Rattle.std.specs.Prelude.{◌≡◌};
-ghost use Rattle.ordering_joins.specs.Calls.{offsetAnswer, outputAnswer, joinAnswer};
+ghost use Rattle.ordering_joins.specs.Calls.{offset_answer, output_answer, join_answer};
 
 use joining::{join_in, no_output, output_in};
 use offsetting::offset_in;
@@ -21,7 +21,7 @@ pub struct Output {
 
 // Shifts every column of the keys by an offset, names kept, and adds the missing nodes. Refusals: 11, 1, 10, 3.
 pub fn add_offset(cells: &mut [u32; 11265], list: Orderings, offset: i64) -> Listed
-    ensures { (result, cells.new) ≡ offsetAnswer offset cells.old list }
+    ensures { (result, cells.new) ≡ offset_answer offset cells.old list }
 {
     let number = check_list(cells, list);
     if number != 0 {
@@ -32,7 +32,7 @@ pub fn add_offset(cells: &mut [u32; 11265], list: Orderings, offset: i64) -> Lis
 
 // The joined ordering of all orderings. Refusals: 11, 1, 5.
 pub fn output_ordering(cells: &[u32; 11265], list: Orderings) -> Output
-    ensures { result ≡ outputAnswer cells.now list }
+    ensures { result ≡ output_answer cells.now list }
 {
     let number = check_list(cells, list);
     if number != 0 {
@@ -43,7 +43,7 @@ pub fn output_ordering(cells: &[u32; 11265], list: Orderings) -> Output
 
 // Each ordering extended by each of another list; an empty other list keeps all. Refusals: 11, 1, 5.
 pub fn join_suffix(cells: &[u32; 11265], list: Orderings, other: Orderings) -> Listed
-    ensures { result ≡ joinAnswer cells.now list other }
+    ensures { result ≡ join_answer cells.now list other }
 {
     let number = check_two(cells, list, other);
     if number != 0 {

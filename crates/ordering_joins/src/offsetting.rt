@@ -1,11 +1,11 @@
 // Shifting the orderings of a list that is checked already.
 ghost use Rattle.std.specs.Prelude.{◌≡◌, ◌<◌, ◌+◌, ◌*◌};
 ghost use Rattle.arena.specs.Layout.{decode as nodes};
-ghost use Rattle.arena.specs.Calls.{inCells};
-ghost use Rattle.orderings.specs.Ordering.{exprOf, optionsOf};
+ghost use Rattle.arena.specs.Calls.{in_cells};
+ghost use Rattle.orderings.specs.Ordering.{expr_of, options_of};
 ghost use Rattle.orderings.specs.Layout.{keys_of, decode};
-ghost use Rattle.ordering_joins.specs.Calls.{offsetList};
-ghost use Rattle.ordering_joins.specs.Inner.{LowKeys, LowList, keysTabled, listsTabled, ListThere, ReadyKeys, ShiftedKeys, ReadyLists, ShiftedLists};
+ghost use Rattle.ordering_joins.specs.Calls.{offset_list};
+ghost use Rattle.ordering_joins.specs.Inner.{LowKeys, LowList, keys_tabled, lists_tabled, ListThere, ReadyKeys, ShiftedKeys, ReadyLists, ShiftedLists};
 
 use arena::Added;
 use arena::cells::node_count;
@@ -18,7 +18,7 @@ use shifting::shifting::{lift_of, movable, shift};
 // Every key's expression can move, by the table of the nodes.
 fn keys_move(table: &[bool; 1024], o: Ordering) -> bool
     requires { LowKeys o }
-    ensures { result ≡ keysTabled table.now (keys_of o) }
+    ensures { result ≡ keys_tabled table.now (keys_of o) }
 {
     let n = o.size;
     let mut k = 0;
@@ -35,7 +35,7 @@ fn keys_move(table: &[bool; 1024], o: Ordering) -> bool
 // The same for all orderings.
 fn lists_move(table: &[bool; 1024], g: Orderings) -> bool
     requires { LowList g }
-    ensures { result ≡ listsTabled table.now (decode g) }
+    ensures { result ≡ lists_tabled table.now (decode g) }
 {
     let n = g.count;
     let mut i = 0;
@@ -50,7 +50,7 @@ fn lists_move(table: &[bool; 1024], g: Orderings) -> bool
 
 // The expression of a key, as the arena's calls take it.
 fn expr_number(key: u16) -> u32
-    ensures { result ≡ exprOf key }
+    ensures { result ≡ expr_of key }
 {
     (key / 4) as u32
 }
@@ -58,7 +58,7 @@ fn expr_number(key: u16) -> u32
 // An expression with the options of a key.
 fn with_options(e: u32, key: u16) -> u16
     requires { e < 1024 }
-    ensures { result ≡ e * 4 + optionsOf key }
+    ensures { result ≡ e * 4 + options_of key }
 {
     (e * 4) as u16 + key % 4
 }
@@ -115,7 +115,7 @@ fn shift_lists(cells: &mut [u32; 11265], memo: &mut [u32; 1024], g: Orderings, l
 // cells are as they were.
 pub fn offset_in(cells: &mut [u32; 11265], g: Orderings, offset: i64) -> Listed
     requires { ListThere cells.old g }
-    ensures { (result, cells.new) ≡ inCells (offsetList offset g (nodes cells.old)) }
+    ensures { (result, cells.new) ≡ in_cells (offset_list offset g (nodes cells.old)) }
 {
     let lift = lift_of(offset);
     let n = node_count(cells);

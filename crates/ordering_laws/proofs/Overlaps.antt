@@ -10,10 +10,10 @@ use borrow.Author.Tests.{eqb-true, eq-eqb}
 use lib.ListN.{length, get_or, take, drop, length-drop}
 use lib.Seq.{length-take-le, get_or-take, get_or-drop, ext_get_or}
 use Rattle.laws.proofs.Each.{each_all, each_holds}
-use Rattle.laws.proofs.Booleans.{true-not-false}
+use Rattle.laws.proofs.Booleans.{true_not_false}
 use Rattle.laws.proofs.First.{first_some, first-none, first-only}
-use Rattle.orderings.specs.Ordering.{exprOf, sameKey}
-use Rattle.orderings.specs.Lists.{orderingAt}
+use Rattle.orderings.specs.Ordering.{expr_of, same_key}
+use Rattle.orderings.specs.Lists.{ordering_at}
 use Rattle.reduction.specs.Reduction.{meets, overlap}
 use Rattle.orderings.specs.Good.{GoodOrdering}
 use Rattle.reduction.specs.Apart.{Apart}
@@ -36,43 +36,43 @@ overlap-none m a b e n l h k =
     subst (λ (x : ℕ). meets m a b x ≡ false) s (first-none (λ (k : ℕ). meets m a b (k + 1)) (min (length a) (length b)) e (n - 1) (omega arith))
 
 -- for the same keys: n keys overlap where the suffix of n keys is the prefix of n keys
-pub suffix-meets : (a b : List ℕ) (n : ℕ) → drop (length a - n) a ≡ take n b → meets sameKey a b n ≡ true
-unfolding meets sameKey
+pub suffix-meets : (a b : List ℕ) (n : ℕ) → drop (length a - n) a ≡ take n b → meets same_key a b n ≡ true
+unfolding meets same_key
 suffix-meets a b n e =
-    each_all (λ (k : ℕ). sameKey (get_or a (length a - n + k) 0) (get_or b k 0)) n
+    each_all (λ (k : ℕ). same_key (get_or a (length a - n + k) 0) (get_or b k 0)) n
     (λ k l. eq-eqb (get_or a (length a - n + k) 0) (get_or b k 0) (sym (get_or-drop (length a - n) a k 0) ∙ ap (λ (o : List ℕ). get_or o k 0) e ∙ get_or-take n b k 0 l))
 
-pub meets-suffix : (a b : List ℕ) (n : ℕ) → n ≤ length a → n ≤ length b → meets sameKey a b n ≡ true → drop (length a - n) a ≡ take n b
-unfolding sameKey
+pub meets-suffix : (a b : List ℕ) (n : ℕ) → n ≤ length a → n ≤ length b → meets same_key a b n ≡ true → drop (length a - n) a ≡ take n b
+unfolding same_key
 meets-suffix a b n h k e =
     let p : length (drop (length a - n) a) ≡ n = length-drop (length a - n) a ∙ omega arith in
     let q : length (take n b) ≡ n = length-take-le n b k in
     ext_get_or 0 (drop (length a - n) a) (take n b) (p ∙ sym q)
     (λ i l.
     let c : i < n = omega arith in
-    get_or-drop (length a - n) a i 0 ∙ eqb-true (get_or a (length a - n + i) 0) (get_or b i 0) (meets_at sameKey a b n i e c) ∙ sym (get_or-take n b i 0 c))
+    get_or-drop (length a - n) a i 0 ∙ eqb-true (get_or a (length a - n + i) 0) (get_or b i 0) (meets_at same_key a b n i e c) ∙ sym (get_or-take n b i 0 c))
 
 -- in a list whose orderings are apart no nonempty suffix of one is a prefix of another
-pub apart-suffix : (os : List (List ℕ)) → Apart sameKey os → (i j n : ℕ) → i < length os → j < length os → (i ≡ j → ⊥) → 0 < n → n ≤ length (orderingAt os i) → n ≤ length (orderingAt os j)
-    → drop (length (orderingAt os i) - n) (orderingAt os i) ≡ take n (orderingAt os j) → ⊥
+pub apart-suffix : (os : List (List ℕ)) → Apart same_key os → (i j n : ℕ) → i < length os → j < length os → (i ≡ j → ⊥) → 0 < n → n ≤ length (ordering_at os i) → n ≤ length (ordering_at os j)
+    → drop (length (ordering_at os i) - n) (ordering_at os i) ≡ take n (ordering_at os j) → ⊥
 apart-suffix os f i j n a b d l h k e =
-    true-not-false (suffix-meets (orderingAt os i) (orderingAt os j) n e) (overlap-none sameKey (orderingAt os i) (orderingAt os j) (f i j a b d) n l h k)
+    true_not_false (suffix-meets (ordering_at os i) (ordering_at os j) n e) (overlap-none same_key (ordering_at os i) (ordering_at os j) (f i j a b d) n l h k)
 
 -- keys that match have one expression
 abbrev pub OneExpression : (ℕ → ℕ → Bool) → Type 0
-OneExpression m = (x y : ℕ) → m x y ≡ true → exprOf x ≡ exprOf y
+OneExpression m = (x y : ℕ) → m x y ≡ true → expr_of x ≡ expr_of y
 
 -- the match on which overlap rests is such a match
-pub sameKey-one : OneExpression sameKey
-unfolding sameKey
-sameKey-one x y e = ap (λ (k : ℕ). exprOf k) (eqb-true x y e)
+pub same_key-one : OneExpression same_key
+unfolding same_key
+same_key-one x y e = ap (λ (k : ℕ). expr_of k) (eqb-true x y e)
 
 module _ (m : ℕ → ℕ → Bool) (one : OneExpression m) (a b : List ℕ) (g : GoodOrdering a) where
   -- where n keys overlap, the first key of b has the expression that stands n from the end of a
-  first-expr : (n : ℕ) → 0 < n → meets m a b n ≡ true → exprOf (get_or a (length a - n) 0) ≡ exprOf (get_or b 0 0)
+  first-expr : (n : ℕ) → 0 < n → meets m a b n ≡ true → expr_of (get_or a (length a - n) 0) ≡ expr_of (get_or b 0 0)
   first-expr n l e =
       let z : length a - n ≡ length a - n + 0 = omega arith in
-      ap (λ (k : ℕ). exprOf (get_or a k 0)) z ∙ one (get_or a (length a - n + 0) 0) (get_or b 0 0) (meets_at m a b n 0 e l)
+      ap (λ (k : ℕ). expr_of (get_or a k 0)) z ∙ one (get_or a (length a - n + 0) 0) (get_or b 0 0) (meets_at m a b n 0 e l)
 
   -- a longer overlap beside a shorter one would have its expression twice
   not-longer : (n k : ℕ) → 0 < n → n < k → k ≤ length a → meets m a b n ≡ true → meets m a b k ≡ true → ⊥

@@ -2,18 +2,18 @@
 use Rattle.std.specs.Prelude.{ℕ, Bool, false, ◌&&◌, ◌||◌, List, [], ◌∷◌, eqb, get_or}
 use Rattle.std.proofs.Math.Option.{Option, none, some}
 use Rattle.laws.specs.Tests.{if◌then◌else◌}
-use Rattle.orderings.specs.Ordering.{exprOf, optionsOf}
+use Rattle.orderings.specs.Ordering.{expr_of, options_of}
 
 -- the options of the first ordering that an expression leads
-unfoldable pub getOptions : List (List ℕ) → ℕ → Option ℕ
-getOptions [] e = none
-getOptions (o ∷ os) e = if eqb (exprOf (get_or o 0 0)) e then some (optionsOf (get_or o 0 0)) else getOptions os e
+unfoldable pub get_options : List (List ℕ) → ℕ → Option ℕ
+get_options [] e = none
+get_options (o ∷ os) e = if eqb (expr_of (get_or o 0 0)) e then some (options_of (get_or o 0 0)) else get_options os e
 
 -- an expression leads an ordering with these options
-unfoldable pub leadsWith : List (List ℕ) → ℕ → ℕ → Bool
-leadsWith [] e options = false
-leadsWith (o ∷ os) e options = (eqb (exprOf (get_or o 0 0)) e && eqb (optionsOf (get_or o 0 0)) options) || leadsWith os e options
+unfoldable pub leads_with : List (List ℕ) → ℕ → ℕ → Bool
+leads_with [] e options = false
+leads_with (o ∷ os) e options = (eqb (expr_of (get_or o 0 0)) e && eqb (options_of (get_or o 0 0)) options) || leads_with os e options
 
 -- an expression leads with options and with their opposite: ascending nulls last and descending nulls first, or ascending nulls first and descending nulls last
-unfoldable pub partialConst : List (List ℕ) → ℕ → Bool
-partialConst os e = (leadsWith os e 0 && leadsWith os e 3) || (leadsWith os e 1 && leadsWith os e 2)
+unfoldable pub partial_const : List (List ℕ) → ℕ → Bool
+partial_const os e = (leads_with os e 0 && leads_with os e 3) || (leads_with os e 1 && leads_with os e 2)

@@ -8,8 +8,8 @@ pub mod questions;
 
 ghost use Rattle.std.specs.Prelude.{◌≡◌};
 ghost use Rattle.arena.specs.Layout.{count};
-ghost use Rattle.orderings.specs.Calls.{askList};
-ghost use Rattle.ordering_questions.specs.Calls.{optionsAnswer, partialAnswer};
+ghost use Rattle.orderings.specs.Calls.{ask_list};
+ghost use Rattle.ordering_questions.specs.Calls.{options_answer, partial_answer};
 
 use arena::cells::{node_count, wide};
 use orderings::Orderings;
@@ -34,7 +34,7 @@ pub enum PartialIs {
 
 // The options of the first ordering that an expression leads. Refusals: 11, 1.
 pub fn get_options(cells: &[u32; 11265], list: Orderings, expr: u32) -> OptionsAre
-    ensures { result ≡ askList (λ k. OptionsAre.Refused k) (optionsAnswer (count cells.now) expr) cells.now list }
+    ensures { result ≡ ask_list (λ k. OptionsAre.Refused k) (options_answer (count cells.now) expr) cells.now list }
 {
     let number = check_list(cells, list);
     if number != 0 {
@@ -49,7 +49,7 @@ pub fn get_options(cells: &[u32; 11265], list: Orderings, expr: u32) -> OptionsA
 
 // An expression leads orderings with opposite options. Refusals: 11, 1.
 pub fn is_expr_partial_const(cells: &[u32; 11265], list: Orderings, expr: u32) -> PartialIs
-    ensures { result ≡ askList (λ k. PartialIs.Refused k) (partialAnswer (count cells.now) expr) cells.now list }
+    ensures { result ≡ ask_list (λ k. PartialIs.Refused k) (partial_answer (count cells.now) expr) cells.now list }
 {
     let number = check_list(cells, list);
     if number != 0 {

@@ -9,60 +9,60 @@ use lib.Dec.{leb}
 use lib.ListN.{length, set, replicate, length-append, length-map, get_or-append}
 use lib.Seq.{set_at, append_snoc, get_or_at}
 use Rattle.laws.specs.Tests.{if◌then◌else◌, each}
-use Rattle.orderings.specs.Lists.{orderingAt}
+use Rattle.orderings.specs.Lists.{ordering_at}
 use Rattle.orderings.specs.Layout.{row, encode, decode}
 use Rattle.orderings.specs.Calls.{fits, listed}
-use Rattle.orderings.specs.Inner.{Held, Short, appended, allShort}
+use Rattle.orderings.specs.Inner.{Held, Short, appended, all_short}
 use Rattle.orderings.specs.declared.Ordering.{Ordering}
 use Rattle.orderings.specs.declared.Orderings.{Orderings}
 use Rattle.orderings.specs.declared.Listed.{Listed}
 use Rattle.orderings.proofs.Codec.{decode-encode, length-decode}
 use native.Mathlib.Decide.{ℕ_discrete}
-use Rattle.laws.proofs.Booleans.{true-not-false}
-use Rattle.laws.proofs.Each.{each_all, each_holds, each-fails}
+use Rattle.laws.proofs.Booleans.{true_not_false}
+use Rattle.laws.proofs.Each.{each_all, each_holds, each_fails}
 
 -- what holds of each of two lists holds of each of both
-pub append-all : (P : List ℕ → Type 0) (ps qs : List (List ℕ)) → ((i : ℕ) → i < length ps → P (orderingAt ps i)) → ((i : ℕ) → i < length qs → P (orderingAt qs i))
-    → (i : ℕ) → i < length (ps ++ qs) → P (orderingAt (ps ++ qs) i)
+pub append-all : (P : List ℕ → Type 0) (ps qs : List (List ℕ)) → ((i : ℕ) → i < length ps → P (ordering_at ps i)) → ((i : ℕ) → i < length qs → P (ordering_at qs i))
+    → (i : ℕ) → i < length (ps ++ qs) → P (ordering_at (ps ++ qs) i)
 append-all P [] qs v w i l = w i l
 append-all P (p ∷ ps) qs v w zero l = v 0 (omega arith)
 append-all P (p ∷ ps) qs v w (suc i) l = append-all P ps qs (λ j b. v (suc j) (omega arith)) w i (omega arith)
 
 -- each of a list has at most 16 keys
 abbrev pub AllShort : List (List ℕ) → Type 0
-AllShort os = (i : ℕ) → i < length os → length (orderingAt os i) ≤ 16
+AllShort os = (i : ℕ) → i < length os → length (ordering_at os i) ≤ 16
 
-pub short-test : (os : List (List ℕ)) → AllShort os → allShort os ≡ true
-unfolding allShort
-short-test os h = each_all (λ i. leb (length (orderingAt os i)) 16) (length os) (λ i l. le-leb (length (orderingAt os i)) 16 (h i l))
+pub short-test : (os : List (List ℕ)) → AllShort os → all_short os ≡ true
+unfolding all_short
+short-test os h = each_all (λ i. leb (length (ordering_at os i)) 16) (length os) (λ i l. le-leb (length (ordering_at os i)) 16 (h i l))
 
-pub test_short : (os : List (List ℕ)) → allShort os ≡ true → AllShort os
-unfolding allShort
-test_short os e i l = leb-true (length (orderingAt os i)) 16 (each_holds (λ i. leb (length (orderingAt os i)) 16) (length os) i e l)
+pub test_short : (os : List (List ℕ)) → all_short os ≡ true → AllShort os
+unfolding all_short
+test_short os e i l = leb-true (length (ordering_at os i)) 16 (each_holds (λ i. leb (length (ordering_at os i)) 16) (length os) i e l)
 
 -- one that has more
-pub long-test : (os : List (List ℕ)) (i : ℕ) → i < length os → 16 < length (orderingAt os i) → allShort os ≡ false
-unfolding allShort
-long-test os i l b = each-fails (λ i. leb (length (orderingAt os i)) 16) (length os) i l (lt-leb (length (orderingAt os i)) 16 b)
+pub long-test : (os : List (List ℕ)) (i : ℕ) → i < length os → 16 < length (ordering_at os i) → all_short os ≡ false
+unfolding all_short
+long-test os i l b = each_fails (λ i. leb (length (ordering_at os i)) 16) (length os) i l (lt-leb (length (ordering_at os i)) 16 b)
 
 -- what is too long stays so where more is put after it
-pub long-append : (os ps : List (List ℕ)) → allShort os ≡ false → allShort (os ++ ps) ≡ false
-long-append os ps f = go (allShort (os ++ ps)) refl
+pub long-append : (os ps : List (List ℕ)) → all_short os ≡ false → all_short (os ++ ps) ≡ false
+long-append os ps f = go (all_short (os ++ ps)) refl
   where
     left : AllShort (os ++ ps) → AllShort os
     left h i l =
         let e = ap (λ (o : List ℕ). length o) (get_or-append os ps [] i l) in
         omega (arith, h i (omega (arith, length-append os ps)))
 
-    go : (b : Bool) → allShort (os ++ ps) ≡ b → allShort (os ++ ps) ≡ false
-    go true e = absurd (true-not-false (short-test os (left (test_short (os ++ ps) e))) f)
+    go : (b : Bool) → all_short (os ++ ps) ≡ b → all_short (os ++ ps) ≡ false
+    go true e = absurd (true_not_false (short-test os (left (test_short (os ++ ps) e))) f)
     go false e = e
 
 -- one ordering more
 pub short-more : (os : List (List ℕ)) (o : List ℕ) → AllShort os → length o ≤ 16 → AllShort (os ++ (o ∷ []))
 short-more os o h b i l = at (ℕ_discrete i (length os))
   where
-    at : Dec (i ≡ length os) → length (orderingAt (os ++ (o ∷ [])) i) ≤ 16
+    at : Dec (i ≡ length os) → length (ordering_at (os ++ (o ∷ [])) i) ≤ 16
     at (yes e) = rw (get_or_at os o [] [] i (sym e)) b
     at (no e) = let k : i < length os = omega (arith, length-append os (o ∷ [])) in rw (get_or-append os (o ∷ []) [] i k) (h i k)
 
@@ -93,7 +93,7 @@ unfolding encode
 short-encode os b h = record {
   coded = ap encode (decode-encode os);
   few = b;
-  short = λ i l. subst (λ (t : List (List ℕ)). length (orderingAt t i) ≤ 16) (sym (decode-encode os)) (h i l);
+  short = λ i l. subst (λ (t : List (List ℕ)). length (ordering_at t i) ≤ 16) (sym (decode-encode os)) (h i l);
 }
 
 pub short-all : (g : Orderings) → Short g → AllShort (decode g)
@@ -106,18 +106,18 @@ abbrev pub told : ℕ → Orderings → Listed
 told k g = record { number = k; list = g }
 
 -- the answers of a function that makes a list
-pub listed-made : (g : Orderings) (os : List (List ℕ)) → length os ≤ 32 → allShort os ≡ true → listed g os ≡ told 0 (encode os)
-unfolding listed fits allShort
+pub listed-made : (g : Orderings) (os : List (List ℕ)) → length os ≤ 32 → all_short os ≡ true → listed g os ≡ told 0 (encode os)
+unfolding listed fits all_short
 listed-made g os l e = rw (le-leb (length os) 32 l, e)
 
 pub listed-many : (g : Orderings) (os : List (List ℕ)) → 32 < length os → listed g os ≡ told 5 g
 unfolding listed fits
 listed-many g os l = rw (lt-leb (length os) 32 l)
 
-pub listed-long : (g : Orderings) (os : List (List ℕ)) → allShort os ≡ false → listed g os ≡ told 5 g
-unfolding listed fits allShort
+pub listed-long : (g : Orderings) (os : List (List ℕ)) → all_short os ≡ false → listed g os ≡ told 5 g
+unfolding listed fits all_short
 listed-long g os e = go (leb (length os) 32)
   where
-    go : (b : Bool) → (if b && each (λ i. leb (length (orderingAt os i)) 16) (length os) then told 0 (encode os) else told 5 g) ≡ told 5 g
+    go : (b : Bool) → (if b && each (λ i. leb (length (ordering_at os i)) 16) (length os) then told 0 (encode os) else told 5 g) ≡ told 5 g
     go true = rw e
     go false = refl

@@ -6,8 +6,8 @@ use native.Mathlib.Numerals.{add-one}
 use native.Mathlib.Omega.{arith}
 use lib.ListN.{length, get_or, take, set, replicate, length-append, length-replicate, length-set, length-map, get_or-map}
 use lib.Seq.{length-take-le, take-suc, append_snoc, set_at, set-append_left}
-use Rattle.laws.proofs.Table.{length-table, getD-table, table_is}
-use Rattle.orderings.specs.Lists.{orderingAt}
+use Rattle.laws.proofs.Table.{length-table, get_or-table, table_is}
+use Rattle.orderings.specs.Lists.{ordering_at}
 use Rattle.orderings.specs.Good.{GoodOrdering, Good}
 use Rattle.orderings.specs.Layout.{row, keys_of, encode, decode}
 use Rattle.orderings.specs.Inner.{HeldOrdering, Held}
@@ -16,12 +16,12 @@ use Rattle.orderings.specs.declared.Orderings.{Orderings}
 
 module _ {A : Type 0} (d : A) where
   -- what fills a list up changes no place
-  pub fill-after : (xs : List A) (n i : ℕ) → get_or (xs ++ replicate n d) i d ≡ get_or xs i d
-  fill-after [] zero i = refl
-  fill-after [] (suc n) zero = refl
-  fill-after [] (suc n) (suc i) = fill-after [] n i
-  fill-after (x ∷ xs) n zero = refl
-  fill-after (x ∷ xs) n (suc i) = fill-after xs n i
+  pub fill_after : (xs : List A) (n i : ℕ) → get_or (xs ++ replicate n d) i d ≡ get_or xs i d
+  fill_after [] zero i = refl
+  fill_after [] (suc n) zero = refl
+  fill_after [] (suc n) (suc i) = fill_after [] n i
+  fill_after (x ∷ xs) n zero = refl
+  fill_after (x ∷ xs) n (suc i) = fill_after xs n i
 
 module _ {A B : Type 0} (f : A → B) where
   map-set : (xs : List A) (i : ℕ) (x : A) → map f (set xs i x) ≡ set (map f xs) i (f x)
@@ -36,17 +36,17 @@ get_d_any (x ∷ xs) zero d e l = refl
 get_d_any (x ∷ xs) (suc i) d e l = get_d_any xs i d e (omega arith)
 
 -- what the code reads at a place
-abbrev pub noPlace : Ordering
-noPlace = record { size = 0; keys = [] }
+abbrev pub no_place : Ordering
+no_place = record { size = 0; keys = [] }
 
 abbrev pub place_in : Orderings → ℕ → Ordering
-place_in g i = get_or g.list i noPlace
+place_in g i = get_or g.list i no_place
 
 -- one ordering: nothing is lost
 pub keys-row : (o : List ℕ) → keys_of (row o) ≡ o
 unfolding keys_of row
 keys-row o =
-    sym (table_is (λ k. get_or (o ++ replicate (16 - length o) 0) k 0) (length o) o 0 refl (λ k l. sym (fill-after 0 o (16 - length o) k)))
+    sym (table_is (λ k. get_or (o ++ replicate (16 - length o) 0) k 0) (length o) o 0 refl (λ k l. sym (fill_after 0 o (16 - length o) k)))
 
 -- an ordering that is good is held in its struct
 pub row-held : (o : List ℕ) → GoodOrdering o → HeldOrdering (row o)
@@ -60,7 +60,7 @@ module _ (r : Ordering) where
 
   pub key-is : (k : ℕ) → k < r.size → get_or (keys_of r) k 0 ≡ get_or r.keys k 0
   unfolding keys_of
-  key-is k l = getD-table (λ k. get_or r.keys k 0) r.size k 0 l
+  key-is k l = get_or-table (λ k. get_or r.keys k 0) r.size k 0 l
 
   pub size_few : HeldOrdering r → r.size ≤ 16
   size_few h = omega (arith, h.good.few, size_is)
@@ -87,16 +87,16 @@ filled-all r n l =
     rw e
 
 -- a place of a list of orderings, also past its end
-pub place-encode : (os : List (List ℕ)) (i : ℕ) → get_or (encode os).list i (row []) ≡ row (orderingAt os i)
+pub place-encode : (os : List (List ℕ)) (i : ℕ) → get_or (encode os).list i (row []) ≡ row (ordering_at os i)
 unfolding encode
-place-encode os i = fill-after (row []) (map row os) (32 - length os) i ∙ get_or-map row os i []
+place-encode os i = fill_after (row []) (map row os) (32 - length os) i ∙ get_or-map row os i []
 
 -- nothing is lost
 pub decode-encode : (os : List (List ℕ)) → decode (encode os) ≡ os
 unfolding decode encode
 decode-encode os =
     sym (table_is (λ i. keys_of (get_or (encode os).list i (row []))) (length os) os [] refl
-    (λ i l. sym (ap keys_of (place-encode os i) ∙ keys-row (orderingAt os i))))
+    (λ i l. sym (ap keys_of (place-encode os i) ∙ keys-row (ordering_at os i))))
 
 -- a list that is good is held in its struct
 pub good-held : (os : List (List ℕ)) → Good os → Held (encode os)
@@ -119,22 +119,22 @@ module _ (g : Orderings) (h : Held g) where
   pub places : length g.list ≡ 32
   places = subst (λ (x : Orderings). length x.list ≡ 32) h.coded (length-list (decode g) h.good.few)
 
-  pub place_is : (i : ℕ) → i < g.count → place_in g i ≡ row (orderingAt (decode g) i)
+  pub place_is : (i : ℕ) → i < g.count → place_in g i ≡ row (ordering_at (decode g) i)
   place_is i l =
-      get_d_any g.list i noPlace (row []) (omega (arith, count-few, places))
-      ∙ subst (λ (x : Orderings). get_or x.list i (row []) ≡ row (orderingAt (decode g) i)) h.coded (place-encode (decode g) i)
+      get_d_any g.list i no_place (row []) (omega (arith, count-few, places))
+      ∙ subst (λ (x : Orderings). get_or x.list i (row []) ≡ row (ordering_at (decode g) i)) h.coded (place-encode (decode g) i)
 
-  pub good-at : (i : ℕ) → i < g.count → GoodOrdering (orderingAt (decode g) i)
+  pub good-at : (i : ℕ) → i < g.count → GoodOrdering (ordering_at (decode g) i)
   good-at i l = h.good.each i (omega (arith, length-decode g))
 
   pub place-held : (i : ℕ) → i < g.count → HeldOrdering (place_in g i)
-  place-held i l = subst HeldOrdering (sym (place_is i l)) (row-held (orderingAt (decode g) i) (good-at i l))
+  place-held i l = subst HeldOrdering (sym (place_is i l)) (row-held (ordering_at (decode g) i) (good-at i l))
 
   -- the keys and their number at a place
-  pub place-keys : (i : ℕ) → i < g.count → keys_of (place_in g i) ≡ orderingAt (decode g) i
-  place-keys i l = ap keys_of (place_is i l) ∙ keys-row (orderingAt (decode g) i)
+  pub place-keys : (i : ℕ) → i < g.count → keys_of (place_in g i) ≡ ordering_at (decode g) i
+  place-keys i l = ap keys_of (place_is i l) ∙ keys-row (ordering_at (decode g) i)
 
-  pub place-size : (i : ℕ) → i < g.count → (place_in g i).size ≡ length (orderingAt (decode g) i)
+  pub place-size : (i : ℕ) → i < g.count → (place_in g i).size ≡ length (ordering_at (decode g) i)
   unfolding row
   place-size i l = ap (λ (r : Ordering). r.size) (place_is i l)
 

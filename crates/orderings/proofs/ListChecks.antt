@@ -13,13 +13,13 @@ use mir.Val.{Val}
 use lib.Dec.{ltb, leb}
 use lib.ListN.{length, get_or, length-map}
 use Rattle.laws.specs.Tests.{each}
-use Rattle.laws.proofs.Booleans.{true-not-false, and_left, and_right}
+use Rattle.laws.proofs.Booleans.{true_not_false, and_left, and_right}
 use Rattle.laws.proofs.Each.{each_holds}
-use Rattle.orderings.specs.Ordering.{exprOf}
-use Rattle.orderings.specs.Layout.{row, place_in, freshKey, restUnused, lawfulOrdering, unusedOrdering, lawfulList}
+use Rattle.orderings.specs.Ordering.{expr_of}
+use Rattle.orderings.specs.Layout.{row, place_in, fresh_key, rest_unused, lawful_ordering, unused_ordering, lawful_list}
 use Rattle.orderings.specs.declared.Ordering.{Ordering}
 use Rattle.orderings.specs.declared.Orderings.{Orderings}
-use Rattle.orderings.proofs.Codec.{get_d_any, noPlace}
+use Rattle.orderings.proofs.Codec.{get_d_any, no_place}
 use Rattle.orderings.specs.contracts.Ordering.{the_field}
 use Rattle.orderings.specs.contracts.Orderings.{the_row}
 
@@ -44,10 +44,10 @@ sized g vs p =
 
 -- the tests of a place for keys
 abbrev pub Fresh : Ordering → ℕ → Bool
-Fresh r k = freshKey r.keys k
+Fresh r k = fresh_key r.keys k
 
 abbrev pub Below : Ordering → ℕ → ℕ → Bool
-Below r n k = ltb (exprOf (get_or r.keys k 0)) n
+Below r n k = ltb (expr_of (get_or r.keys k 0)) n
 
 -- the expressions of an ordering are below n
 abbrev pub Inside : ℕ → Ordering → Bool
@@ -55,40 +55,40 @@ Inside n r = each (Below r n) r.size
 
 -- the tests of a place for orderings
 abbrev pub LawfulAt : Orderings → ℕ → Bool
-LawfulAt g i = lawfulOrdering (place_in g i)
+LawfulAt g i = lawful_ordering (place_in g i)
 
 abbrev pub UnusedAt : Orderings → ℕ → Bool
-UnusedAt g i = unusedOrdering (place_in g (g.count + i))
+UnusedAt g i = unused_ordering (place_in g (g.count + i))
 
 abbrev pub InsideAt : ℕ → Orderings → ℕ → Bool
 InsideAt n g i = Inside n (place_in g i)
 
 -- what the code reads at a place is what stands there
-pub read_is : (g : Orderings) → Sized g → (i : ℕ) → i < 32 → get_or g.list i noPlace ≡ place_in g i
-read_is g z i l = get_d_any g.list i noPlace (row []) (omega (arith, z.places))
+pub read_is : (g : Orderings) → Sized g → (i : ℕ) → i < 32 → get_or g.list i no_place ≡ place_in g i
+read_is g z i l = get_d_any g.list i no_place (row []) (omega (arith, z.places))
 
 -- so a test of what it reads is a test of the place
-pub at_place : (f : Ordering → Bool) (b : Bool) (g : Orderings) → Sized g → (i : ℕ) → i < 32 → f (get_or g.list i noPlace) ≡ b → f (place_in g i) ≡ b
+pub at_place : (f : Ordering → Bool) (b : Bool) (g : Orderings) → Sized g → (i : ℕ) → i < 32 → f (get_or g.list i no_place) ≡ b → f (place_in g i) ≡ b
 at_place f b g z i l e = subst (λ (r : Ordering). f r ≡ b) (read_is g z i l) e
 
 -- the parts of three and of four tests
 pub three : (a b c : Bool) → (a && b && c) ≡ true → (a ≡ true) × (b ≡ true) × (c ≡ true)
 three true b c e = (refl, and_left b c e, and_right b c e)
-three false b c e = absurd (true-not-false e refl)
+three false b c e = absurd (true_not_false e refl)
 
 pub four : (a b c d : Bool) → (a && b && c && d) ≡ true → (a ≡ true) × (b ≡ true) × (c ≡ true) × (d ≡ true)
 four true b c d e = let t = three b c d e in (refl, t.0, t.1, t.2)
-four false b c d e = absurd (true-not-false e refl)
+four false b c d e = absurd (true_not_false e refl)
 
 -- an ordering that passes has at most 16 keys
-pub ordering-size : (r : Ordering) → lawfulOrdering r ≡ true → r.size ≤ 16
-unfolding lawfulOrdering
-ordering-size r e = leb-true r.size 16 (four (ltb 0 r.size) (leb r.size 16) (each (Fresh r) r.size) (restUnused r) e).1
+pub ordering-size : (r : Ordering) → lawful_ordering r ≡ true → r.size ≤ 16
+unfolding lawful_ordering
+ordering-size r e = leb-true r.size 16 (four (ltb 0 r.size) (leb r.size 16) (each (Fresh r) r.size) (rest_unused r) e).1
 
 -- the tests that a list passes: at most 32 orderings, each of at most 16 keys
-module _ (g : Orderings) (e : lawfulList g ≡ true) where
+module _ (g : Orderings) (e : lawful_list g ≡ true) where
   pub tests : (leb g.count 32 ≡ true) × (each (LawfulAt g) g.count ≡ true) × (each (UnusedAt g) (32 - g.count) ≡ true)
-  unfolding lawfulList
+  unfolding lawful_list
   tests = three (leb g.count 32) (each (LawfulAt g) g.count) (each (UnusedAt g) (32 - g.count)) e
 
   pub lawful-count : g.count ≤ 32

@@ -3,31 +3,31 @@
 use Rattle.std.specs.Prelude.{ℕ, Bool, ◌&&◌, List, [], eqb, leb, length}
 use Rattle.laws.specs.Tests.{if◌then◌else◌, each}
 use Rattle.arena.specs.Layout.{count, lawful}
-use Rattle.orderings.specs.Lists.{orderingAt}
-use Rattle.orderings.specs.Layout.{encode, decode, lawfulList, keysInside}
+use Rattle.orderings.specs.Lists.{ordering_at}
+use Rattle.orderings.specs.Layout.{encode, decode, lawful_list, keys_inside}
 use Rattle.orderings.specs.declared.Orderings.{Orderings}
 use Rattle.orderings.specs.declared.Listed.{Listed}
 
 -- the check of a lent list over a lent arena: 11 for the arena or the list, then 1, else 0
-unfoldable pub listNumber : List ℕ → Orderings → ℕ
-listNumber cells g =
-    if lawful cells && lawfulList g then
-    (if keysInside (count cells) g then 0 else 1)
+unfoldable pub list_number : List ℕ → Orderings → ℕ
+list_number cells g =
+    if lawful cells && lawful_list g then
+    (if keys_inside (count cells) g then 0 else 1)
     else 11
 
 -- at most 32 orderings of at most 16 keys (else 5)
 unfoldable pub fits : List (List ℕ) → Bool
-fits os = leb (length os) 32 && each (λ i. leb (length (orderingAt os i)) 16) (length os)
+fits os = leb (length os) 32 && each (λ i. leb (length (ordering_at os i)) 16) (length os)
 
 -- a call that only asks: its refusal, or its answer on the orderings
-unfoldable pub askList : {A : Type 0} → (ℕ → A) → (List (List ℕ) → A) → List ℕ → Orderings → A
-askList refusedBy call cells g = if eqb (listNumber cells g) 0 then call (decode g) else refusedBy (listNumber cells g)
+unfoldable pub ask_list : {A : Type 0} → (ℕ → A) → (List (List ℕ) → A) → List ℕ → Orderings → A
+ask_list refused_by call cells g = if eqb (list_number cells g) 0 then call (decode g) else refused_by (list_number cells g)
 
 -- the check of two lent lists: 11 for the arena or either list, then 1 for a key of either, else 0
-unfoldable pub twoNumber : List ℕ → Orderings → Orderings → ℕ
-twoNumber cells g h =
-    if lawful cells && lawfulList g && lawfulList h then
-    (if keysInside (count cells) g && keysInside (count cells) h then 0 else 1)
+unfoldable pub two_number : List ℕ → Orderings → Orderings → ℕ
+two_number cells g h =
+    if lawful cells && lawful_list g && lawful_list h then
+    (if keys_inside (count cells) g && keys_inside (count cells) h then 0 else 1)
     else 11
 
 -- a list that was made, or 5 where it is too large, and then the list that was given
@@ -35,5 +35,5 @@ unfoldable pub listed : Orderings → List (List ℕ) → Listed
 listed g os = if fits os then record { number = 0; list = encode os } else record { number = 5; list = g }
 
 -- an empty list
-unfoldable pub clearAnswer : List ℕ → Orderings → Listed
-clearAnswer cells g = askList (λ k. record { number = k; list = g }) (λ os. record { number = 0; list = encode [] }) cells g
+unfoldable pub clear_answer : List ℕ → Orderings → Listed
+clear_answer cells g = ask_list (λ k. record { number = k; list = g }) (λ os. record { number = 0; list = encode [] }) cells g

@@ -2,9 +2,9 @@
 use Rattle.std.specs.Prelude.{ℕ, ◌+◌, ◌<◌, ◌≤◌, Bool, true, false, List, [], ◌≡◌, leb, length, drop, set}
 use Rattle.laws.specs.Tests.{if◌then◌else◌, each}
 use Rattle.orderings.specs.Ordering.{extended}
-use Rattle.orderings.specs.Lists.{orderingAt}
+use Rattle.orderings.specs.Lists.{ordering_at}
 use Rattle.orderings.specs.Good.{Good, GoodOrdering}
-use Rattle.orderings.specs.Layout.{row, keys_of, encode, decode, lawfulList}
+use Rattle.orderings.specs.Layout.{row, keys_of, encode, decode, lawful_list}
 use Rattle.orderings.specs.declared.Ordering.{Ordering}
 use Rattle.orderings.specs.declared.Orderings.{Orderings}
 use Rattle.orderings.specs.declared.Extended.{Extended}
@@ -28,11 +28,11 @@ pub record ShortOrdering (r : Ordering) : Type 0 where
 pub record Short (g : Orderings) : Type 0 where
   pub coded : encode (decode g) ≡ g
   pub few : g.count ≤ 32
-  pub short : (i : ℕ) → i < g.count → length (orderingAt (decode g) i) ≤ 16
+  pub short : (i : ℕ) → i < g.count → length (ordering_at (decode g) i) ≤ 16
 
 -- an ordering that was extended, as its struct: an empty one where it has more than 16 keys
-unfoldable pub extendedOf : List ℕ → Extended
-extendedOf ks = if leb (length ks) 16 then record { fits = true; ordering = row ks } else record { fits = false; ordering = row [] }
+unfoldable pub extended_of : List ℕ → Extended
+extended_of ks = if leb (length ks) 16 then record { fits = true; ordering = row ks } else record { fits = false; ordering = row [] }
 
 -- extending an ordering by keys: the first k of them are pushed, and the others are to be
 pub record Extending (o ks : List ℕ) (k : ℕ) (out : Ordering) : Type 0 where
@@ -49,9 +49,9 @@ unfoldable pub appended : Orderings → Ordering → Orderings
 appended g o = record { count = g.count + 1; list = set g.list g.count o }
 
 -- each ordering has at most 16 keys
-unfoldable pub allShort : List (List ℕ) → Bool
-allShort os = each (λ i. leb (length (orderingAt os i)) 16) (length os)
+unfoldable pub all_short : List (List ℕ) → Bool
+all_short os = each (λ i. leb (length (ordering_at os i)) 16) (length os)
 
 -- the struct passes rule 11
 abbrev pub Lawful : Orderings → Type 0
-Lawful g = lawfulList g ≡ true
+Lawful g = lawful_list g ≡ true

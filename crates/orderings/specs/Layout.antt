@@ -3,7 +3,7 @@
 use Rattle.std.specs.Prelude.{ℕ, ◌+◌, ◌-◌, Bool, not, ◌&&◌, List, [], ◌++◌, map, eqb, ltb, leb, length, get_or, replicate}
 use Rattle.laws.specs.Lists.{table}
 use Rattle.laws.specs.Tests.{each}
-use Rattle.orderings.specs.Ordering.{exprOf}
+use Rattle.orderings.specs.Ordering.{expr_of}
 use Rattle.orderings.specs.declared.Ordering.{Ordering}
 use Rattle.orderings.specs.declared.Orderings.{Orderings}
 
@@ -28,28 +28,28 @@ abbrev pub place_in : Orderings → ℕ → Ordering
 place_in g i = get_or g.list i (row [])
 
 -- the expression of the key at a place does not stand before it
-unfoldable pub freshKey : List ℕ → ℕ → Bool
-freshKey ks k = each (λ i. not (eqb (exprOf (get_or ks i 0)) (exprOf (get_or ks k 0)))) k
+unfoldable pub fresh_key : List ℕ → ℕ → Bool
+fresh_key ks k = each (λ i. not (eqb (expr_of (get_or ks i 0)) (expr_of (get_or ks k 0)))) k
 
 -- the places for keys after those that are used are 0
-unfoldable pub restUnused : Ordering → Bool
-restUnused r = each (λ k. eqb (get_or r.keys (r.size + k) 0) 0) (16 - r.size)
+unfoldable pub rest_unused : Ordering → Bool
+rest_unused r = each (λ k. eqb (get_or r.keys (r.size + k) 0) 0) (16 - r.size)
 
 -- an ordering: 1 to 16 keys, no expression twice, unused places 0
-unfoldable pub lawfulOrdering : Ordering → Bool
-lawfulOrdering r = ltb 0 r.size && leb r.size 16 && each (λ k. freshKey r.keys k) r.size && restUnused r
+unfoldable pub lawful_ordering : Ordering → Bool
+lawful_ordering r = ltb 0 r.size && leb r.size 16 && each (λ k. fresh_key r.keys k) r.size && rest_unused r
 
 -- an unused place: no keys, and every place for one 0
-unfoldable pub unusedOrdering : Ordering → Bool
-unusedOrdering r = eqb r.size 0 && restUnused r
+unfoldable pub unused_ordering : Ordering → Bool
+unused_ordering r = eqb r.size 0 && rest_unused r
 
 -- document 01's rule 11 for a lent list (else 11): at most 32 orderings, each lawful, the other places unused
-unfoldable pub lawfulList : Orderings → Bool
-lawfulList g =
+unfoldable pub lawful_list : Orderings → Bool
+lawful_list g =
     leb g.count 32
-    && each (λ i. lawfulOrdering (place_in g i)) g.count
-    && each (λ i. unusedOrdering (place_in g (g.count + i))) (32 - g.count)
+    && each (λ i. lawful_ordering (place_in g i)) g.count
+    && each (λ i. unused_ordering (place_in g (g.count + i))) (32 - g.count)
 
 -- every key's expression is one of the first n (else 1), after 11
-unfoldable pub keysInside : ℕ → Orderings → Bool
-keysInside n g = each (λ i. each (λ k. ltb (exprOf (get_or (place_in g i).keys k 0)) n) (place_in g i).size) g.count
+unfoldable pub keys_inside : ℕ → Orderings → Bool
+keys_inside n g = each (λ i. each (λ k. ltb (expr_of (get_or (place_in g i).keys k 0)) n) (place_in g i).size) g.count

@@ -3,25 +3,25 @@ use Rattle.std.specs.Prelude.{ℕ, ◌/◌, ◌%◌, Bool, false, ◌||◌, List
 use Rattle.laws.specs.Tests.{if◌then◌else◌}
 
 -- the expression of a key
-unfoldable pub exprOf : ℕ → ℕ
-exprOf k = k / 4
+unfoldable pub expr_of : ℕ → ℕ
+expr_of k = k / 4
 
 -- the options of a key
-unfoldable pub optionsOf : ℕ → ℕ
-optionsOf k = k % 4
+unfoldable pub options_of : ℕ → ℕ
+options_of k = k % 4
 
 -- the match of two keys on which overlap rests: the same expression with the same options
-unfoldable pub sameKey : ℕ → ℕ → Bool
-sameKey a b = eqb a b
+unfoldable pub same_key : ℕ → ℕ → Bool
+same_key a b = eqb a b
 
 -- an ordering has an expression, with any options
-unfoldable pub hasExpr : ℕ → List ℕ → Bool
-hasExpr e [] = false
-hasExpr e (k ∷ ks) = eqb (exprOf k) e || hasExpr e ks
+unfoldable pub has_expr : ℕ → List ℕ → Bool
+has_expr e [] = false
+has_expr e (k ∷ ks) = eqb (expr_of k) e || has_expr e ks
 
 -- a key is pushed; one whose expression is already there, with any options, is dropped
 unfoldable pub pushed : List ℕ → ℕ → List ℕ
-pushed o k = if hasExpr (exprOf k) o then o else o ++ (k ∷ [])
+pushed o k = if has_expr (expr_of k) o then o else o ++ (k ∷ [])
 
 -- an ordering is extended by keys, pushed one after the other
 unfoldable pub extended : List ℕ → List ℕ → List ℕ

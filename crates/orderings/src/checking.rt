@@ -2,9 +2,9 @@
 ghost use Rattle.std.specs.Prelude.{◌&&◌, ◌≡◌, ◌≤◌, ◌<◌, ◌+◌, ◌-◌, ltb, get_or};
 ghost use Rattle.laws.specs.Tests.{each};
 ghost use Rattle.arena.specs.Layout.{count, lawful};
-ghost use Rattle.orderings.specs.Ordering.{exprOf};
-ghost use Rattle.orderings.specs.Layout.{place_in, freshKey, restUnused, lawfulOrdering, unusedOrdering, lawfulList, keysInside};
-ghost use Rattle.orderings.specs.Calls.{listNumber, twoNumber};
+ghost use Rattle.orderings.specs.Ordering.{expr_of};
+ghost use Rattle.orderings.specs.Layout.{place_in, fresh_key, rest_unused, lawful_ordering, unused_ordering, lawful_list, keys_inside};
+ghost use Rattle.orderings.specs.Calls.{list_number, two_number};
 ghost use Rattle.orderings.specs.Inner.{Lawful};
 
 use crate::{Ordering, Orderings};
@@ -14,7 +14,7 @@ use arena::checking::lawful_arena;
 // The expression of key k does not stand before it.
 fn fresh_key(o: Ordering, k: usize) -> bool
     requires { k < 16 }
-    ensures { result ≡ freshKey o.keys k }
+    ensures { result ≡ fresh_key o.keys k }
 {
     let e = o.keys[k] / 4;
     let mut i = 0;
@@ -30,7 +30,7 @@ fn fresh_key(o: Ordering, k: usize) -> bool
 // No expression stands twice.
 fn keys_fresh(o: Ordering) -> bool
     requires { o.size ≤ 16 }
-    ensures { result ≡ each (λ k. freshKey o.keys k) o.size }
+    ensures { result ≡ each (λ k. fresh_key o.keys k) o.size }
 {
     let n = o.size;
     let mut k = 0;
@@ -46,7 +46,7 @@ fn keys_fresh(o: Ordering) -> bool
 // The places for keys after those that are used are 0.
 fn rest_unused(o: Ordering) -> bool
     requires { o.size ≤ 16 }
-    ensures { result ≡ restUnused o }
+    ensures { result ≡ rest_unused o }
 {
     let n = o.size;
     let mut k = 0;
@@ -61,7 +61,7 @@ fn rest_unused(o: Ordering) -> bool
 
 // An ordering: 1 to 16 keys, no expression twice, unused places 0.
 fn lawful_ordering(o: Ordering) -> bool
-    ensures { result ≡ lawfulOrdering o }
+    ensures { result ≡ lawful_ordering o }
 {
     if o.size == 0 {
         return false;
@@ -77,7 +77,7 @@ fn lawful_ordering(o: Ordering) -> bool
 
 // An unused place.
 fn unused_ordering(o: Ordering) -> bool
-    ensures { result ≡ unusedOrdering o }
+    ensures { result ≡ unused_ordering o }
 {
     if o.size != 0 {
         return false;
@@ -88,7 +88,7 @@ fn unused_ordering(o: Ordering) -> bool
 // Each of the orderings is lawful.
 fn orderings_lawful(g: Orderings) -> bool
     requires { g.count ≤ 32 }
-    ensures { result ≡ each (λ i. lawfulOrdering (place_in g i)) g.count }
+    ensures { result ≡ each (λ i. lawful_ordering (place_in g i)) g.count }
 {
     let n = g.count;
     let mut i = 0;
@@ -104,7 +104,7 @@ fn orderings_lawful(g: Orderings) -> bool
 // Each of the other places is unused.
 fn places_unused(g: Orderings) -> bool
     requires { g.count ≤ 32 }
-    ensures { result ≡ each (λ i. unusedOrdering (place_in g (g.count + i))) (32 - g.count) }
+    ensures { result ≡ each (λ i. unused_ordering (place_in g (g.count + i))) (32 - g.count) }
 {
     let n = g.count;
     let mut i = 0;
@@ -119,7 +119,7 @@ fn places_unused(g: Orderings) -> bool
 
 // The struct is a list of orderings.
 pub fn lawful_list(g: Orderings) -> bool
-    ensures { result ≡ lawfulList g }
+    ensures { result ≡ lawful_list g }
 {
     if 32 < g.count {
         return false;
@@ -132,7 +132,7 @@ pub fn lawful_list(g: Orderings) -> bool
 
 // The expression of a key, as an index.
 pub fn expr_of(key: u16) -> usize
-    ensures { result ≡ exprOf key }
+    ensures { result ≡ expr_of key }
 {
     (key / 4) as usize
 }
@@ -140,7 +140,7 @@ pub fn expr_of(key: u16) -> usize
 // The expressions of an ordering's keys are below n.
 fn exprs_below(o: Ordering, n: usize) -> bool
     requires { o.size ≤ 16 }
-    ensures { result ≡ each (λ k. ltb (exprOf (get_or o.keys k 0)) n) o.size }
+    ensures { result ≡ each (λ k. ltb (expr_of (get_or o.keys k 0)) n) o.size }
 {
     let m = o.size;
     let mut k = 0;
@@ -156,7 +156,7 @@ fn exprs_below(o: Ordering, n: usize) -> bool
 // The expressions of all keys are below n.
 pub fn keys_below(g: Orderings, n: usize) -> bool
     requires { Lawful g }
-    ensures { result ≡ keysInside n g }
+    ensures { result ≡ keys_inside n g }
 {
     let m = g.count;
     let mut i = 0;
@@ -171,7 +171,7 @@ pub fn keys_below(g: Orderings, n: usize) -> bool
 
 // The check of a lent list over a lent arena.
 pub fn check_list(cells: &[u32; 11265], g: Orderings) -> u32
-    ensures { result ≡ listNumber cells.now g }
+    ensures { result ≡ list_number cells.now g }
 {
     if !lawful_arena(cells) {
         return 11;
@@ -188,7 +188,7 @@ pub fn check_list(cells: &[u32; 11265], g: Orderings) -> u32
 
 // The check of two lent lists over a lent arena.
 pub fn check_two(cells: &[u32; 11265], g: Orderings, h: Orderings) -> u32
-    ensures { result ≡ twoNumber cells.now g h }
+    ensures { result ≡ two_number cells.now g h }
 {
     if !lawful_arena(cells) {
         return 11;

@@ -7,7 +7,7 @@ pub mod making;
 pub mod pushing;
 
 ghost use Rattle.std.specs.Prelude.{◌≡◌};
-ghost use Rattle.orderings.specs.Calls.{listNumber, clearAnswer};
+ghost use Rattle.orderings.specs.Calls.{list_number, clear_answer};
 
 use checking::check_list;
 use making::{no_orderings, refusal};
@@ -42,14 +42,14 @@ pub struct Extended {
 
 // The check of a lent list: 0, or 11 or 1, whichever is first.
 pub fn check(cells: &[u32; 11265], list: Orderings) -> u32
-    ensures { result ≡ listNumber cells.now list }
+    ensures { result ≡ list_number cells.now list }
 {
     check_list(cells, list)
 }
 
 // An empty list. Refusals: 11, 1.
 pub fn clear(cells: &[u32; 11265], list: Orderings) -> Listed
-    ensures { result ≡ clearAnswer cells.now list }
+    ensures { result ≡ clear_answer cells.now list }
 {
     let number = check_list(cells, list);
     if number != 0 {

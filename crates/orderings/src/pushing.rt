@@ -1,8 +1,8 @@
 // One ordering (`LexOrdering`): pushing and extending drop a key whose expression is already there, with any options.
 ghost use Rattle.std.specs.Prelude.{◌≡◌};
-ghost use Rattle.orderings.specs.Ordering.{hasExpr, pushed, extended};
+ghost use Rattle.orderings.specs.Ordering.{has_expr, pushed, extended};
 ghost use Rattle.orderings.specs.Layout.{keys_of};
-ghost use Rattle.orderings.specs.Inner.{ShortOrdering, extendedOf};
+ghost use Rattle.orderings.specs.Inner.{ShortOrdering, extended_of};
 
 use crate::making::nothing;
 use crate::{Extended, Ordering};
@@ -10,7 +10,7 @@ use crate::{Extended, Ordering};
 // An ordering has an expression, with any options.
 fn has_expr(o: Ordering, expr: u16) -> bool
     requires { ShortOrdering o }
-    ensures { result ≡ hasExpr expr (keys_of o) }
+    ensures { result ≡ has_expr expr (keys_of o) }
 {
     let n = o.size;
     let mut k = 0;
@@ -26,7 +26,7 @@ fn has_expr(o: Ordering, expr: u16) -> bool
 // A key is pushed.
 pub fn push(o: Ordering, key: u16) -> Extended
     requires { ShortOrdering o }
-    ensures { result ≡ extendedOf (pushed (keys_of o) key) }
+    ensures { result ≡ extended_of (pushed (keys_of o) key) }
 {
     if has_expr(o, key / 4) {
         return Extended {
@@ -53,7 +53,7 @@ pub fn push(o: Ordering, key: u16) -> Extended
 // An ordering is extended by another's keys, pushed one after the other.
 pub fn extend(o: Ordering, p: Ordering) -> Extended
     requires { ShortOrdering o × ShortOrdering p }
-    ensures { result ≡ extendedOf (extended (keys_of o) (keys_of p)) }
+    ensures { result ≡ extended_of (extended (keys_of o) (keys_of p)) }
 {
     let n = p.size;
     let mut out = o;

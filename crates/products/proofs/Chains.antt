@@ -13,22 +13,22 @@ use lib.Seq.{set_at, append_snoc, drop-cons}
 use Rattle.laws.specs.Lists.{table}
 use Rattle.laws.specs.Tests.{each}
 use Rattle.laws.proofs.Each.{each_holds}
-use Rattle.laws.proofs.Table.{length-table, getD-table, table_is}
+use Rattle.laws.proofs.Table.{length-table, get_or-table, table_is}
 use Rattle.orderings.specs.Ordering.{extended}
-use Rattle.orderings.specs.Lists.{orderingAt}
+use Rattle.orderings.specs.Lists.{ordering_at}
 use Rattle.orderings.specs.Layout.{row, keys_of}
-use Rattle.orderings.specs.Inner.{ShortOrdering, extendedOf}
+use Rattle.orderings.specs.Inner.{ShortOrdering, extended_of}
 use Rattle.orderings.specs.declared.Ordering.{Ordering}
 use Rattle.orderings.specs.declared.Extended.{Extended}
-use Rattle.orderings.proofs.Codec.{fill-after, get_d_any, noPlace, keys-row}
+use Rattle.orderings.proofs.Codec.{fill_after, get_d_any, no_place, keys-row}
 use Rattle.orderings.proofs.Extending.{answer, fits-here, fits_not, fitting, unfitting, short-size, row-short, extended-grows}
 use Rattle.products.specs.Orders.{passing, orders}
-use Rattle.products.specs.Generate.{chained, inAllOrders}
-use Rattle.products.specs.Inner.{choiceRow, choice_of, Chosen, orderRow, places_of, Placed, factorial}
+use Rattle.products.specs.Generate.{chained, in_all_orders}
+use Rattle.products.specs.Inner.{choice_row, choice_of, Chosen, order_row, places_of, Placed, factorial}
 use Rattle.products.specs.declared.Choice.{Choice}
 use Rattle.products.specs.declared.Order.{Order}
 use Rattle.products.proofs.ListLaws.{map-table}
-use Rattle.products.proofs.OrderLaws.{mapped_at, factorial-some, orders-length, orders-at, order-length, order_below}
+use Rattle.products.proofs.OrderLaws.{mapped_at_lem, factorial-some, orders-length, orders-at, order_length, order_below}
 
 -- the code's table of factorials
 abbrev factorials : List ℕ
@@ -93,8 +93,8 @@ writing-next o place k out r l e q =
     ap₂ {C = Order} (λ (x : Order) (y : ℕ). record { size = x.size; places = set x.places (k + 1) y }) e q ∙ writing_more o place k l
 
 -- all of them, as the layout has it
-writing-all : (o : Order) (place : ℕ) → o.size < 6 → writing o place o.size ≡ orderRow (place ∷ map (passing place) (places_of o))
-unfolding writing orderRow places_of
+writing-all : (o : Order) (place : ℕ) → o.size < 6 → writing o place o.size ≡ order_row (place ∷ map (passing place) (places_of o))
+unfolding writing order_row places_of
 writing-all o place l = λ t. record { size = same t; places = moved t }
   where
     others : List ℕ
@@ -110,50 +110,50 @@ writing-all o place l = λ t. record { size = same t; places = moved t }
         ∙ ap (λ (k : ℕ). place ∷ (others ++ replicate {A = ℕ} k 0)) e
 
 -- all of them, as the code leaves them
-pub writing-ends : (o : Order) (place k : ℕ) (out : Order) → o.size < 6 → k ≤ o.size → o.size ≤ k → out ≡ writing o place k → out ≡ orderRow (place ∷ map (passing place) (places_of o))
+pub writing-ends : (o : Order) (place k : ℕ) (out : Order) → o.size < 6 → k ≤ o.size → o.size ≤ k → out ≡ writing o place k → out ≡ order_row (place ∷ map (passing place) (places_of o))
 writing-ends o place k out l a b e =
     let s : k ≡ o.size = omega arith in
     e ∙ ap (writing o place) s ∙ writing-all o place l
 
 -- one order: nothing is lost
-pub places_row : (o : List ℕ) → places_of (orderRow o) ≡ o
-unfolding places_of orderRow
+pub places_row : (o : List ℕ) → places_of (order_row o) ≡ o
+unfolding places_of order_row
 places_row o =
-    sym (table_is (λ i. get_or (o ++ replicate (6 - length o) 0) i 0) (length o) o 0 refl (λ i l. sym (fill-after 0 o (6 - length o) i)))
+    sym (table_is (λ i. get_or (o ++ replicate (6 - length o) 0) i 0) (length o) o 0 refl (λ i l. sym (fill_after 0 o (6 - length o) i)))
 
 -- the order of n places with a number, as its struct
 abbrev numbered : ℕ → ℕ → Order
-numbered n number = orderRow (get_or (orders n) number [])
+numbered n number = order_row (get_or (orders n) number [])
 
-module _ (n number : ℕ) (in-it : number < factorial n) where
+module _ (n number : ℕ) (in_it : number < factorial n) where
   -- it has n places
-  order-size : (numbered n number).size ≡ n
-  unfolding orderRow
-  order-size = order-length n number in-it
+  order_size : (numbered n number).size ≡ n
+  unfolding order_row
+  order_size = order_length n number in_it
 
   -- it is the layout of an order
-  order-placed : n ≤ 6 → Placed (numbered n number)
-  order-placed few = record { coded = ap orderRow (places_row (get_or (orders n) number [])); few = omega (arith, order-size) }
+  order_placed : n ≤ 6 → Placed (numbered n number)
+  order_placed few = record { coded = ap order_row (places_row (get_or (orders n) number [])); few = omega (arith, order_size) }
 
   -- its places are below n
-  order-places : (i : ℕ) → i < (numbered n number).size → get_or (numbered n number).places i 0 < n
-  unfolding orderRow
-  order-places i l =
-      rw (fill-after 0 (get_or (orders n) number []) (6 - length (get_or (orders n) number [])) i)
-      (order_below n number i in-it (omega (arith, order-length n number in-it)))
+  order_places : (i : ℕ) → i < (numbered n number).size → get_or (numbered n number).places i 0 < n
+  unfolding order_row
+  order_places i l =
+      rw (fill_after 0 (get_or (orders n) number []) (6 - length (get_or (orders n) number [])) i)
+      (order_below n number i in_it (omega (arith, order_length n number in_it)))
 
 -- the order of no places
-pub order-none : (n number : ℕ) → n ≡ 0 → ◌≡◌ {A = Order} (record { size = 0; places = 0 ∷ 0 ∷ 0 ∷ 0 ∷ 0 ∷ 0 ∷ [] }) (numbered n number)
-unfolding orderRow orders
-order-none n zero e = rw e
-order-none n (suc number) e = rw e
+pub order_none : (n number : ℕ) → n ≡ 0 → ◌≡◌ {A = Order} (record { size = 0; places = 0 ∷ 0 ∷ 0 ∷ 0 ∷ 0 ∷ 0 ∷ [] }) (numbered n number)
+unfolding order_row orders
+order_none n zero e = rw e
+order_none n (suc number) e = rw e
 
 -- what the code asks of an order that gets one place more
 abbrev pub Open : Order → Type 0
 Open o = (Placed o × (o.size < 6)) × ((i : ℕ) → i < o.size → get_or o.places i 0 < 6)
 
 -- the first place of an order from the quotient, the others from the remainder
-module _ (n number others : ℕ) (few : n ≤ 6) (some : 1 ≤ n) (in-it : number < factorial n) (are : others ≡ factorial (n - 1)) where
+module _ (n number others : ℕ) (few : n ≤ 6) (some : 1 ≤ n) (in_it : number < factorial n) (are : others ≡ factorial (n - 1)) where
   -- the divisor is not 0
   pub others-some : 0 < others
   others-some = omega (arith, are, factorial-some (n - 1))
@@ -169,17 +169,17 @@ module _ (n number others : ℕ) (few : n ≤ 6) (some : 1 ≤ n) (in-it : numbe
         let r : ℕ = number % others in
         let b = rest_below in
         subst Open (sym is)
-        ((order-placed (n - 1) r b (omega arith), omega (arith, order-size (n - 1) r b)), λ i l. omega (arith, order-places (n - 1) r b i l))
+        ((order_placed (n - 1) r b (omega arith), omega (arith, order_size (n - 1) r b)), λ i l. omega (arith, order_places (n - 1) r b i l))
 
     -- with the quotient before it, it is the order with the number
-    pub order-begins : orderRow ((number / others) ∷ map (passing (number / others)) (places_of order)) ≡ numbered n number
-    order-begins =
+    pub order_begins : order_row ((number / others) ∷ map (passing (number / others)) (places_of order)) ≡ numbered n number
+    order_begins =
         let m : ℕ = n - 1 in
         let s : n ≡ suc m = omega arith in
         let of : ℕ → List ℕ → List ℕ = λ (k : ℕ) (o : List ℕ). (number / k) ∷ map (passing (number / k)) o in
-        ap (λ (o : List ℕ). orderRow (of others o)) (ap places_of is ∙ places_row (get_or (orders m) (number % others) []))
-        ∙ ap (λ (k : ℕ). orderRow (of k (get_or (orders m) (number % k) []))) are
-        ∙ ap orderRow (sym (orders-at m number (subst (λ (k : ℕ). number < factorial k) s in-it)))
+        ap (λ (o : List ℕ). order_row (of others o)) (ap places_of is ∙ places_row (get_or (orders m) (number % others) []))
+        ∙ ap (λ (k : ℕ). order_row (of k (get_or (orders m) (number % k) []))) are
+        ∙ ap order_row (sym (orders-at m number (subst (λ (k : ℕ). number < factorial k) s in_it)))
         ∙ ap (λ (k : ℕ). numbered k number) (sym s)
 
 -- more orderings behind one make it no shorter
@@ -206,22 +206,22 @@ pub record Chaining (os : List (List ℕ)) (k : ℕ) (out : Ordering) : Type 0 w
 
 module _ (os : List (List ℕ)) where
   -- the loop begins with the first
-  pub chaining-begins : (r : Ordering) → 0 < length os → ShortOrdering r → get_or os 0 [] ≡ keys_of r → Chaining os 1 r
-  chaining-begins r l h e = record {
+  pub chaining_begins : (r : Ordering) → 0 < length os → ShortOrdering r → get_or os 0 [] ≡ keys_of r → Chaining os 1 r
+  chaining_begins r l h e = record {
     below = l;
     short = h;
     goes = ap chained (drop-cons os 0 [] l) ∙ ap (λ (o : List ℕ). chained (o ∷ drop 1 os)) e;
   }
 
   module _ (k : ℕ) (out : Ordering) (x : Chaining os k out) where
-    module _ (e : Extended) (p : Ordering) (l : k < length os) (s : get_or os k [] ≡ keys_of p) (q : e ≡ extendedOf (extended (keys_of out) (keys_of p))) where
+    module _ (e : Extended) (p : Ordering) (l : k < length os) (s : get_or os k [] ≡ keys_of p) (q : e ≡ extended_of (extended (keys_of out) (keys_of p))) where
       -- one more
       next : chained os ≡ chained (extended (keys_of out) (keys_of p) ∷ drop (k + 1) os)
       next = x.goes ∙ chained-step (keys_of out) os k l ∙ ap (λ (z : List ℕ). chained (extended (keys_of out) z ∷ drop (k + 1) os)) s
 
       -- the loop goes on
-      pub chaining-on : e.fits ≡ true → Chaining os (k + 1) e.ordering
-      chaining-on t =
+      pub chaining_on : e.fits ≡ true → Chaining os (k + 1) e.ordering
+      chaining_on t =
           let ks : List ℕ = extended (keys_of out) (keys_of p) in
           let f = fitting e ks q t in
           record {
@@ -231,75 +231,75 @@ module _ (os : List (List ℕ)) where
           }
 
       -- the loop stops where there are more than 16 keys: those behind make them no fewer
-      pub chaining-stops : e.fits ≡ false → e ≡ extendedOf (chained os)
-      chaining-stops t =
+      pub chaining_stops : e.fits ≡ false → e ≡ extended_of (chained os)
+      chaining_stops t =
           let ks : List ℕ = extended (keys_of out) (keys_of p) in
           let a = unfitting e ks q t in
           let b = ap (λ (z : List ℕ). length z) next in
           q ∙ fits_not ks a ∙ sym (fits_not (chained os) (omega (arith, chained-grows ks (drop (k + 1) os))))
 
     -- the loop ends
-    pub chaining-ends : length os ≤ k → answer true out ≡ extendedOf (chained os)
-    chaining-ends l =
-        sym (ap extendedOf (x.goes ∙ chained-done (keys_of out) os k l)
+    pub chaining_ends : length os ≤ k → answer true out ≡ extended_of (chained os)
+    chaining_ends l =
+        sym (ap extended_of (x.goes ∙ chained-done (keys_of out) os k l)
         ∙ fits-here (keys_of out) (short-size out x.short) ∙ ap (answer true) x.short.coded)
 
 -- the orderings of a choice in an order
-abbrev pub inOrder : Choice → Order → List (List ℕ)
-inOrder c o = map (λ (i : ℕ). get_or (choice_of c) i []) (places_of o)
+abbrev pub in_order : Choice → Order → List (List ℕ)
+in_order c o = map (λ (i : ℕ). get_or (choice_of c) i []) (places_of o)
 
 -- there are as many orderings as the choice says
-choice-size : (c : Choice) → length (choice_of c) ≡ c.size
+choice_size : (c : Choice) → length (choice_of c) ≡ c.size
 unfolding choice_of
-choice-size c = length-table (λ i. keys_of (get_or c.rows i (row []))) c.size
+choice_size c = length-table (λ i. keys_of (get_or c.rows i (row []))) c.size
 
 -- the layout of a choice has 6 places
-laid-length : (os : List (List ℕ)) → length os ≤ 6 → length (choiceRow os).rows ≡ 6
-unfolding choiceRow
+laid-length : (os : List (List ℕ)) → length os ≤ 6 → length (choice_row os).rows ≡ 6
+unfolding choice_row
 laid-length os l = omega (arith, length-append (map row os) (replicate (6 - length os) (row [])), length-map os row, length-replicate {A = Ordering} (6 - length os) (row []))
 
 -- so a choice has 6 places
 rows-length : (c : Choice) → Chosen c → length c.rows ≡ 6
-rows-length c h = subst (λ (x : Choice). length x.rows ≡ 6) h.coded (laid-length (choice_of c) (omega (arith, choice-size c, h.few)))
+rows-length c h = subst (λ (x : Choice). length x.rows ≡ 6) h.coded (laid-length (choice_of c) (omega (arith, choice_size c, h.few)))
 
 -- what the code reads at a place of the order
-abbrev pub readAt : Choice → Order → ℕ → Ordering
-readAt c o i = get_or c.rows (get_or o.places i 0) noPlace
+abbrev pub read_at : Choice → Order → ℕ → Ordering
+read_at c o i = get_or c.rows (get_or o.places i 0) no_place
 
 module _ (c : Choice) (o : Order) where
   -- the order has as many orderings as places
-  pub in-order-length : length (inOrder c o) ≡ o.size
+  pub in_order-length : length (in_order c o) ≡ o.size
   unfolding places_of
-  in-order-length = length-map (places_of o) (λ (i : ℕ). get_or (choice_of c) i []) ∙ length-table (λ i. get_or o.places i 0) o.size
+  in_order-length = length-map (places_of o) (λ (i : ℕ). get_or (choice_of c) i []) ∙ length-table (λ i. get_or o.places i 0) o.size
 
   module _ (h : Chosen c) (i : ℕ) (l : i < o.size) (b : get_or o.places i 0 < c.size) where
     -- it is what stands at that place of the choice
-    read_same : readAt c o i ≡ get_or c.rows (get_or o.places i 0) (row [])
-    read_same = get_d_any c.rows (get_or o.places i 0) noPlace (row []) (omega (arith, rows-length c h, h.few))
+    read_same : read_at c o i ≡ get_or c.rows (get_or o.places i 0) (row [])
+    read_same = get_d_any c.rows (get_or o.places i 0) no_place (row []) (omega (arith, rows-length c h, h.few))
 
     -- it has at most 16 keys
-    pub read_short : ShortOrdering (readAt c o i)
+    pub read_short : ShortOrdering (read_at c o i)
     read_short = subst ShortOrdering (sym read_same) (h.short (get_or o.places i 0) b)
 
     -- its keys are the ordering at that place
-    pub read_is : get_or (inOrder c o) i [] ≡ keys_of (readAt c o i)
+    pub read_is : get_or (in_order c o) i [] ≡ keys_of (read_at c o i)
     unfolding places_of choice_of
     read_is =
-        mapped_at (λ (j : ℕ). get_or (choice_of c) j []) (places_of o) i 0 [] (omega (arith, length-table (λ i. get_or o.places i 0) o.size))
-        ∙ ap (λ (j : ℕ). get_or (choice_of c) j []) (getD-table (λ i. get_or o.places i 0) o.size i 0 l)
-        ∙ getD-table (λ i. keys_of (get_or c.rows i (row []))) c.size (get_or o.places i 0) [] b
+        mapped_at_lem (λ (j : ℕ). get_or (choice_of c) j []) (places_of o) i 0 [] (omega (arith, length-table (λ i. get_or o.places i 0) o.size))
+        ∙ ap (λ (j : ℕ). get_or (choice_of c) j []) (get_or-table (λ i. get_or o.places i 0) o.size i 0 l)
+        ∙ get_or-table (λ i. keys_of (get_or c.rows i (row []))) c.size (get_or o.places i 0) [] b
         ∙ ap keys_of (sym read_same)
 
 -- a choice in the order with a number is the ordering with that number
-numbered_is : (c : Choice) (number : ℕ) → number < factorial c.size → chained (inOrder c (numbered c.size number)) ≡ orderingAt (inAllOrders (choice_of c)) number
-unfolding inAllOrders
+numbered_is : (c : Choice) (number : ℕ) → number < factorial c.size → chained (in_order c (numbered c.size number)) ≡ ordering_at (in_all_orders (choice_of c)) number
+unfolding in_all_orders
 numbered_is c number l =
     let os : List (List ℕ) = choice_of c in
     let run : List ℕ → List ℕ = λ (o : List ℕ). chained (map (λ (i : ℕ). get_or os i []) o) in
-    let b : number < length (orders (length os)) = rw (choice-size c, orders-length c.size) l in
+    let b : number < length (orders (length os)) = rw (choice_size c, orders-length c.size) l in
     ap run (places_row (get_or (orders c.size) number []))
-    ∙ ap (λ (n : ℕ). run (get_or (orders n) number [])) (sym (choice-size c))
-    ∙ sym (mapped_at run (orders (length os)) number [] [] b)
+    ∙ ap (λ (n : ℕ). run (get_or (orders n) number [])) (sym (choice_size c))
+    ∙ sym (mapped_at_lem run (orders (length os)) number [] [] b)
 
 -- what the code asks of a choice and an order of it
 abbrev pub Ordered : Choice → Order → Type 0
@@ -308,9 +308,9 @@ Ordered c o = (Chosen c × (o.size ≡ c.size)) × ((i : ℕ) → i < o.size →
 -- the order with a number, as the code has it
 module _ (c : Choice) (number : ℕ) (h : Chosen c) (l : number < factorial c.size) (o : Order) (is : o ≡ numbered c.size number) where
   -- it is an order of the choice
-  pub choice-ordered : Ordered c o
-  choice-ordered = subst (Ordered c) (sym is) ((h, order-size c.size number l), order-places c.size number l)
+  pub choice_ordered : Ordered c o
+  choice_ordered = subst (Ordered c) (sym is) ((h, order_size c.size number l), order_places c.size number l)
 
   -- the choice in it is the ordering with the number
-  pub ordering-is : chained (inOrder c o) ≡ orderingAt (inAllOrders (choice_of c)) number
-  ordering-is = ap (λ (x : Order). chained (inOrder c x)) is ∙ numbered_is c number l
+  pub ordering-is : chained (in_order c o) ≡ ordering_at (in_all_orders (choice_of c)) number
+  ordering-is = ap (λ (x : Order). chained (in_order c x)) is ∙ numbered_is c number l

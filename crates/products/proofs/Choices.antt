@@ -12,19 +12,19 @@ use denote.Laws.{Is}
 use mir.Val.{Val}
 use lib.ListN.{length, get_or, take, drop, set, replicate, length-map, drop_of_length-le}
 use lib.Seq.{length-take-le, take_all, take-suc, drop-cons, append_snoc, set_at, get_or-drop, drop-drop}
-use Rattle.laws.proofs.Table.{length-table, getD-table}
+use Rattle.laws.proofs.Table.{length-table, get_or-table}
 use Rattle.orderings.specs.Layout.{row, keys_of}
 use Rattle.orderings.specs.declared.Ordering.{Ordering}
-use Rattle.orderings.proofs.Codec.{get_d_any, noPlace}
+use Rattle.orderings.proofs.Codec.{get_d_any, no_place}
 use Rattle.orderings.specs.contracts.Ordering.{the_field}
 use Rattle.products.specs.Orders.{product}
-use Rattle.products.specs.Inner.{start_of, length_of, lengthsOf, list_of, lists_of, Shaped, Laid, choiceRow, factorial, timesAll, choices, counted}
+use Rattle.products.specs.Inner.{start_of, length_of, lengths_of, list_of, lists_of, Shaped, Laid, choice_row, factorial, times_all, choices, counted}
 use Rattle.products.specs.declared.Shape.{Shape}
 use Rattle.products.specs.declared.Lists.{Lists}
 use Rattle.products.specs.declared.Choice.{Choice}
 use Rattle.products.specs.declared.Counted.{Counted}
-use Rattle.products.proofs.ProductLaws.{product_at, choice-length, factor-some}
-use Rattle.products.proofs.ListLaws.{lists_length, lists_at, lists-lengths}
+use Rattle.products.proofs.ProductLaws.{product_at, choice_length, factor_some}
+use Rattle.products.proofs.ListLaws.{lists_length, lists_at, lists_lengths}
 use Rattle.products.specs.contracts.Lists.{the_row}
 
 -- Where lists begin, and their lengths
@@ -84,57 +84,57 @@ module _ (s : Shape) (h : Shaped s) where
 -- The number of choices from a list on
 
 -- numbers of which none is 0 have no smaller product than those from one on
-times-drop : (ns : List ℕ) (j : ℕ) → ((i : ℕ) → i < length ns → 0 < get_or ns i 0) → timesAll (drop j ns) ≤ timesAll ns
-unfolding timesAll
-times-drop [] zero h = omega arith
-times-drop [] (suc j) h = omega arith
-times-drop (n ∷ ns) zero h = omega arith
-times-drop (n ∷ ns) (suc j) h =
+times_drop : (ns : List ℕ) (j : ℕ) → ((i : ℕ) → i < length ns → 0 < get_or ns i 0) → times_all (drop j ns) ≤ times_all ns
+unfolding times_all
+times_drop [] zero h = omega arith
+times_drop [] (suc j) h = omega arith
+times_drop (n ∷ ns) zero h = omega arith
+times_drop (n ∷ ns) (suc j) h =
     let some : 1 ≤ n = h 0 (omega arith) in
-    omega (arith, times-drop ns j (λ i l. h (suc i) (omega arith)), mul-le-mul_right (timesAll ns) some)
+    omega (arith, times_drop ns j (λ i l. h (suc i) (omega arith)), mul-le-mul_right (times_all ns) some)
 
 module _ (s : Shape) where
   -- how many lists there are
-  pub lengths-count : length (lengthsOf s) ≡ s.size
-  unfolding lengthsOf
-  lengths-count = length-table (length_of s) s.size
+  pub lengths_count : length (lengths_of s) ≡ s.size
+  unfolding lengths_of
+  lengths_count = length-table (length_of s) s.size
 
   -- how many choices the lists from one on give
-  abbrev pub choicesFrom : ℕ → ℕ
-  choicesFrom j = timesAll (drop j (lengthsOf s))
+  abbrev pub choices_from : ℕ → ℕ
+  choices_from j = times_all (drop j (lengths_of s))
 
   -- after the last list nothing is to be chosen
-  pub times_none : 1 ≡ choicesFrom s.size
-  unfolding timesAll
-  times_none = ap timesAll (sym (drop_of_length-le (lengthsOf s) {i = s.size} (omega (arith, lengths-count))))
+  pub times_none : 1 ≡ choices_from s.size
+  unfolding times_all
+  times_none = ap times_all (sym (drop_of_length-le (lengths_of s) {i = s.size} (omega (arith, lengths_count))))
 
   -- one list more
-  pub times-next : (j : ℕ) → j < s.size → length_of s j * choicesFrom (j + 1) ≡ choicesFrom j
-  unfolding timesAll lengthsOf
-  times-next j l =
-      ap₂ {C = ℕ} (λ a b. a * timesAll (drop b (lengthsOf s))) (sym (getD-table (length_of s) s.size j 0 l)) (add-one j)
-      ∙ sym (ap timesAll (drop-cons (lengthsOf s) j 0 (omega (arith, lengths-count))))
+  pub times_next : (j : ℕ) → j < s.size → length_of s j * choices_from (j + 1) ≡ choices_from j
+  unfolding times_all lengths_of
+  times_next j l =
+      ap₂ {C = ℕ} (λ a b. a * times_all (drop b (lengths_of s))) (sym (get_or-table (length_of s) s.size j 0 l)) (add-one j)
+      ∙ sym (ap times_all (drop-cons (lengths_of s) j 0 (omega (arith, lengths_count))))
 
   -- the same for a loop that goes down from the last list
-  pub times-step : (i r t : ℕ) → 0 < i → i ≤ s.size → r ≡ length_of s (i - 1) → t ≡ choicesFrom i → r * t ≡ choicesFrom (i - 1)
-  times-step i r t l b e f =
+  pub times_step : (i r t : ℕ) → 0 < i → i ≤ s.size → r ≡ length_of s (i - 1) → t ≡ choices_from i → r * t ≡ choices_from (i - 1)
+  times_step i r t l b e f =
       let n : i ≡ i - 1 + 1 = omega arith in
-      ap₂ {C = ℕ} (λ x y. x * y) e (f ∙ ap choicesFrom n) ∙ times-next (i - 1) (omega arith)
+      ap₂ {C = ℕ} (λ x y. x * y) e (f ∙ ap choices_from n) ∙ times_next (i - 1) (omega arith)
 
 module _ (s : Shape) (h : Shaped s) where
   -- the lists from one on give no more choices than all of them
-  pub times_below : (j : ℕ) → choicesFrom s j ≤ timesAll (lengthsOf s)
-  unfolding lengthsOf
+  pub times_below : (j : ℕ) → choices_from s j ≤ times_all (lengths_of s)
+  unfolding lengths_of
   times_below j =
-      times-drop (lengthsOf s) j
-      (λ i l. let b : i < s.size = omega (arith, lengths-count s) in rw (getD-table (length_of s) s.size i 0 b) (length_some s h i b))
+      times_drop (lengths_of s) j
+      (λ i l. let b : i < s.size = omega (arith, lengths_count s) in rw (get_or-table (length_of s) s.size i 0 b) (length_some s h i b))
 
 -- Whether the orders of all choices are at most 1,024
 
 -- a product without factor 0 is not below the other factor
-pub factor-few : (a b n : ℕ) → 0 < a → a * b ≤ n → b ≤ n
-factor-few zero b n l e = absurd (omega arith)
-factor-few (suc a) b n l e = omega arith
+pub factor_few : (a b n : ℕ) → 0 < a → a * b ≤ n → b ≤ n
+factor_few zero b n l e = absurd (omega arith)
+factor_few (suc a) b n l e = omega arith
 
 -- at most 6 places have at most 720
 pub factorial-few : (n : ℕ) → n ≤ 6 → factorial n ≤ 720
@@ -150,20 +150,20 @@ factorial-few (suc (suc (suc (suc (suc (suc (suc n))))))) l = absurd (omega arit
 
 module _ (s : Shape) (h : Shaped s) where
   -- where they are, the number of choices is told
-  pub count_fits : (total : ℕ) → total ≡ choicesFrom s 0 → factorial s.size * total ≤ 1024 → ◌≡◌ {A = Counted} (record { fits = true; count = total }) (counted (lengthsOf s))
+  pub count_fits : (total : ℕ) → total ≡ choices_from s 0 → factorial s.size * total ≤ 1024 → ◌≡◌ {A = Counted} (record { fits = true; count = total }) (counted (lengths_of s))
   unfolding counted
   count_fits total e b =
-      let k : factorial (length (lengthsOf s)) * timesAll (lengthsOf s) ≤ 1024 =
-      rw (lengths-count s) (omega (arith, ap (λ (n : ℕ). factorial s.size * n) e)) in
-      rw (le-leb (factorial (length (lengthsOf s)) * timesAll (lengthsOf s)) 1024 k) (ap (λ (n : ℕ). record { fits = true; count = n }) e)
+      let k : factorial (length (lengths_of s)) * times_all (lengths_of s) ≤ 1024 =
+      rw (lengths_count s) (omega (arith, ap (λ (n : ℕ). factorial s.size * n) e)) in
+      rw (le-leb (factorial (length (lengths_of s)) * times_all (lengths_of s)) 1024 k) (ap (λ (n : ℕ). record { fits = true; count = n }) e)
 
   -- where those from a list on are more already, that they are more
-  pub count-over : (j total : ℕ) → total ≡ choicesFrom s j → 1024 < factorial s.size * total → ◌≡◌ {A = Counted} (record { fits = false; count = 0 }) (counted (lengthsOf s))
+  pub count-over : (j total : ℕ) → total ≡ choices_from s j → 1024 < factorial s.size * total → ◌≡◌ {A = Counted} (record { fits = false; count = 0 }) (counted (lengths_of s))
   unfolding counted
   count-over j total e b =
-      let k : 1024 < factorial (length (lengthsOf s)) * timesAll (lengthsOf s) =
-      rw (lengths-count s) (omega (arith, ap (λ (n : ℕ). factorial s.size * n) e, mul-le-mul_left (factorial s.size) (times_below s h j))) in
-      rw (lt-leb (factorial (length (lengthsOf s)) * timesAll (lengthsOf s)) 1024 k)
+      let k : 1024 < factorial (length (lengths_of s)) * times_all (lengths_of s) =
+      rw (lengths_count s) (omega (arith, ap (λ (n : ℕ). factorial s.size * n) e, mul-le-mul_left (factorial s.size) (times_below s h j))) in
+      rw (lt-leb (factorial (length (lengths_of s)) * times_all (lengths_of s)) 1024 k)
 
 -- A choice as it is made
 
@@ -174,7 +174,7 @@ chosen l number = get_or (product (lists_of l)) number []
 -- the orderings of the first j lists are chosen, and those of the others are the choice with the number that is left
 pub record Choosing (l : Lists) (number j rest : ℕ) (out : Choice) : Type 0 where
   pub below : j ≤ l.shape.size
-  pub in-it : rest < choicesFrom l.shape j
+  pub in_it : rest < choices_from l.shape j
   pub size : out.size ≡ l.shape.size
   pub rows : out.rows ≡ map row (take j (chosen l number)) ++ replicate (6 - j) (row [])
   pub goes : drop j (chosen l number) ≡ get_or (product (drop j (lists_of l))) rest []
@@ -202,14 +202,14 @@ found-sized l vs p = sym (length-map l.found.rows the_field.into) ∙ p.1.1.1.0.
 
 module _ (l : Lists) where
   -- the lists from one on give the choices that their lengths say
-  pub choices-drop : (j : ℕ) → choices (drop j (lists_of l)) ≡ choicesFrom l.shape j
-  choices-drop j = ap timesAll (map-drop length j (lists_of l) ∙ ap (drop j) (lists-lengths l))
+  pub choices-drop : (j : ℕ) → choices (drop j (lists_of l)) ≡ choices_from l.shape j
+  choices-drop j = ap times_all (map-drop length j (lists_of l) ∙ ap (drop j) (lists_lengths l))
 
   -- nothing is chosen
   pub choosing-begins : (number : ℕ) (r : Ordering) → number < choices (lists_of l) → r ≡ row [] → Choosing l number 0 number (record { size = l.shape.size; rows = r ∷ r ∷ r ∷ r ∷ r ∷ r ∷ [] })
   choosing-begins number r b e = record {
     below = omega arith;
-    in-it = omega (arith, choices-drop 0);
+    in_it = omega (arith, choices-drop 0);
     size = refl;
     rows = ap (λ (x : Ordering). x ∷ x ∷ x ∷ x ∷ x ∷ x ∷ []) e;
     goes = refl;
@@ -217,32 +217,32 @@ module _ (l : Lists) where
 
 module _ (l : Lists) (v : Laid l) (number j rest : ℕ) (out : Choice) (c : Choosing l number j rest out) where
   -- all are chosen
-  pub choosing-ends : l.shape.size ≤ j → number < choices (lists_of l) → out ≡ choiceRow (chosen l number)
-  unfolding choiceRow
+  pub choosing-ends : l.shape.size ≤ j → number < choices (lists_of l) → out ≡ choice_row (chosen l number)
+  unfolding choice_row
   choosing-ends e b =
-      let long : length (chosen l number) ≡ l.shape.size = choice-length (lists_of l) number b ∙ lists_length l in
+      let long : length (chosen l number) ≡ l.shape.size = choice_length (lists_of l) number b ∙ lists_length l in
       let whole : j ≡ length (chosen l number) = omega (arith, c.below) in
       let filled : out.rows ≡ map row (chosen l number) ++ replicate (6 - length (chosen l number)) (row []) =
       c.rows ∙ ap₂ {C = List Ordering} (λ (x : List (List ℕ)) (n : ℕ). map row x ++ replicate (6 - n) (row [])) (take_all j (chosen l number) (omega arith)) whole in
       λ t. record { size = (c.size ∙ sym long) t; rows = filled t }
 
   -- where the lists after the next give so many choices
-  module _ (after : ℕ) (f : after ≡ choicesFrom l.shape (j + 1)) (b : j < l.shape.size) where
+  module _ (after : ℕ) (f : after ≡ choices_from l.shape (j + 1)) (b : j < l.shape.size) where
     -- what is left is a number of a choice from the next list on
     over : rest < length_of l.shape j * after
-    over = omega (arith, c.in-it, times-next l.shape j b, ap (λ (n : ℕ). length_of l.shape j * n) f)
+    over = omega (arith, c.in_it, times_next l.shape j b, ap (λ (n : ℕ). length_of l.shape j * n) f)
 
     -- they give one at least
     pub after-some : 0 < after
-    after-some = factor-some (length_of l.shape j) after rest over
+    after-some = factor_some (length_of l.shape j) after rest over
 
     -- the quotient is a place of the next list
-    pub quotient-in : rest / after < length_of l.shape j
-    quotient-in = (div-lt_iff_lt-mul {k = after} {x = rest} {y = length_of l.shape j} after-some).1 over
+    pub quotient_in : rest / after < length_of l.shape j
+    quotient_in = (div-lt_iff_lt-mul {k = after} {x = rest} {y = length_of l.shape j} after-some).1 over
 
     -- so what is read there is one of the places that the struct has
-    pub read-in : (start : ℕ) → start ≡ start_of l.shape j → start + rest / after < 1024
-    read-in start g = omega (arith, place-within l.shape v.shaped j (rest / after) b quotient-in)
+    pub read_in_lem : (start : ℕ) → start ≡ start_of l.shape j → start + rest / after < 1024
+    read_in_lem start g = omega (arith, place-within l.shape v.shaped j (rest / after) b quotient_in)
 
     -- the lists from here on are the next and those after it
     split : drop j (lists_of l) ≡ list_of l j ∷ drop (j + 1) (lists_of l)
@@ -253,31 +253,31 @@ module _ (l : Lists) (v : Laid l) (number j rest : ℕ) (out : Choice) (c : Choo
     -- of the next the ordering with the quotient is chosen, of those after it the choice with the remainder
     next : drop j (chosen l number) ≡ get_or (list_of l j) (rest / after) [] ∷ get_or (product (drop (j + 1) (lists_of l))) (rest % after) []
     next =
-        let here : rest < choices (drop j (lists_of l)) = omega (arith, c.in-it, choices-drop l j) in
+        let here : rest < choices (drop j (lists_of l)) = omega (arith, c.in_it, choices-drop l j) in
         c.goes ∙ ap (λ (x : List (List (List ℕ))). get_or (product x) rest []) split
         ∙ product_at (list_of l j) (drop (j + 1) (lists_of l)) rest (subst (λ (x : List (List (List ℕ))). rest < choices x) split here)
         ∙ ap (λ (n : ℕ). get_or (list_of l j) (rest / n) [] ∷ get_or (product (drop (j + 1) (lists_of l))) (rest % n) []) (choices-drop l (j + 1) ∙ sym f)
 
     -- what the code reads is the layout of that ordering
-    read-row : (start : ℕ) → length l.found.rows ≡ 1024 → start ≡ start_of l.shape j → get_or l.found.rows (start + rest / after) noPlace ≡ row (get_or (chosen l number) j [])
+    read-row : (start : ℕ) → length l.found.rows ≡ 1024 → start ≡ start_of l.shape j → get_or l.found.rows (start + rest / after) no_place ≡ row (get_or (chosen l number) j [])
     unfolding list_of
     read-row start z g =
         let place = start_of l.shape j + rest / after in
-        ap (λ (n : ℕ). get_or l.found.rows (n + rest / after) noPlace) g
-        ∙ get_d_any l.found.rows place noPlace (row []) (omega (arith, place-within l.shape v.shaped j (rest / after) b quotient-in))
-        ∙ sym (v.short place (place-there l.shape v.shaped j (rest / after) b quotient-in)).coded
-        ∙ ap row (sym (getD-table (λ i. keys_of (get_or l.found.rows (start_of l.shape j + i) (row []))) (length_of l.shape j) (rest / after) [] quotient-in)
+        ap (λ (n : ℕ). get_or l.found.rows (n + rest / after) no_place) g
+        ∙ get_d_any l.found.rows place no_place (row []) (omega (arith, place-within l.shape v.shaped j (rest / after) b quotient_in))
+        ∙ sym (v.short place (place-there l.shape v.shaped j (rest / after) b quotient_in)).coded
+        ∙ ap row (sym (get_or-table (λ i. keys_of (get_or l.found.rows (start_of l.shape j + i) (row []))) (length_of l.shape j) (rest / after) [] quotient_in)
         ∙ ap (λ (x : List (List ℕ)). get_or x 0 []) (sym next) ∙ get_or-drop j (chosen l number) 0 [] ∙ ap (λ (n : ℕ). get_or (chosen l number) n []) (add-zero j))
 
     -- one more is chosen
     pub choosing-on : (start : ℕ) → length l.found.rows ≡ 1024 → number < choices (lists_of l) → start ≡ start_of l.shape j
-        → Choosing l number (j + 1) (rest % after) (record { size = out.size; rows = set out.rows j (get_or l.found.rows (start + rest / after) noPlace) })
+        → Choosing l number (j + 1) (rest % after) (record { size = out.size; rows = set out.rows j (get_or l.found.rows (start + rest / after) no_place) })
     choosing-on start z w g = record {
       below = omega arith;
-      in-it = omega (arith, mod-lt rest after-some);
+      in_it = omega (arith, mod-lt rest after-some);
       size = c.size;
       rows =
           ap₂ {C = List Ordering} (λ (x : List Ordering) (r : Ordering). set x j r) c.rows (read-row start z g)
-          ∙ rows_next (chosen l number) j (omega (arith, choice-length (lists_of l) number w, lists_length l)) (omega (arith, v.shaped.few));
+          ∙ rows_next (chosen l number) j (omega (arith, choice_length (lists_of l) number w, lists_length l)) (omega (arith, v.shaped.few));
       goes = sym (drop-drop 1 j (chosen l number)) ∙ ap (λ (x : List (List ℕ)). drop 1 x) next;
     }

@@ -15,8 +15,8 @@ use Rattle.products.specs.Orders.{passing, beginning, orders}
 use Rattle.products.specs.Inner.{factorial}
 
 -- what a function makes of each element stands at that element's place
-pub mapped_at : {A B : Type 0} (f : A → B) (xs : List A) (i : ℕ) (a : A) (b : B) → i < length xs → get_or (map f xs) i b ≡ f (get_or xs i a)
-mapped_at f xs i a b l = get_d_any (map f xs) i b (f a) (omega (arith, length-map xs f)) ∙ get_or-map f xs i a
+pub mapped_at_lem : {A B : Type 0} (f : A → B) (xs : List A) (i : ℕ) (a : A) (b : B) → i < length xs → get_or (map f xs) i b ≡ f (get_or xs i a)
+mapped_at_lem f xs i a b l = get_d_any (map f xs) i b (f a) (omega (arith, length-map xs f)) ∙ get_or-map f xs i a
 
 -- the factorial is not 0
 pub factorial-some : (n : ℕ) → 0 < factorial n
@@ -43,7 +43,7 @@ beginning-at os (suc k) i r a b = at (ℕ_discrete i k) (λ l. beginning-at os k
     at : Dec (i ≡ k) → (i < k → get_or (beginning os k) (i * length os + r) [] ≡ begun i (get_or os r []))
         → get_or (beginning os k ++ map (begun k) os) (i * length os + r) [] ≡ begun i (get_or os r [])
     at (yes q) f =
-        rw (q, ← beginning-length os k) (get_or-append-add (beginning os k) (map (begun k) os) r [] ∙ mapped_at (begun k) os r [] [] b)
+        rw (q, ← beginning-length os k) (get_or-append-add (beginning os k) (map (begun k) os) r [] ∙ mapped_at_lem (begun k) os r [] [] b)
     at (no q) f =
         let l : i < k = omega arith in
         let m : suc i * length os ≤ k * length os = mul-le-mul_right (length os) l in
@@ -58,28 +58,28 @@ orders-length (suc n) = beginning-length (orders n) (suc n) ∙ ap (λ (k : ℕ)
 -- the first place of an order is a place
 pub first_below : (n number : ℕ) → number < factorial (suc n) → number / factorial n < suc n
 unfolding factorial
-first_below n number in-it = (div-lt_iff_lt-mul (factorial-some n)).1 in-it
+first_below n number in_it = (div-lt_iff_lt-mul (factorial-some n)).1 in_it
 
 -- an order by its number: the first place is the quotient, the others are the order of the remainder
 pub orders-at : (n number : ℕ) → number < factorial (suc n) → get_or (orders (suc n)) number [] ≡ (number / factorial n) ∷ map (passing (number / factorial n)) (get_or (orders n) (number % factorial n) [])
 unfolding orders
-orders-at n number in-it =
+orders-at n number in_it =
     let q : ℕ = number / factorial n in
     let r : ℕ = number % factorial n in
     let e : number ≡ q * length (orders n) + r = sym (div-add-mod' number (factorial n)) ∙ ap (λ (k : ℕ). q * k + r) (sym (orders-length n)) in
     ap (λ (k : ℕ). get_or (beginning (orders n) (suc n)) k []) e
-    ∙ beginning-at (orders n) (suc n) q r (first_below n number in-it) (omega (arith, orders-length n, mod-lt number (factorial-some n)))
+    ∙ beginning-at (orders n) (suc n) q r (first_below n number in_it) (omega (arith, orders-length n, mod-lt number (factorial-some n)))
 
 -- an order of n places has n places
-pub order-length : (n number : ℕ) → number < factorial n → length (get_or (orders n) number []) ≡ n
+pub order_length : (n number : ℕ) → number < factorial n → length (get_or (orders n) number []) ≡ n
 unfolding orders
-order-length zero zero in-it = refl
-order-length zero (suc number) in-it = refl
-order-length (suc n) number in-it =
+order_length zero zero in_it = refl
+order_length zero (suc number) in_it = refl
+order_length (suc n) number in_it =
     let q : ℕ = number / factorial n in
     let o : List ℕ = get_or (orders n) (number % factorial n) [] in
-    ap (λ (p : List ℕ). length p) (orders-at n number in-it)
-    ∙ ap suc (length-map o (passing q) ∙ order-length n (number % factorial n) (mod-lt number (factorial-some n)))
+    ap (λ (p : List ℕ). length p) (orders-at n number in_it)
+    ∙ ap suc (length-map o (passing q) ∙ order_length n (number % factorial n) (mod-lt number (factorial-some n)))
 
 -- passing over a place goes at most one further
 passing-below : (i j n : ℕ) → j < n → passing i j < suc n
@@ -92,12 +92,12 @@ passing-below i j n l = go (ltb j i)
 
 -- each of them is below n
 pub order_below : (n number i : ℕ) → number < factorial n → i < n → get_or (get_or (orders n) number []) i 0 < n
-order_below zero number i in-it in_order = absurd (omega arith)
-order_below (suc n) number zero in-it in_order = rw (orders-at n number in-it) (first_below n number in-it)
-order_below (suc n) number (suc i) in-it in_order =
+order_below zero number i in_it in_order_lem = absurd (omega arith)
+order_below (suc n) number zero in_it in_order_lem = rw (orders-at n number in_it) (first_below n number in_it)
+order_below (suc n) number (suc i) in_it in_order_lem =
     let q : ℕ = number / factorial n in
     let o : List ℕ = get_or (orders n) (number % factorial n) [] in
     let b = mod-lt number (factorial-some n) in
     let l : i < n = omega arith in
-    rw (orders-at n number in-it, mapped_at (passing q) o i 0 0 (omega (arith, order-length n (number % factorial n) b)))
+    rw (orders-at n number in_it, mapped_at_lem (passing q) o i 0 0 (omega (arith, order_length n (number % factorial n) b)))
     (passing-below q (get_or o i 0) n (order_below n (number % factorial n) i b l))

@@ -2,14 +2,14 @@
 use Rattle.std.specs.Prelude.{ℕ, List, [], ◌∷◌, ◌++◌, map, length, get_or}
 use Rattle.std.proofs.Math.Option.{none, some}
 use Rattle.orderings.specs.Ordering.{extended}
-use Rattle.dependencies.specs.Map.{Dependent, withDependency}
-use Rattle.enumeration.specs.Walk.{Walk, found, stopped, prefixOrderings}
+use Rattle.dependencies.specs.Map.{Dependent, with_dependency}
+use Rattle.enumeration.specs.Walk.{Walk, found, stopped, prefix_orderings}
 use Rattle.products.specs.Orders.{orders, product}
 
 -- the keys that are given, each once
-unfoldable pub onceEach : List ℕ → List ℕ → List ℕ
-onceEach ks [] = ks
-onceEach ks (d ∷ ds) = onceEach (withDependency ks (some d)) ds
+unfoldable pub once_each : List ℕ → List ℕ → List ℕ
+once_each ks [] = ks
+once_each ks (d ∷ ds) = once_each (with_dependency ks (some d)) ds
 
 -- lists of prefix orderings, or where a walk stopped
 pub data Lists : Type 0 where
@@ -26,7 +26,7 @@ with_list (found (o ∷ os) seen) (stops k) = stops k
 -- the prefix orderings of each dependency that has some, each by a walk of its own
 unfoldable pub contributing : List Dependent → List ℕ → Lists
 contributing m [] = lists []
-contributing m (d ∷ ds) = with_list (prefixOrderings m d) (contributing m ds)
+contributing m (d ∷ ds) = with_list (prefix_orderings m d) (contributing m ds)
 
 -- orderings one behind the other
 unfoldable pub chained : List (List ℕ) → List ℕ
@@ -38,15 +38,15 @@ chained (o ∷ os) = behind o os
     behind p (q ∷ qs) = behind (extended p q) qs
 
 -- a choice in all orders
-unfoldable pub inAllOrders : List (List ℕ) → List (List ℕ)
-inAllOrders os = map (λ (o : List ℕ). chained (map (λ (i : ℕ). get_or os i []) o)) (orders (length os))
+unfoldable pub in_all_orders : List (List ℕ) → List (List ℕ)
+in_all_orders os = map (λ (o : List ℕ). chained (map (λ (i : ℕ). get_or os i []) o)) (orders (length os))
 
 -- each choice in all orders
-unfoldable pub allOrders : List (List (List ℕ)) → List (List ℕ)
-allOrders [] = []
-allOrders (c ∷ cs) = inAllOrders c ++ allOrders cs
+unfoldable pub all_orders : List (List (List ℕ)) → List (List ℕ)
+all_orders [] = []
+all_orders (c ∷ cs) = in_all_orders c ++ all_orders cs
 
 -- the orderings of some lists: none where nothing contributes
 unfoldable pub generated : List (List (List ℕ)) → List (List ℕ)
 generated [] = []
-generated (l ∷ ls) = allOrders (product (l ∷ ls))
+generated (l ∷ ls) = all_orders (product (l ∷ ls))

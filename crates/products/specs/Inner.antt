@@ -27,8 +27,8 @@ unfoldable pub length_of : Shape → ℕ → ℕ
 length_of s j = get_or s.ends j 0 - start_of s j
 
 -- how many orderings each list has
-unfoldable pub lengthsOf : Shape → List ℕ
-lengthsOf s = table (length_of s) s.size
+unfoldable pub lengths_of : Shape → List ℕ
+lengths_of s = table (length_of s) s.size
 
 -- the orderings of list j in a struct
 unfoldable pub list_of : Lists → ℕ → List (List ℕ)
@@ -50,8 +50,8 @@ pub record Laid (l : Lists) : Type 0 where
   pub short : (i : ℕ) → i < start_of l.shape l.shape.size → ShortOrdering (get_or l.found.rows i (row []))
 
 -- a choice as its struct
-unfoldable pub choiceRow : List (List ℕ) → Choice
-choiceRow os = record { size = length os; rows = map row os ++ replicate (6 - length os) (row []) }
+unfoldable pub choice_row : List (List ℕ) → Choice
+choice_row os = record { size = length os; rows = map row os ++ replicate (6 - length os) (row []) }
 
 -- the orderings in such a struct
 unfoldable pub choice_of : Choice → List (List ℕ)
@@ -59,14 +59,14 @@ choice_of c = table (λ i. keys_of (get_or c.rows i (row []))) c.size
 
 -- the struct is the layout of 1 to 6 orderings of at most 16 keys
 pub record Chosen (c : Choice) : Type 0 where
-  pub coded : choiceRow (choice_of c) ≡ c
+  pub coded : choice_row (choice_of c) ≡ c
   pub some : 0 < c.size
   pub few : c.size ≤ 6
   pub short : (i : ℕ) → i < c.size → ShortOrdering (get_or c.rows i (row []))
 
 -- an order as its struct
-unfoldable pub orderRow : List ℕ → Order
-orderRow o = record { size = length o; places = o ++ replicate {A = ℕ} (6 - length o) 0 }
+unfoldable pub order_row : List ℕ → Order
+order_row o = record { size = length o; places = o ++ replicate {A = ℕ} (6 - length o) 0 }
 
 -- the order in such a struct
 unfoldable pub places_of : Order → List ℕ
@@ -74,7 +74,7 @@ places_of o = table (λ i. get_or o.places i 0) o.size
 
 -- the struct is the layout of an order of at most 6 places
 pub record Placed (o : Order) : Type 0 where
-  pub coded : orderRow (places_of o) ≡ o
+  pub coded : order_row (places_of o) ≡ o
   pub few : o.size ≤ 6
 
 -- Numbers
@@ -85,16 +85,16 @@ factorial zero = 1
 factorial (suc n) = suc n * factorial n
 
 -- the product of some numbers
-unfoldable pub timesAll : List ℕ → ℕ
-timesAll [] = 1
-timesAll (n ∷ ns) = n * timesAll ns
+unfoldable pub times_all : List ℕ → ℕ
+times_all [] = 1
+times_all (n ∷ ns) = n * times_all ns
 
 -- how many choices there are: the product of the lists' lengths
 abbrev pub choices : {A : Type 0} → List (List A) → ℕ
-choices ls = timesAll (map length ls)
+choices ls = times_all (map length ls)
 
 -- how many choices lists of some lengths give, or that their orders are more than 1,024
 unfoldable pub counted : List ℕ → Counted
 counted ns =
-    if leb (factorial (length ns) * timesAll ns) 1024 then record { fits = true; count = timesAll ns }
+    if leb (factorial (length ns) * times_all ns) 1024 then record { fits = true; count = times_all ns }
     else record { fits = false; count = 0 }

@@ -17,11 +17,11 @@ orders zero = [] ∷ []
 orders (suc n) = beginning (orders n) (suc n)
 
 -- each x of the first list before each of the others
-unfoldable pub beforeEach : {A : Type 0} → List A → List (List A) → List (List A)
-beforeEach [] yss = []
-beforeEach (x ∷ xs) yss = map (λ ys. x ∷ ys) yss ++ beforeEach xs yss
+unfoldable pub before_each : {A : Type 0} → List A → List (List A) → List (List A)
+before_each [] yss = []
+before_each (x ∷ xs) yss = map (λ ys. x ∷ ys) yss ++ before_each xs yss
 
 -- one of each list, in all ways; the last varies fastest
 unfoldable pub product : {A : Type 0} → List (List A) → List (List A)
 product [] = [] ∷ []
-product (xs ∷ xss) = beforeEach xs (product xss)
+product (xs ∷ xss) = before_each xs (product xss)

@@ -1,7 +1,7 @@
 // Choices of one ordering of each list; the last list varies fastest.
 ghost use Rattle.std.specs.Prelude.{[], ◌≡◌, ◌≤◌, ◌<◌, ◌+◌, get_or, drop};
 ghost use Rattle.products.specs.Orders.{product};
-ghost use Rattle.products.specs.Inner.{start_of, length_of, lengthsOf, timesAll, lists_of, Shaped, Laid, choiceRow, choices, counted};
+ghost use Rattle.products.specs.Inner.{start_of, length_of, lengths_of, times_all, lists_of, Shaped, Laid, choice_row, choices, counted};
 
 use crate::ordering::factorial;
 use crate::{Choice, Counted, Lists, Shape};
@@ -28,8 +28,8 @@ fn length_of(s: Shape, j: usize) -> usize
 
 // How many choices the lists from one on give.
 fn choices_from(s: Shape, j: usize) -> usize
-    requires { Shaped s × ((j ≤ s.size) × (timesAll (lengthsOf s) ≤ 1024)) }
-    ensures { result ≡ timesAll (drop j (lengthsOf s)) }
+    requires { Shaped s × ((j ≤ s.size) × (times_all (lengths_of s) ≤ 1024)) }
+    ensures { result ≡ times_all (drop j (lengths_of s)) }
 {
     let mut total = 1;
     let mut i = s.size;
@@ -43,7 +43,7 @@ fn choices_from(s: Shape, j: usize) -> usize
 // The choice of a number: one ordering of each list.
 pub fn choice_at(l: Lists, number: usize) -> Choice
     requires { Laid l × ((choices (lists_of l) ≤ 1024) × (number < choices (lists_of l))) }
-    ensures { result ≡ choiceRow (get_or (product (lists_of l)) number []) }
+    ensures { result ≡ choice_row (get_or (product (lists_of l)) number []) }
 {
     let shape = l.shape;
     let found = l.found;
@@ -68,7 +68,7 @@ pub fn choice_at(l: Lists, number: usize) -> Choice
 // How many choices there are, or that their orders are more than 1,024.
 pub fn count_choices(s: Shape) -> Counted
     requires { Shaped s }
-    ensures { result ≡ counted (lengthsOf s) }
+    ensures { result ≡ counted (lengths_of s) }
 {
     let orders = factorial(s.size);
     let mut total = 1;

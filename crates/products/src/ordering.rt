@@ -1,10 +1,10 @@
 // The orders of places in lexicographic order, and a choice in such an order, one ordering behind the other.
 ghost use Rattle.std.specs.Prelude.{[], ◌∷◌, map, ◌≡◌, ℕ, ◌≤◌, ◌<◌, get_or};
-ghost use Rattle.orderings.specs.Inner.{extendedOf};
-ghost use Rattle.orderings.specs.Lists.{orderingAt};
+ghost use Rattle.orderings.specs.Inner.{extended_of};
+ghost use Rattle.orderings.specs.Lists.{ordering_at};
 ghost use Rattle.products.specs.Orders.{passing, orders};
-ghost use Rattle.products.specs.Generate.{chained, inAllOrders};
-ghost use Rattle.products.specs.Inner.{choice_of, Chosen, orderRow, places_of, Placed, factorial as factorialOf};
+ghost use Rattle.products.specs.Generate.{chained, in_all_orders};
+ghost use Rattle.products.specs.Inner.{choice_of, Chosen, order_row, places_of, Placed, factorial as factorial_of};
 
 use crate::{Choice, Order};
 use orderings::Extended;
@@ -16,7 +16,7 @@ const FACTORIALS: [usize; 7] = [1, 1, 2, 6, 24, 120, 720];
 // The product of the numbers from 1 to n.
 pub fn factorial(n: usize) -> usize
     requires { n ≤ 6 }
-    ensures { result ≡ factorialOf n }
+    ensures { result ≡ factorial_of n }
 {
     FACTORIALS[n]
 }
@@ -35,7 +35,7 @@ fn pass(place: usize, j: usize) -> usize
 // The order of one place more that begins with a place.
 fn begin_with(order: Order, place: usize) -> Order
     requires { (Placed order × (order.size < 6)) × ((i : ℕ) → i < order.size → get_or order.places i 0 < 6) }
-    ensures { result ≡ orderRow (place ∷ map (passing place) (places_of order)) }
+    ensures { result ≡ order_row (place ∷ map (passing place) (places_of order)) }
 {
     let n = order.size;
     let mut out = Order {
@@ -54,8 +54,8 @@ fn begin_with(order: Order, place: usize) -> Order
 // The order of n places with a number: its first place from the quotient by the number of orders of the others, the
 // others from the remainder.
 fn order_at(n: usize, number: usize) -> Order
-    requires { (n ≤ 6) × (number < factorialOf n) }
-    ensures { result ≡ orderRow (get_or (orders n) number []) }
+    requires { (n ≤ 6) × (number < factorial_of n) }
+    ensures { result ≡ order_row (get_or (orders n) number []) }
 {
     if n == 0 {
         return Order {
@@ -70,7 +70,7 @@ fn order_at(n: usize, number: usize) -> Order
 // The orderings of a choice in an order, one behind the other.
 fn chain(choice: Choice, order: Order) -> Extended
     requires { (Chosen choice × (order.size ≡ choice.size)) × ((i : ℕ) → i < order.size → get_or order.places i 0 < choice.size) }
-    ensures { result ≡ extendedOf (chained (map (λ (i : ℕ). get_or (choice_of choice) i []) (places_of order))) }
+    ensures { result ≡ extended_of (chained (map (λ (i : ℕ). get_or (choice_of choice) i []) (places_of order))) }
 {
     let n = order.size;
     let mut out = choice.rows[order.places[0]];
@@ -91,8 +91,8 @@ fn chain(choice: Choice, order: Order) -> Extended
 
 // A choice in the order with a number.
 pub fn ordering_at(choice: Choice, number: usize) -> Extended
-    requires { Chosen choice × (number < factorialOf choice.size) }
-    ensures { result ≡ extendedOf (orderingAt (inAllOrders (choice_of choice)) number) }
+    requires { Chosen choice × (number < factorial_of choice.size) }
+    ensures { result ≡ extended_of (ordering_at (in_all_orders (choice_of choice)) number) }
 {
     chain(choice, order_at(choice.size, number))
 }

@@ -9,23 +9,23 @@ use native.Mathlib.Numerals.{add-one}
 use native.Mathlib.Omega.{arith}
 use lib.ListN.{length, get_or, take, drop, drop_of_length-le}
 use lib.Seq.{take-suc, take_all, drop-cons}
-use Rattle.laws.proofs.Booleans.{true-not-false}
+use Rattle.laws.proofs.Booleans.{true_not_false}
 use Rattle.arena.specs.Node.{Node}
 use Rattle.arena.specs.Expression.{Expression}
-use Rattle.arena.specs.Arena.{Extends, Placed, placed, full, and_then, addExpression}
+use Rattle.arena.specs.Arena.{Extends, Placed, placed, full, and_then, add_expression}
 use Rattle.arena.specs.Layout.{decode as nodes}
 use Rattle.arena.specs.Inner.{Holds, told, is_refused}
 use Rattle.arena.specs.declared.Added.{Added}
 use Rattle.arena.specs.declared.Added.TheVariants.{Number, Refused}
 use Rattle.arena.proofs.Nodes.{extends-none, extends-both, extends-longer}
 use Rattle.arena.proofs.Layouts.{length-decode}
-use Rattle.projection_table.specs.Projecting.{addProjections}
-use Rattle.projection.specs.Inner.{answer_of, Fits, Ready, Settling, Walked, answersIn, toldAnswers, ReadyOne, WalkedOne, ReadyAll, WalkedAll}
+use Rattle.projection_table.specs.Projecting.{add_projections}
+use Rattle.projection.specs.Inner.{answer_of, Fits, Ready, Settling, Walked, answers_in, told_answers, ReadyOne, WalkedOne, ReadyAll, WalkedAll}
 use Rattle.projection_table.specs.Inner.{Says}
 
 -- the projections of expressions, by those of all
-abbrev pub projectedBy : List (Option Expression) → List ℕ → List (Option Expression)
-projectedBy xs es = map (λ (e : ℕ). get_or xs e none) es
+abbrev pub projected_by : List (Option Expression) → List ℕ → List (Option Expression)
+projected_by xs es = map (λ (e : ℕ). get_or xs e none) es
 
 -- ---- one expression
 
@@ -35,8 +35,8 @@ one_below s table e r = omega (arith, r.below, extends-longer r.fits.extends, le
 
 module _ (s table : List ℕ) (e : ℕ) where
   -- where the table says that there is no projection, nothing is added
-  nothing : get_or table e 0 ≡ 0 → (os : List Node) (xs : List (Option Expression)) → Fits os xs (nodes s) table → e < length os → toldAnswers true (answersIn table (e ∷ [])) (nodes s) ≡ addProjections (projectedBy xs (e ∷ [])) (nodes s)
-  unfolding toldAnswers addProjections and_then answer_of Says
+  nothing : get_or table e 0 ≡ 0 → (os : List Node) (xs : List (Option Expression)) → Fits os xs (nodes s) table → e < length os → told_answers true (answers_in table (e ∷ [])) (nodes s) ≡ add_projections (projected_by xs (e ∷ [])) (nodes s)
+  unfolding told_answers add_projections and_then answer_of Says
   nothing z os xs f l =
       let n : get_or xs e none ≡ none = subst (Says os xs (nodes s) e) z (f.says e l) in
       rw (z, n)
@@ -58,9 +58,9 @@ module _ (s table : List ℕ) (e : ℕ) where
 
   -- it was walked
   module _ (t table' : List ℕ) where
-    told-one : (answer : Added) (x : Expression) (xs : List (Option Expression)) → ((i : ℕ) → answer ≡ Number i → get_or table' e 0 ≡ i + 2) → get_or xs e none ≡ some x → told answer (nodes t) ≡ addExpression x (nodes s)
-        → toldAnswers (not (is_refused answer)) (answersIn table' (e ∷ [])) (nodes t) ≡ addProjections (projectedBy xs (e ∷ [])) (nodes s)
-    unfolding toldAnswers addProjections and_then told is_refused answer_of
+    told-one : (answer : Added) (x : Expression) (xs : List (Option Expression)) → ((i : ℕ) → answer ≡ Number i → get_or table' e 0 ≡ i + 2) → get_or xs e none ≡ some x → told answer (nodes t) ≡ add_expression x (nodes s)
+        → told_answers (not (is_refused answer)) (answers_in table' (e ∷ [])) (nodes t) ≡ add_projections (projected_by xs (e ∷ [])) (nodes s)
+    unfolding told_answers add_projections and_then told is_refused answer_of
     told-one (Number i) x xs at n q =
         let two : i + 2 ≡ suc (suc i) = omega arith in
         rw (at i refl, two, n, ← q)
@@ -69,7 +69,7 @@ module _ (s table : List ℕ) (e : ℕ) where
     settled-one : (answer : Added) → ((i : ℕ) → answer ≡ Number i → get_or table' e 0 ≡ i + 2) → not (is_refused answer) ≡ true → get_or table' e 0 ≡ 1 → ⊥
     unfolding is_refused
     settled-one (Number i) at r q = omega (arith, at i refl, q)
-    settled-one (Refused k) at r q = true-not-false r refl
+    settled-one (Refused k) at r q = true_not_false r refl
 
     pub one-walked : (answer : Added) → Walked s table t table' e answer → WalkedOne s table t table' e (not (is_refused answer))
     one-walked answer w =
@@ -90,14 +90,14 @@ abbrev pub after : List (Option ℕ) → Placed (List (Option ℕ)) → Placed (
 after done o = and_then o (λ ks ms. placed (done ++ ks) ms)
 
 -- the first projection, then the others
-first_then : (x : Option Expression) (xs : List (Option Expression)) (ns : List Node) → addProjections (x ∷ xs) ns ≡ and_then (addProjections (x ∷ []) ns) (λ ks ms. after ks (addProjections xs ms))
-unfolding addProjections and_then
+first_then : (x : Option Expression) (xs : List (Option Expression)) (ns : List Node) → add_projections (x ∷ xs) ns ≡ and_then (add_projections (x ∷ []) ns) (λ ks ms. after ks (add_projections xs ms))
+unfolding add_projections and_then
 first_then none xs ns = refl
-first_then (some x) xs ns = go (addExpression x ns)
+first_then (some x) xs ns = go (add_expression x ns)
   where
     go : (o : Placed ℕ)
-        → and_then o (λ k ms. and_then (addProjections xs ms) (λ ks os. placed (some k ∷ ks) os))
-        ≡ and_then (and_then o (λ k ms. and_then (addProjections [] ms) (λ ks os. placed (some k ∷ ks) os))) (λ ks ms. after ks (addProjections xs ms))
+        → and_then o (λ k ms. and_then (add_projections xs ms) (λ ks os. placed (some k ∷ ks) os))
+        ≡ and_then (and_then o (λ k ms. and_then (add_projections [] ms) (λ ks os. placed (some k ∷ ks) os))) (λ ks ms. after ks (add_projections xs ms))
     go (placed k ms) = refl
     go full = refl
 
@@ -116,22 +116,22 @@ after_both done more full = refl
 -- ---- the loop
 
 -- the answers of the expressions before k are the same in a table that only settled
-answers-kept : (table table' : List ℕ) → Settling table table' → (es : List ℕ) (k : ℕ) → ((j : ℕ) → j < k → get_or table (get_or es j 0) 0 ≡ 1 → ⊥) → answersIn table' (take k es) ≡ answersIn table (take k es)
+answers-kept : (table table' : List ℕ) → Settling table table' → (es : List ℕ) (k : ℕ) → ((j : ℕ) → j < k → get_or table (get_or es j 0) 0 ≡ 1 → ⊥) → answers_in table' (take k es) ≡ answers_in table (take k es)
 answers-kept table table' s es zero h = refl
 answers-kept table table' s [] (suc k) h = refl
 answers-kept table table' s (e ∷ es) (suc k) h = rw (s e (h 0 (omega arith)), answers-kept table table' s es k (λ j l. h (suc j) (omega arith)))
 
 -- one answer more
-pub answers-more : (table es : List ℕ) (k : ℕ) → k < length es → answersIn table (take (k + 1) es) ≡ answersIn table (take k es) ++ answersIn table (get_or es k 0 ∷ [])
+pub answers-more : (table es : List ℕ) (k : ℕ) → k < length es → answers_in table (take (k + 1) es) ≡ answers_in table (take k es) ++ answers_in table (get_or es k 0 ∷ [])
 answers-more table es k l =
-    ap (λ (n : ℕ). answersIn table (take n es)) (add-one k)
-    ∙ ap (answersIn table) (take-suc es k 0 l)
+    ap (λ (n : ℕ). answers_in table (take n es)) (add-one k)
+    ∙ ap (answers_in table) (take-suc es k 0 l)
     ∙ map-append (λ (e : ℕ). answer_of (get_or table e 0)) (take k es) (get_or es k 0 ∷ [])
 
 -- k expressions are done: the table has their answers, and the projections of the others are to be added
 pub record DoneTo (os : List Node) (xs : List (Option Expression)) (s t table' es : List ℕ) (k : ℕ) : Type 0 where
   pub fits : Fits os xs (nodes t) table'
-  pub goes : addProjections (projectedBy xs es) (nodes s) ≡ after (answersIn table' (take k es)) (addProjections (projectedBy xs (drop k es)) (nodes t))
+  pub goes : add_projections (projected_by xs es) (nodes s) ≡ after (answers_in table' (take k es)) (add_projections (projected_by xs (drop k es)) (nodes t))
 
 -- and so whichever old nodes and projections the table fitted
 pub record AllTo (s table t table' es : List ℕ) (k : ℕ) : Type 0 where
@@ -150,25 +150,25 @@ module _ (s table es : List ℕ) (d : ReadyAll s table es) where
         holds = d.holds;
         extends = extends-none (nodes s);
         settled = λ j l. absurd (omega arith);
-        done = λ os xs f b. record { fits = f; goes = after_none (addProjections (projectedBy xs es) (nodes s)) };
+        done = λ os xs f b. record { fits = f; goes = after_none (add_projections (projected_by xs es) (nodes s)) };
       }
 
   module _ (t table₁ : List ℕ) (k : ℕ) (h : AllTo s table t table₁ es k) where
     -- all done
-    told-end : length es ≤ k → (xs : List (Option Expression)) → addProjections (projectedBy xs es) (nodes s) ≡ after (answersIn table₁ (take k es)) (addProjections (projectedBy xs (drop k es)) (nodes t))
-        → toldAnswers true (answersIn table₁ es) (nodes t) ≡ addProjections (projectedBy xs es) (nodes s)
-    unfolding addProjections and_then toldAnswers
-    told-end l xs e =
+    told_end : length es ≤ k → (xs : List (Option Expression)) → add_projections (projected_by xs es) (nodes s) ≡ after (answers_in table₁ (take k es)) (add_projections (projected_by xs (drop k es)) (nodes t))
+        → told_answers true (answers_in table₁ es) (nodes t) ≡ add_projections (projected_by xs es) (nodes s)
+    unfolding add_projections and_then told_answers
+    told_end l xs e =
         sym (e
-        ∙ ap (λ (rest : List ℕ). after (answersIn table₁ (take k es)) (addProjections (projectedBy xs rest) (nodes t))) (drop_of_length-le es l)
-        ∙ ap (λ (ks : List (Option ℕ)). placed ks (nodes t)) (append-nil (answersIn table₁ (take k es)) ∙ ap (answersIn table₁) (take_all k es l)))
+        ∙ ap (λ (rest : List ℕ). after (answers_in table₁ (take k es)) (add_projections (projected_by xs rest) (nodes t))) (drop_of_length-le es l)
+        ∙ ap (λ (ks : List (Option ℕ)). placed ks (nodes t)) (append-nil (answers_in table₁ (take k es)) ∙ ap (answers_in table₁) (take_all k es l)))
 
     pub all_end : length es ≤ k → WalkedAll s table t table₁ es true
     all_end l =
         record {
           holds = h.holds;
           extends = h.extends;
-          added = λ os xs f b. let a = h.done os xs f b in record { fits = a.fits; is = told-end l xs a.goes };
+          added = λ os xs f b. let a = h.done os xs f b in record { fits = a.fits; is = told_end l xs a.goes };
         }
 
     module _ (l : k < length es) where
@@ -178,19 +178,19 @@ module _ (s table es : List ℕ) (d : ReadyAll s table es) where
 
       module _ (u table₂ : List ℕ) where
         -- what is to be added, this one first
-        turn : (ok : Bool) (xs : List (Option Expression)) → toldAnswers ok (answersIn table₂ (get_or es k 0 ∷ [])) (nodes u) ≡ addProjections (projectedBy xs (get_or es k 0 ∷ [])) (nodes t)
-            → addProjections (projectedBy xs (drop k es)) (nodes t) ≡ and_then (toldAnswers ok (answersIn table₂ (get_or es k 0 ∷ [])) (nodes u)) (λ ks ms. after ks (addProjections (projectedBy xs (drop (k + 1) es)) ms))
+        turn : (ok : Bool) (xs : List (Option Expression)) → told_answers ok (answers_in table₂ (get_or es k 0 ∷ [])) (nodes u) ≡ add_projections (projected_by xs (get_or es k 0 ∷ [])) (nodes t)
+            → add_projections (projected_by xs (drop k es)) (nodes t) ≡ and_then (told_answers ok (answers_in table₂ (get_or es k 0 ∷ [])) (nodes u)) (λ ks ms. after ks (add_projections (projected_by xs (drop (k + 1) es)) ms))
         turn ok xs q =
-            ap (λ (rest : List ℕ). addProjections (projectedBy xs rest) (nodes t)) (drop-cons es k 0 l ∙ ap (λ (n : ℕ). get_or es k 0 ∷ drop n es) (sym (add-one k)))
-            ∙ first_then (get_or xs (get_or es k 0) none) (projectedBy xs (drop (k + 1) es)) (nodes t)
-            ∙ ap (λ (o : Placed (List (Option ℕ))). and_then o (λ ks ms. after ks (addProjections (projectedBy xs (drop (k + 1) es)) ms))) (sym q)
+            ap (λ (rest : List ℕ). add_projections (projected_by xs rest) (nodes t)) (drop-cons es k 0 l ∙ ap (λ (n : ℕ). get_or es k 0 ∷ drop n es) (sym (add-one k)))
+            ∙ first_then (get_or xs (get_or es k 0) none) (projected_by xs (drop (k + 1) es)) (nodes t)
+            ∙ ap (λ (o : Placed (List (Option ℕ))). and_then o (λ ks ms. after ks (add_projections (projected_by xs (drop (k + 1) es)) ms))) (sym q)
 
         -- there was no room
-        told-full : (xs : List (Option Expression)) → addProjections (projectedBy xs es) (nodes s) ≡ after (answersIn table₁ (take k es)) (addProjections (projectedBy xs (drop k es)) (nodes t))
-            → toldAnswers false (answersIn table₂ (get_or es k 0 ∷ [])) (nodes u) ≡ addProjections (projectedBy xs (get_or es k 0 ∷ [])) (nodes t)
-            → toldAnswers false (answersIn table₂ es) (nodes u) ≡ addProjections (projectedBy xs es) (nodes s)
-        unfolding and_then toldAnswers
-        told-full xs e q = sym (e ∙ ap (after (answersIn table₁ (take k es))) (turn false xs q))
+        told-full : (xs : List (Option Expression)) → add_projections (projected_by xs es) (nodes s) ≡ after (answers_in table₁ (take k es)) (add_projections (projected_by xs (drop k es)) (nodes t))
+            → told_answers false (answers_in table₂ (get_or es k 0 ∷ [])) (nodes u) ≡ add_projections (projected_by xs (get_or es k 0 ∷ [])) (nodes t)
+            → told_answers false (answers_in table₂ es) (nodes u) ≡ add_projections (projected_by xs es) (nodes s)
+        unfolding and_then told_answers
+        told-full xs e q = sym (e ∙ ap (after (answers_in table₁ (take k es))) (turn false xs q))
 
         pub all-full : WalkedOne t table₁ u table₂ (get_or es k 0) false → WalkedAll s table u table₂ es false
         all-full w =
@@ -204,16 +204,16 @@ module _ (s table es : List ℕ) (d : ReadyAll s table es) where
 
         -- one more is done
         module _ (w : WalkedOne t table₁ u table₂ (get_or es k 0) true) where
-          goes-more : (xs : List (Option Expression)) → addProjections (projectedBy xs es) (nodes s) ≡ after (answersIn table₁ (take k es)) (addProjections (projectedBy xs (drop k es)) (nodes t))
-              → toldAnswers true (answersIn table₂ (get_or es k 0 ∷ [])) (nodes u) ≡ addProjections (projectedBy xs (get_or es k 0 ∷ [])) (nodes t)
-              → addProjections (projectedBy xs es) (nodes s) ≡ after (answersIn table₂ (take (k + 1) es)) (addProjections (projectedBy xs (drop (k + 1) es)) (nodes u))
-          unfolding and_then toldAnswers
+          goes-more : (xs : List (Option Expression)) → add_projections (projected_by xs es) (nodes s) ≡ after (answers_in table₁ (take k es)) (add_projections (projected_by xs (drop k es)) (nodes t))
+              → told_answers true (answers_in table₂ (get_or es k 0 ∷ [])) (nodes u) ≡ add_projections (projected_by xs (get_or es k 0 ∷ [])) (nodes t)
+              → add_projections (projected_by xs es) (nodes s) ≡ after (answers_in table₂ (take (k + 1) es)) (add_projections (projected_by xs (drop (k + 1) es)) (nodes u))
+          unfolding and_then told_answers
           goes-more xs e q =
               e
-              ∙ ap (after (answersIn table₁ (take k es))) (turn true xs q)
-              ∙ after_both (answersIn table₁ (take k es)) (answersIn table₂ (get_or es k 0 ∷ [])) (addProjections (projectedBy xs (drop (k + 1) es)) (nodes u))
-              ∙ ap (λ (done : List (Option ℕ)). after done (addProjections (projectedBy xs (drop (k + 1) es)) (nodes u)))
-              (sym (answers-more table₂ es k l ∙ ap (λ (done : List (Option ℕ)). done ++ answersIn table₂ (get_or es k 0 ∷ [])) (answers-kept table₁ table₂ w.settling es k h.settled)))
+              ∙ ap (after (answers_in table₁ (take k es))) (turn true xs q)
+              ∙ after_both (answers_in table₁ (take k es)) (answers_in table₂ (get_or es k 0 ∷ [])) (add_projections (projected_by xs (drop (k + 1) es)) (nodes u))
+              ∙ ap (λ (done : List (Option ℕ)). after done (add_projections (projected_by xs (drop (k + 1) es)) (nodes u)))
+              (sym (answers-more table₂ es k l ∙ ap (λ (done : List (Option ℕ)). done ++ answers_in table₂ (get_or es k 0 ∷ [])) (answers-kept table₁ table₂ w.settling es k h.settled)))
 
           settled-more : (j : ℕ) → j < k + 1 → get_or table₂ (get_or es j 0) 0 ≡ 1 → ⊥
           settled-more j b q = at (ℕ_discrete j k)

@@ -5,15 +5,15 @@ use mathlib.Core.Path.{◌≡◌, refl, sym, ap, ◌∙◌}
 use native.Mathlib.Omega.{arith}
 use lib.ListN.{length, get_or, set, replicate, length-set}
 use lib.Seq.{set-append_left, get_or-set_other}
-use Rattle.laws.proofs.Table.{getD-table}
-use Rattle.arena.specs.Node.{operation, nodeAt}
-use Rattle.arena.specs.Layout.{row, count, rowOf, childrenOf, decode as nodes}
-use Rattle.arena.specs.Inner.{Holds, operationRow}
+use Rattle.laws.proofs.Table.{get_or-table}
+use Rattle.arena.specs.Node.{operation, node_at}
+use Rattle.arena.specs.Layout.{row, count, row_of, children_of, decode as nodes}
+use Rattle.arena.specs.Inner.{Holds, operation_row}
 use Rattle.arena.proofs.Layouts.{node-decode}
 use Rattle.arena.proofs.Walking.{children-count, children-row}
 
 -- the row of a node that is an operation
-pub operation-row : (s : List ℕ) (e label : ℕ) (ks : List ℕ) → Holds s → e < count s → nodeAt (nodes s) e ≡ operation label ks → rowOf s e ≡ row (operation label ks)
+pub operation-row : (s : List ℕ) (e label : ℕ) (ks : List ℕ) → Holds s → e < count s → node_at (nodes s) e ≡ operation label ks → row_of s e ≡ row (operation label ks)
 operation-row s e label ks h l q = sym (h.coded e l) ∙ ap row (sym (node-decode s e l) ∙ q)
 
 -- its label
@@ -29,23 +29,23 @@ row_written label i k ks l =
     rw (e, length-set ks k i, set-append_left ks (replicate (8 - length ks) 0) k i l)
 
 -- child k stands at place 3 + k
-pub row-child : (r : List ℕ) (k : ℕ) → k < length (childrenOf r) → get_or r (3 + k) 0 ≡ get_or (childrenOf r) k 0
-unfolding childrenOf
-row-child r k l = sym (getD-table (λ j. get_or r (3 + j) 0) (get_or r 2 0) k 0 (omega (arith, children-count r)))
+pub row-child : (r : List ℕ) (k : ℕ) → k < length (children_of r) → get_or r (3 + k) 0 ≡ get_or (children_of r) k 0
+unfolding children_of
+row-child r k l = sym (get_or-table (λ j. get_or r (3 + j) 0) (get_or r 2 0) k 0 (omega (arith, children-count r)))
 
-module _ (r : List ℕ) (i k : ℕ) (q : r ≡ operationRow r (childrenOf r)) (l : k < length (childrenOf r)) where
+module _ (r : List ℕ) (i k : ℕ) (q : r ≡ operation_row r (children_of r)) (l : k < length (children_of r)) where
   -- the row with a number in place of child k
-  written : set r (3 + k) i ≡ operationRow r (set (childrenOf r) k i)
-  written = ap (λ (m : List ℕ). set m (3 + k) i) q ∙ row_written (get_or r 1 0) i k (childrenOf r) l
+  written : set r (3 + k) i ≡ operation_row r (set (children_of r) k i)
+  written = ap (λ (m : List ℕ). set m (3 + k) i) q ∙ row_written (get_or r 1 0) i k (children_of r) l
 
   -- the children of the row afterwards
-  pub children-set : childrenOf (set r (3 + k) i) ≡ set (childrenOf r) k i
-  children-set = ap childrenOf written ∙ children-row (get_or r 1 0) (set (childrenOf r) k i)
+  pub children-set : children_of (set r (3 + k) i) ≡ set (children_of r) k i
+  children-set = ap children_of written ∙ children-row (get_or r 1 0) (set (children_of r) k i)
 
   -- the label stays
   pub label-set : get_or (set r (3 + k) i) 1 0 ≡ get_or r 1 0
   label-set = get_or-set_other r (3 + k) 1 i 0 (λ z. omega arith)
 
   -- and it is an operation's row
-  pub row-set : set r (3 + k) i ≡ operationRow (set r (3 + k) i) (childrenOf (set r (3 + k) i))
+  pub row-set : set r (3 + k) i ≡ operation_row (set r (3 + k) i) (children_of (set r (3 + k) i))
   row-set = written ∙ rw (children-set, label-set)

@@ -9,28 +9,28 @@ use native.Mathlib.Numerals.{add-one, add-two}
 use native.Mathlib.Omega.{arith}
 use lib.ListN.{length, get_or, set, take, drop, length-set, length-drop, drop_of_length-le, get_or-eq_default}
 use lib.Seq.{get_or-set_other, get_or-set_same, set_out, drop-cons, get_or-drop, get_or-take, take-take, take-set-le, drop-set-lt}
-use Rattle.arena.specs.Node.{Node, operation, nodeAt}
-use Rattle.arena.specs.Expression.{Expression, Expressions, op, ∅, ◌▹◌, expressionAt}
-use Rattle.arena.specs.Arena.{Allowed, Sound, Extends, Small, placed, full, and_then, add, addExpression, addExpressions}
-use Rattle.arena.specs.Layout.{row, count, rowOf, node_of, childrenOf, decode as nodes}
-use Rattle.arena.specs.Calls.{inCells}
-use Rattle.arena.specs.Inner.{Holds, Placeable, told, operationRow}
+use Rattle.arena.specs.Node.{Node, operation, node_at}
+use Rattle.arena.specs.Expression.{Expression, Expressions, op, ∅, ◌▹◌, expression_at}
+use Rattle.arena.specs.Arena.{Allowed, Sound, Extends, Small, placed, full, and_then, add, add_expression, add_expressions}
+use Rattle.arena.specs.Layout.{row, count, row_of, node_of, children_of, decode as nodes}
+use Rattle.arena.specs.Calls.{in_cells}
+use Rattle.arena.specs.Inner.{Holds, Placeable, told, operation_row}
 use Rattle.arena.specs.declared.Added.{Added}
 use Rattle.arena.specs.declared.Added.TheVariants.{Number, Refused}
 use Rattle.arena.proofs.Nodes.{extends-none, extends-both, extends-longer, extends-node}
 use Rattle.arena.proofs.Rows.{node_row}
 use Rattle.arena.proofs.Trees.{expression-kept, expression-small}
-use Rattle.arena.proofs.Growing.{AddedExpression, add-expression, add-expressions, add-expression-old}
+use Rattle.arena.proofs.Growing.{AddedExpression, add-expression, add-expressions, add_expression-old}
 use Rattle.arena.proofs.Layouts.{length-decode, coded-cells}
 use Rattle.arena.proofs.Walking.{PlacedRow, children-row}
 use Rattle.normal.proofs.Rewriting.{sound-before}
-use Rattle.projection_table.specs.Projecting.{bothProject, allProject}
-use Rattle.projection.specs.Calls.{placedAnswer, projectedAnswer}
+use Rattle.projection_table.specs.Projecting.{both_project, all_project}
+use Rattle.projection.specs.Calls.{placed_answer, projected_answer}
 use Rattle.projection_table.specs.Inner.{Says, Tabled}
-use Rattle.projection.specs.Inner.{Fits, Ready, Settling, Walked, ReadyFrom, toldFrom, WalkedFrom, settledAs, restoredAs}
+use Rattle.projection.specs.Inner.{Fits, Ready, Settling, Walked, ReadyFrom, told_from, WalkedFrom, settled_as, restored_as}
 use Rattle.projection.specs.declared.Projected.{Projected}
 use Rattle.projection.specs.declared.Projected.TheVariants.{Nothing}
-use Rattle.projection_table.proofs.TableLaws.{Projects, none-some, all_known, all-child, all-pairwise, pairwise-small, over-children, says_some}
+use Rattle.projection_table.proofs.TableLaws.{Projects, none-some, all_known_lem, all-child, all-pairwise, pairwise-small, over-children, says_some}
 use Rattle.projection.proofs.RowLaws.{operation-row, row_label, row-child, children-set, label-set, row-set}
 
 -- ---- what the table says
@@ -43,7 +43,7 @@ says-kept os xs x e (suc zero) h = h
 says-kept os xs x e (suc (suc i)) h = (omega (arith, extends-longer x, h.0), h.1 ∙ ap (λ (y : Expression). some y) (sym (expression-kept x i h.0)))
 
 -- the entry of an expression that is there
-pub says-number : (os : List Node) (xs : List (Option Expression)) (ns : List Node) (e i : ℕ) → i < length ns → get_or xs e none ≡ some (expressionAt ns i) → Says os xs ns e (i + 2)
+pub says-number : (os : List Node) (xs : List (Option Expression)) (ns : List Node) (e i : ℕ) → i < length ns → get_or xs e none ≡ some (expression_at ns i) → Says os xs ns e (i + 2)
 unfolding Says
 says-number os xs ns e i l q = rw (add-two i) (l, q)
 
@@ -57,17 +57,17 @@ module _ (os : List Node) (xs : List (Option Expression)) (ns : List Node) (tabl
   fits-some e l z = says_some os xs ns e (get_or table e 0) (f.says e l) z
 
   -- and the other way round
-  pub fits-not-none : (e : ℕ) → e < length os → Projects xs e → get_or table e 0 ≡ 0 → ⊥
+  pub fits_not-none : (e : ℕ) → e < length os → Projects xs e → get_or table e 0 ≡ 0 → ⊥
   unfolding Says
-  fits-not-none e l p z = let q : get_or xs e none ≡ none = subst (Says os xs ns e) z (f.says e l) in none-some q p.known
+  fits_not-none e l p z = let q : get_or xs e none ≡ none = subst (Says os xs ns e) z (f.says e l) in none-some q p.known
 
   -- an entry with a number
-  pub fits-number : (e i : ℕ) → e < length os → get_or table e 0 ≡ i + 2 → (i < length ns) × (get_or xs e none ≡ some (expressionAt ns i))
+  pub fits-number : (e i : ℕ) → e < length os → get_or table e 0 ≡ i + 2 → (i < length ns) × (get_or xs e none ≡ some (expression_at ns i))
   unfolding Says
   fits-number e i l q = subst (Says os xs ns e) (q ∙ add-two i) (f.says e l)
 
   -- an answer is written into the table
-  pub fits_more : (e i : ℕ) → i < length ns → get_or xs e none ≡ some (expressionAt ns i) → Fits os xs ns (set table e (i + 2))
+  pub fits_more : (e i : ℕ) → i < length ns → get_or xs e none ≡ some (expression_at ns i) → Fits os xs ns (set table e (i + 2))
   fits_more e i b q = record { extends = f.extends; says = says }
     where
       says : (j : ℕ) → j < length os → Says os xs ns j (get_or (set table e (i + 2)) j 0)
@@ -88,12 +88,12 @@ module _ (os : List Node) (xs : List (Option Expression)) (ns : List Node) (tabl
     small_one e l h x q zero p = absurd (none-some p q)
     small_one e l h x q (suc zero) p =
         let y : p.0 ≡ x = cc (q, p.1.0) in
-        let o = over-children xs (nodeAt os e) p.0 p.1.1 in
+        let o = over-children xs (node_at os e) p.0 p.1.1 in
         let a = subst (Allowed e) o.node ((sound-before f.extends s).allowed e l) in
         let r = pairwise-small o.children o.projected (all-pairwise (λ k z. Small z) xs o.children (λ j b. h (get_or o.children j 0) (a.1 j b)) o.projected o.known) in
         subst Small (sym o.is ∙ y) (omega (arith, a.0, r.0), r.1)
     small_one e l h x q (suc (suc i)) p =
-        let y : expressionAt ns i ≡ x = cc (q, p.1) in
+        let y : expression_at ns i ≡ x = cc (q, p.1) in
         subst Small y (expression-small ns s i p.0)
 
     -- of the nodes below n
@@ -113,10 +113,10 @@ settling-both a b c p q j h = q j (λ z. h (sym (p j h) ∙ z)) ∙ p j h
 
 module _ (s table r : List ℕ) (e k : ℕ) (d : ReadyFrom s table r e k) where
   -- none is left
-  pub children-done : length (childrenOf r) ≤ k → WalkedFrom s table r s table r e k true
-  unfolding toldFrom allProject addExpressions
+  pub children-done : length (children_of r) ≤ k → WalkedFrom s table r s table r e k true
+  unfolding told_from all_project add_expressions
   children-done l =
-      let z : drop k (childrenOf r) ≡ [] = drop_of_length-le (childrenOf r) l in
+      let z : drop k (children_of r) ≡ [] = drop_of_length-le (children_of r) l in
       record {
         holds = d.holds;
         extends = extends-none (nodes s);
@@ -127,10 +127,10 @@ module _ (s table r : List ℕ) (e k : ℕ) (d : ReadyFrom s table r e k) where
         added = λ os xs f b. record { fits = f; expressions = ∅; known = rw z; is = rw z };
       }
 
-  module _ (l : k < length (childrenOf r)) where
+  module _ (l : k < length (children_of r)) where
     -- child k
     abbrev child : ℕ
-    child = get_or (childrenOf r) k 0
+    child = get_or (children_of r) k 0
 
     -- it stands in the row
     in_row : get_or r (3 + k) 0 ≡ child
@@ -153,30 +153,30 @@ module _ (s table r : List ℕ) (e k : ℕ) (d : ReadyFrom s table r e k) where
         }
 
     -- the rest begins with it
-    begins : (ks : List ℕ) → length ks ≡ length (childrenOf r) → drop k ks ≡ get_or ks k 0 ∷ drop (k + 1) ks
+    begins : (ks : List ℕ) → length ks ≡ length (children_of r) → drop k ks ≡ get_or ks k 0 ∷ drop (k + 1) ks
     begins ks q = drop-cons ks k 0 (omega arith) ∙ rw add-one
 
     -- what is known of old nodes and projections that the table fits
     module _ (os : List Node) (xs : List (Option Expression)) (f : Fits os xs (nodes s) table) (b : e < length os) where
       -- so those after child k have
-      known_from : (ys : Expressions) × (allProject xs (drop (k + 1) (childrenOf r)) ≡ some ys)
+      known_from : (ys : Expressions) × (all_project xs (drop (k + 1) (children_of r)) ≡ some ys)
       known_from =
-          all_known xs (drop (k + 1) (childrenOf r)) (λ j m.
-          let g : get_or (drop (k + 1) (childrenOf r)) j 0 ≡ get_or (childrenOf r) (k + 1 + j) 0 = get_or-drop (k + 1) (childrenOf r) j 0 in
-          let n : k + 1 + j < length (childrenOf r) = omega (arith, length-drop (k + 1) (childrenOf r)) in
-          subst (Projects xs) (sym g) (fits-some os xs (nodes s) table f (get_or (childrenOf r) (k + 1 + j) 0) (omega (arith, d.children (k + 1 + j) (omega arith) n)) (d.project (k + 1 + j) (omega arith) n)))
+          all_known_lem xs (drop (k + 1) (children_of r)) (λ j m.
+          let g : get_or (drop (k + 1) (children_of r)) j 0 ≡ get_or (children_of r) (k + 1 + j) 0 = get_or-drop (k + 1) (children_of r) j 0 in
+          let n : k + 1 + j < length (children_of r) = omega (arith, length-drop (k + 1) (children_of r)) in
+          subst (Projects xs) (sym g) (fits-some os xs (nodes s) table f (get_or (children_of r) (k + 1 + j) 0) (omega (arith, d.children (k + 1 + j) (omega arith) n)) (d.project (k + 1 + j) (omega arith) n)))
 
       -- child k's, and those of the others
-      known_more : (x : Expression) (ys : Expressions) → get_or xs (get_or r (3 + k) 0) none ≡ some x → allProject xs (drop (k + 1) (childrenOf r)) ≡ some ys → allProject xs (drop k (childrenOf r)) ≡ some (x ▹ ys)
-      unfolding allProject bothProject
+      known_more : (x : Expression) (ys : Expressions) → get_or xs (get_or r (3 + k) 0) none ≡ some x → all_project xs (drop (k + 1) (children_of r)) ≡ some ys → all_project xs (drop k (children_of r)) ≡ some (x ▹ ys)
+      unfolding all_project both_project
       known_more x ys p q =
           let p' : get_or xs child none ≡ some x = rw in_row at p in
-          rw (begins (childrenOf r) refl, p', q)
+          rw (begins (children_of r) refl, p', q)
 
     module _ (t table₂ : List ℕ) (a : Added) (w : Walked s table t table₂ (get_or r (3 + k) 0) a) where
       -- there was no room for child k
       pub child-full : (j : ℕ) → a ≡ Refused j → WalkedFrom s table r t table₂ r e k false
-      unfolding toldFrom told addExpressions and_then
+      unfolding told_from told add_expressions and_then
       child-full j q =
           record {
             holds = w.holds;
@@ -188,7 +188,7 @@ module _ (s table r : List ℕ) (e k : ℕ) (d : ReadyFrom s table r e k) where
             added = λ os xs f b.
                 let g = w.added os xs f (omega (arith, child-lower)) in
                 let m = known_from os xs f b in
-                let z : addExpression g.expression (nodes s) ≡ full = sym g.is ∙ rw q in
+                let z : add_expression g.expression (nodes s) ≡ full = sym g.is ∙ rw q in
                 record {
                   fits = g.fits;
                   expressions = g.expression ▹ m.0;
@@ -202,20 +202,20 @@ module _ (s table r : List ℕ) (e k : ℕ) (d : ReadyFrom s table r e k) where
         r₂ = set r (3 + k) i
 
         -- the row with the number of child k: its children
-        children₂ : childrenOf r₂ ≡ set (childrenOf r) k i
+        children₂ : children_of r₂ ≡ set (children_of r) k i
         children₂ = children-set r i k d.row_is l
 
         -- as many as before
-        long₂ : length (childrenOf r₂) ≡ length (childrenOf r)
-        long₂ = ap length children₂ ∙ length-set (childrenOf r) k i
+        long₂ : length (children_of r₂) ≡ length (children_of r)
+        long₂ = ap length children₂ ∙ length-set (children_of r) k i
 
         -- those after child k are the same
-        after : drop (k + 1) (childrenOf r₂) ≡ drop (k + 1) (childrenOf r)
-        after = ap (drop (k + 1)) children₂ ∙ drop-set-lt (k + 1) (childrenOf r) k i (omega arith)
+        after : drop (k + 1) (children_of r₂) ≡ drop (k + 1) (children_of r)
+        after = ap (drop (k + 1)) children₂ ∙ drop-set-lt (k + 1) (children_of r) k i (omega arith)
 
         -- each of them
-        later : (j : ℕ) → k + 1 ≤ j → get_or (childrenOf r₂) j 0 ≡ get_or (childrenOf r) j 0
-        later j m = ap (λ (c : List ℕ). get_or c j 0) children₂ ∙ get_or-set_other (childrenOf r) k j i 0 (λ z. omega arith)
+        later : (j : ℕ) → k + 1 ≤ j → get_or (children_of r₂) j 0 ≡ get_or (children_of r) j 0
+        later j m = ap (λ (c : List ℕ). get_or c j 0) children₂ ∙ get_or-set_other (children_of r) k j i 0 (λ z. omega arith)
 
         -- child k has a number: the others can be walked
         pub others-ready : ReadyFrom t table₂ r₂ e (k + 1)
@@ -232,57 +232,57 @@ module _ (s table r : List ℕ) (e k : ℕ) (d : ReadyFrom s table r e k) where
               within = omega (arith, long₂);
               children = λ j m n. omega (arith, later j m, long₂, d.children j (omega arith) (omega (arith, long₂)));
               project = λ j m n.
-                  let n₂ : j < length (childrenOf r) = omega (arith, long₂) in
+                  let n₂ : j < length (children_of r) = omega (arith, long₂) in
                   let c = d.children j (omega arith) n₂ in
-                  let p = fits-some d.olds d.all (nodes s) table d.fits (get_or (childrenOf r) j 0) (omega (arith, c, d.below)) (d.project j (omega arith) n₂) in
-                  rw (later j m) (fits-not-none d.olds d.all (nodes t) table₂ g.fits (get_or (childrenOf r) j 0) (omega (arith, c, d.below)) p);
+                  let p = fits-some d.olds d.all (nodes s) table d.fits (get_or (children_of r) j 0) (omega (arith, c, d.below)) (d.project j (omega arith) n₂) in
+                  rw (later j m) (fits_not-none d.olds d.all (nodes t) table₂ g.fits (get_or (children_of r) j 0) (omega (arith, c, d.below)) p);
             }
 
         -- and once they are
         module _ (u table₃ r' : List ℕ) (ok : Bool) (v : WalkedFrom t table₂ r₂ u table₃ r' e (k + 1) ok) where
           -- as many as before, once more
-          long' : length (childrenOf r') ≡ length (childrenOf r)
+          long' : length (children_of r') ≡ length (children_of r)
           long' = v.sized ∙ long₂
 
           -- the number of child k stayed
-          at-k : get_or (childrenOf r') k 0 ≡ i
+          at-k : get_or (children_of r') k 0 ≡ i
           at-k =
-              sym (get_or-take (k + 1) (childrenOf r') k 0 (omega arith))
+              sym (get_or-take (k + 1) (children_of r') k 0 (omega arith))
               ∙ ap (λ (c : List ℕ). get_or c k 0) v.front
-              ∙ get_or-take (k + 1) (childrenOf r₂) k 0 (omega arith)
+              ∙ get_or-take (k + 1) (children_of r₂) k 0 (omega arith)
               ∙ ap (λ (c : List ℕ). get_or c k 0) children₂
-              ∙ get_or-set_same (childrenOf r) k i 0 l
+              ∙ get_or-set_same (children_of r) k i 0 l
 
           -- it stands before the others
-          all_from : drop k (childrenOf r') ≡ i ∷ drop (k + 1) (childrenOf r')
-          all_from = begins (childrenOf r') long' ∙ rw at-k
+          all_from : drop k (children_of r') ≡ i ∷ drop (k + 1) (children_of r')
+          all_from = begins (children_of r') long' ∙ rw at-k
 
           -- as a placing: it, and then the others
-          told_more : (o : Bool) (ns : List Node) → toldFrom o k r' ns ≡ and_then (toldFrom o (k + 1) r' ns) (λ ks ms. placed (i ∷ ks) ms)
-          unfolding toldFrom and_then
+          told_more : (o : Bool) (ns : List Node) → told_from o k r' ns ≡ and_then (told_from o (k + 1) r' ns) (λ ks ms. placed (i ∷ ks) ms)
+          unfolding told_from and_then
           told_more true ns = rw all_from
           told_more false ns = refl
 
           -- so all from child k on are walked
           pub others-walked : WalkedFrom s table r u table₃ r' e k ok
-          unfolding told addExpressions and_then
+          unfolding told add_expressions and_then
           others-walked =
               record {
                 holds = v.holds;
                 extends = extends-both w.extends v.extends;
                 settling = settling-both table table₂ table₃ w.settling v.settling;
-                row_is = v.row_is ∙ ap (λ (n : ℕ). row (operation n (childrenOf r'))) (label-set r i k d.row_is l);
+                row_is = v.row_is ∙ ap (λ (n : ℕ). row (operation n (children_of r'))) (label-set r i k d.row_is l);
                 sized = long';
                 front =
-                    sym (take-take k (k + 1) (childrenOf r') (omega arith))
+                    sym (take-take k (k + 1) (children_of r') (omega arith))
                     ∙ ap (take k) v.front
-                    ∙ take-take k (k + 1) (childrenOf r₂) (omega arith)
+                    ∙ take-take k (k + 1) (children_of r₂) (omega arith)
                     ∙ ap (take k) children₂
-                    ∙ take-set-le k (childrenOf r) k i (omega arith);
+                    ∙ take-set-le k (children_of r) k i (omega arith);
                 added = λ os xs f b.
                     let g = w.added os xs f (omega (arith, child-lower)) in
                     let h = v.added os xs g.fits b in
-                    let z : addExpression g.expression (nodes s) ≡ placed i (nodes t) = sym g.is ∙ rw q in
+                    let z : add_expression g.expression (nodes s) ≡ placed i (nodes t) = sym g.is ∙ rw q in
                     record {
                       fits = h.fits;
                       expressions = g.expression ▹ h.expressions;
@@ -298,23 +298,23 @@ pub record Opened (xs : List (Option Expression)) (r : List ℕ) (e : ℕ) : Typ
   pub expression : Expression
   pub known : get_or xs e none ≡ some expression
   pub projected : Expressions
-  pub children-known : allProject xs (childrenOf r) ≡ some projected
+  pub children-known : all_project xs (children_of r) ≡ some projected
   pub is : expression ≡ op (get_or r 1 0) projected
-  pub row_is : r ≡ operationRow r (childrenOf r)
-  pub few : length (childrenOf r) ≤ 8
-  pub lower : (j : ℕ) → j < length (childrenOf r) → get_or (childrenOf r) j 0 < e
+  pub row_is : r ≡ operation_row r (children_of r)
+  pub few : length (children_of r) ≤ 8
+  pub lower : (j : ℕ) → j < length (children_of r) → get_or (children_of r) j 0 < e
 
 -- it is an operation, and its row has the children
 pub opened : (os : List Node) (xs : List (Option Expression)) (s table : List ℕ) (e : ℕ) → Holds s → Fits os xs (nodes s) table → e < length os → get_or table e 0 ≡ 1
-    → (r : List ℕ) → r ≡ rowOf s e → Opened xs r e
+    → (r : List ℕ) → r ≡ row_of s e → Opened xs r e
 unfolding Says Allowed
 opened os xs s table e h f l o r q =
     let p : Says os xs (nodes s) e 1 = subst (Says os xs (nodes s) e) o (f.says e l) in
-    let c = over-children xs (nodeAt os e) p.0 p.1.1 in
-    let n : nodeAt (nodes s) e ≡ operation c.label c.children = extends-node f.extends e l ∙ c.node in
+    let c = over-children xs (node_at os e) p.0 p.1.1 in
+    let n : node_at (nodes s) e ≡ operation c.label c.children = extends-node f.extends e l ∙ c.node in
     let b : e < count s = omega (arith, extends-longer f.extends, length-decode s) in
     let w : r ≡ row (operation c.label c.children) = q ∙ operation-row s e c.label c.children h b n in
-    let k : childrenOf r ≡ c.children = ap childrenOf w ∙ children-row c.label c.children in
+    let k : children_of r ≡ c.children = ap children_of w ∙ children-row c.label c.children in
     let m : get_or r 1 0 ≡ c.label = ap (λ (i : List ℕ). get_or i 1 0) w ∙ row_label c.label c.children in
     let a = subst (Allowed e) n (h.sound.allowed e (omega (arith, length-decode s))) in
     record {
@@ -347,14 +347,14 @@ module _ (s table : List ℕ) (e : ℕ) (d : Ready s table e) where
             let n = fits-number os xs (nodes s) table f e (get_or table e 0 - 2) b z in
             record {
               fits = f;
-              expression = expressionAt (nodes s) (get_or table e 0 - 2);
+              expression = expression_at (nodes s) (get_or table e 0 - 2);
               known = n.1;
-              is = sym (add-expression-old (expressionAt (nodes s) (get_or table e 0 - 2)) (nodes s) d.holds.sound (get_or table e 0 - 2) n.0 refl);
+              is = sym (add_expression-old (expression_at (nodes s) (get_or table e 0 - 2)) (nodes s) d.holds.sound (get_or table e 0 - 2) n.0 refl);
             };
       }
 
   -- it is open
-  module _ (o : get_or table e 0 ≡ 1) (r : List ℕ) (q : r ≡ rowOf s e) where
+  module _ (o : get_or table e 0 ≡ 1) (r : List ℕ) (q : r ≡ row_of s e) where
     -- for the old nodes and projections that are asked for
     mine : Opened d.all r e
     mine = opened d.olds d.all s table e d.holds d.fits d.below o r q
@@ -372,13 +372,13 @@ module _ (s table : List ℕ) (e : ℕ) (d : Ready s table e) where
           few = mine.few;
           within = omega arith;
           children = λ j m n. mine.lower j n;
-          project = λ j m n. fits-not-none d.olds d.all (nodes s) table d.fits (get_or (childrenOf r) j 0) (omega (arith, mine.lower j n, d.below)) (all-child d.all (childrenOf r) mine.projected mine.children-known j n);
+          project = λ j m n. fits_not-none d.olds d.all (nodes s) table d.fits (get_or (children_of r) j 0) (omega (arith, mine.lower j n, d.below)) (all-child d.all (children_of r) mine.projected mine.children-known j n);
         }
 
     module _ (t table₂ r' : List ℕ) where
       -- no room for the children: no room for the expression
       pub children-full : WalkedFrom s table r t table₂ r' e 0 false → (k : ℕ) → Walked s table t table₂ e (Refused k)
-      unfolding told toldFrom addExpression and_then
+      unfolding told told_from add_expression and_then
       children-full w k =
           record {
             holds = w.holds;
@@ -393,33 +393,33 @@ module _ (s table : List ℕ) (e : ℕ) (d : Ready s table e) where
                   fits = g.fits;
                   expression = p.expression;
                   known = p.known;
-                  is = sym (ap (λ (x : Expression). addExpression x (nodes s)) p.is ∙ rw (← y, ← g.is));
+                  is = sym (ap (λ (x : Expression). add_expression x (nodes s)) p.is ∙ rw (← y, ← g.is));
                 };
           }
 
       module _ (w : WalkedFrom s table r t table₂ r' e 0 true) where
         -- the children were added
-        pub placed-children : (os : List Node) (xs : List (Option Expression)) → Fits os xs (nodes s) table → e < length os → (p : Opened xs r e) → placed (childrenOf r') (nodes t) ≡ addExpressions p.projected (nodes s)
-        unfolding toldFrom
+        pub placed-children : (os : List Node) (xs : List (Option Expression)) → Fits os xs (nodes s) table → e < length os → (p : Opened xs r e) → placed (children_of r') (nodes t) ≡ add_expressions p.projected (nodes s)
+        unfolding told_from
         placed-children os xs f b p =
             let g = w.added os xs f b in
             let y : g.expressions ≡ p.projected = cc (g.known, p.children-known) in
-            g.is ∙ ap (λ (ys : Expressions). addExpressions ys (nodes s)) y
+            g.is ∙ ap (λ (ys : Expressions). add_expressions ys (nodes s)) y
 
         -- an arena can hold the projection
         mine-small : Small (op (get_or r 1 0) mine.projected)
         mine-small = subst Small mine.is (fits-small d.olds d.all (nodes s) table d.fits d.holds.sound e d.below mine.expression mine.known)
 
         -- the operation over the projections may be the next node
-        allowed : Allowed (count t) (operation (get_or r 1 0) (childrenOf r'))
+        allowed : Allowed (count t) (operation (get_or r 1 0) (children_of r'))
         unfolding Allowed Small
         allowed =
-            let a = add-expressions mine.projected (nodes s) d.holds.sound mine-small.1 (childrenOf r') (nodes t) (sym (placed-children d.olds d.all d.fits d.below mine)) in
+            let a = add-expressions mine.projected (nodes s) d.holds.sound mine-small.1 (children_of r') (nodes t) (sym (placed-children d.olds d.all d.fits d.below mine)) in
             (omega (arith, w.sized, mine.few), λ k l. rw (length-decode t) at (a.below k l))
 
         -- it is what the row says
-        node : node_of r' ≡ operation (get_or r 1 0) (childrenOf r')
-        node = ap node_of w.row_is ∙ node_row (count t) (operation (get_or r 1 0) (childrenOf r')) allowed
+        node : node_of r' ≡ operation (get_or r 1 0) (children_of r')
+        node = ap node_of w.row_is ∙ node_row (count t) (operation (get_or r 1 0) (children_of r')) allowed
 
         -- the operation over the projections can be placed
         pub operation-placeable : Placeable t r'
@@ -427,11 +427,11 @@ module _ (s table : List ℕ) (e : ℕ) (d : Ready s table e) where
 
         module _ (u : List ℕ) (a : Added) (p : PlacedRow r' t u a) where
           -- what was added for old nodes and projections that the table fitted
-          grown : (os : List Node) (xs : List (Option Expression)) → Fits os xs (nodes s) table → e < length os → (m : Opened xs r e) → told a (nodes u) ≡ addExpression m.expression (nodes s)
-          unfolding addExpression and_then
+          grown : (os : List Node) (xs : List (Option Expression)) → Fits os xs (nodes s) table → e < length os → (m : Opened xs r e) → told a (nodes u) ≡ add_expression m.expression (nodes s)
+          unfolding add_expression and_then
           grown os xs f b m =
               p.is ∙ ap (λ (n : Node). add n (nodes t)) node
-              ∙ sym (ap (λ (x : Expression). addExpression x (nodes s)) m.is ∙ rw (← placed-children os xs f b m))
+              ∙ sym (ap (λ (x : Expression). add_expression x (nodes s)) m.is ∙ rw (← placed-children os xs f b m))
 
           -- its number
           numbered : (os : List Node) (xs : List (Option Expression)) (f : Fits os xs (nodes s) table) (b : e < length os) (m : Opened xs r e) (i : ℕ) → a ≡ Number i → AddedExpression m.expression (nodes s) i (nodes u)
@@ -451,29 +451,29 @@ module _ (s table : List ℕ) (e : ℕ) (d : Ready s table e) where
               go (yes l) = l
               go (no l) =
                   let g = w.added d.olds d.all d.fits d.below in
-                  absurd (fits-not-none d.olds d.all (nodes t) table₂ g.fits e d.below (record { expression = mine.expression; known = mine.known }) (get_or-eq_default table₂ 0 (omega arith)))
+                  absurd (fits_not-none d.olds d.all (nodes t) table₂ g.fits e d.below (record { expression = mine.expression; known = mine.known }) (get_or-eq_default table₂ 0 (omega arith)))
 
           -- the table with the answer fits what it did before
-          fits_after : (os : List Node) (xs : List (Option Expression)) (f : Fits os xs (nodes s) table) (b : e < length os) (m : Opened xs r e) (c : Added) → a ≡ c → Fits os xs (nodes u) (settledAs table₂ e c)
-          unfolding settledAs
+          fits_after : (os : List Node) (xs : List (Option Expression)) (f : Fits os xs (nodes s) table) (b : e < length os) (m : Opened xs r e) (c : Added) → a ≡ c → Fits os xs (nodes u) (settled_as table₂ e c)
+          unfolding settled_as
           fits_after os xs f b m (Number i) z =
               let n = numbered os xs f b m i z in
               fits_more os xs (nodes u) table₂ (fits_kept os xs (nodes t) table₂ (w.added os xs f b).fits (nodes u) p.extends) e i n.below (m.known ∙ ap (λ (x : Expression). some x) (sym n.is))
           fits_after os xs f b m (Refused k) z = fits_kept os xs (nodes t) table₂ (w.added os xs f b).fits (nodes u) p.extends
 
           -- only entries that were open changed
-          settling-after : (c : Added) → Settling table (settledAs table₂ e c)
-          unfolding settledAs
+          settling-after : (c : Added) → Settling table (settled_as table₂ e c)
+          unfolding settled_as
           settling-after (Number i) j h = get_or-set_other table₂ e j (i + 2) 0 (λ z. h (ap (λ (n : ℕ). get_or table n 0) z ∙ o)) ∙ w.settling j h
           settling-after (Refused k) j h = w.settling j h
 
           -- the entry is the answer's
-          settled-after : (i : ℕ) → a ≡ Number i → get_or (settledAs table₂ e a) e 0 ≡ i + 2
-          unfolding settledAs
+          settled-after : (i : ℕ) → a ≡ Number i → get_or (settled_as table₂ e a) e 0 ≡ i + 2
+          unfolding settled_as
           settled-after i z = rw z (get_or-set_same table₂ e (i + 2) 0 in_table)
 
           -- the projection was added, and the table has the answer
-          pub operation-walked : Walked s table u (settledAs table₂ e a) e a
+          pub operation-walked : Walked s table u (settled_as table₂ e a) e a
           operation-walked =
               record {
                 holds = p.holds;
@@ -502,15 +502,15 @@ module _ (s table : List ℕ) (e : ℕ) (xs : List (Option Expression)) (holds :
   whole_ready z = record { olds = nodes s; all = xs; holds = holds; fits = whole-fits; below = within; projects = z }
 
   -- there is none
-  pub whole-none : get_or table e 0 ≡ 0 → ◌≡◌ {A = Projected × List ℕ} (Nothing, s) (inCells (projectedAnswer (nodes s) (get_or xs e none)))
-  unfolding Says projectedAnswer inCells
+  pub whole-none : get_or table e 0 ≡ 0 → ◌≡◌ {A = Projected × List ℕ} (Nothing, s) (in_cells (projected_answer (nodes s) (get_or xs e none)))
+  unfolding Says projected_answer in_cells
   whole-none z =
       let q : get_or xs e none ≡ none = subst (Says (nodes s) xs (nodes s) e) z (says e within) in
       rw (q, coded-cells s holds)
 
   -- it was added, or there was no room
-  pub whole-walked : (t table₂ : List ℕ) (a : Added) → Walked s table t table₂ e a → restoredAs s t a ≡ inCells (projectedAnswer (nodes s) (get_or xs e none))
-  unfolding restoredAs projectedAnswer placedAnswer inCells told
+  pub whole-walked : (t table₂ : List ℕ) (a : Added) → Walked s table t table₂ e a → restored_as s t a ≡ in_cells (projected_answer (nodes s) (get_or xs e none))
+  unfolding restored_as projected_answer placed_answer in_cells told
   whole-walked t table₂ (Number i) w =
       let g = w.added (nodes s) xs whole-fits within in
       rw (g.known, ← g.is, coded-cells t w.holds)

@@ -4,15 +4,15 @@ use Rattle.std.specs.Prelude.{ℕ, zero, suc, ◌+◌, ◌-◌, ◌<◌, ◌≤�
 use Rattle.std.proofs.Math.Option.{Option, none, some}
 use Rattle.arena.specs.Node.{Node}
 use Rattle.arena.specs.Expression.{Expression, Expressions}
-use Rattle.arena.specs.Arena.{Extends, Placed, placed, full, addExpression, addExpressions}
-use Rattle.arena.specs.Layout.{childrenOf, decode as nodes}
-use Rattle.arena.specs.Inner.{Holds, told, operationRow}
+use Rattle.arena.specs.Arena.{Extends, Placed, placed, full, add_expression, add_expressions}
+use Rattle.arena.specs.Layout.{children_of, decode as nodes}
+use Rattle.arena.specs.Inner.{Holds, told, operation_row}
 use Rattle.arena.specs.declared.Added.{Added}
 use Rattle.arena.specs.declared.Added.TheVariants.{Number, Refused}
 use Rattle.projection.specs.declared.Projected.{Projected}
 use Rattle.projection.specs.declared.Projected.TheVariants.{Number as Projected-Number, Refused as Projected-Refused}
 use Rattle.projection_table.specs.Inner.{Tabled}
-use Rattle.projection_table.specs.Projecting.{allProject, addProjections}
+use Rattle.projection_table.specs.Projecting.{all_project, add_projections}
 
 -- an entry as a projection that was placed
 unfoldable pub answer_of : ℕ → Option ℕ
@@ -43,7 +43,7 @@ pub record Added-as (os : List Node) (xs : List (Option Expression)) (s t table'
   pub fits : Fits os xs (nodes t) table'
   pub expression : Expression
   pub known : get_or xs e none ≡ some expression
-  pub is : told answer (nodes t) ≡ addExpression expression (nodes s)
+  pub is : told answer (nodes t) ≡ add_expression expression (nodes s)
 
 -- what the walk at node e promises, whichever old nodes and projections the table fitted
 pub record Walked (s table t table' : List ℕ) (e : ℕ) (answer : Added) : Type 0 where
@@ -60,57 +60,57 @@ pub record ReadyFrom (s table r : List ℕ) (e k : ℕ) : Type 0 where
   pub holds : Holds s
   pub fits : Fits olds all (nodes s) table
   pub below : e < length olds
-  pub row_is : r ≡ operationRow r (childrenOf r)
-  pub few : length (childrenOf r) ≤ 8
-  pub within : k ≤ length (childrenOf r)
-  pub children : (j : ℕ) → k ≤ j → j < length (childrenOf r) → get_or (childrenOf r) j 0 < e
-  pub project : (j : ℕ) → k ≤ j → j < length (childrenOf r) → get_or table (get_or (childrenOf r) j 0) 0 ≡ 0 → ⊥
+  pub row_is : r ≡ operation_row r (children_of r)
+  pub few : length (children_of r) ≤ 8
+  pub within : k ≤ length (children_of r)
+  pub children : (j : ℕ) → k ≤ j → j < length (children_of r) → get_or (children_of r) j 0 < e
+  pub project : (j : ℕ) → k ≤ j → j < length (children_of r) → get_or table (get_or (children_of r) j 0) 0 ≡ 0 → ⊥
 
 -- the numbers of the children that were projected, from k on, as a placing
-unfoldable pub toldFrom : Bool → ℕ → List ℕ → List Node → Placed (List ℕ)
-toldFrom true k r ns = placed (drop k (childrenOf r)) ns
-toldFrom false k r ns = full
+unfoldable pub told_from : Bool → ℕ → List ℕ → List Node → Placed (List ℕ)
+told_from true k r ns = placed (drop k (children_of r)) ns
+told_from false k r ns = full
 
 -- the projections of the children from k on were added, or there was no room
 pub record AddedFrom (os : List Node) (xs : List (Option Expression)) (s t table' r r' : List ℕ) (k : ℕ) (ok : Bool) : Type 0 where
   pub fits : Fits os xs (nodes t) table'
   pub expressions : Expressions
-  pub known : allProject xs (drop k (childrenOf r)) ≡ some expressions
-  pub is : toldFrom ok k r' (nodes t) ≡ addExpressions expressions (nodes s)
+  pub known : all_project xs (drop k (children_of r)) ≡ some expressions
+  pub is : told_from ok k r' (nodes t) ≡ add_expressions expressions (nodes s)
 
 -- what the walk over the children of a node promises from child k on: in the row the numbers of their projections, and nothing else changed
 pub record WalkedFrom (s table r t table' r' : List ℕ) (e k : ℕ) (ok : Bool) : Type 0 where
   pub holds : Holds t
   pub extends : Extends (nodes s) (nodes t)
   pub settling : Settling table table'
-  pub row_is : r' ≡ operationRow r (childrenOf r')
-  pub sized : length (childrenOf r') ≡ length (childrenOf r)
-  pub front : take k (childrenOf r') ≡ take k (childrenOf r)
+  pub row_is : r' ≡ operation_row r (children_of r')
+  pub sized : length (children_of r') ≡ length (children_of r)
+  pub front : take k (children_of r') ≡ take k (children_of r)
   pub added : (os : List Node) (xs : List (Option Expression)) → Fits os xs (nodes s) table → e < length os → AddedFrom os xs s t table' r r' k ok
 
 -- the table with an answer for node e
-unfoldable pub settledAs : List ℕ → ℕ → Added → List ℕ
-settledAs table e (Number i) = set table e (i + 2)
-settledAs table e (Refused k) = table
+unfoldable pub settled_as : List ℕ → ℕ → Added → List ℕ
+settled_as table e (Number i) = set table e (i + 2)
+settled_as table e (Refused k) = table
 
 -- what the caller is told of a walk from the cells s to the cells t: its answer; or, where there was no room, 3 and the cells as they were
-unfoldable pub restoredAs : List ℕ → List ℕ → Added → Projected × List ℕ
-restoredAs s t (Number i) = (Projected-Number i, t)
-restoredAs s t (Refused k) = (Projected-Refused 3, s)
+unfoldable pub restored_as : List ℕ → List ℕ → Added → Projected × List ℕ
+restored_as s t (Number i) = (Projected-Number i, t)
+restored_as s t (Refused k) = (Projected-Refused 3, s)
 
 -- the answers that a table has for expressions
-abbrev pub answersIn : List ℕ → List ℕ → List (Option ℕ)
-answersIn table es = map (λ (e : ℕ). answer_of (get_or table e 0)) es
+abbrev pub answers_in : List ℕ → List ℕ → List (Option ℕ)
+answers_in table es = map (λ (e : ℕ). answer_of (get_or table e 0)) es
 
 -- the answers of the list as a placing
-unfoldable pub toldAnswers : Bool → List (Option ℕ) → List Node → Placed (List (Option ℕ))
-toldAnswers true ks ns = placed ks ns
-toldAnswers false ks ns = full
+unfoldable pub told_answers : Bool → List (Option ℕ) → List Node → Placed (List (Option ℕ))
+told_answers true ks ns = placed ks ns
+told_answers false ks ns = full
 
 -- the projections of a list were added, or there was no room; the table has the answers
 pub record AddedAll (os : List Node) (xs : List (Option Expression)) (s t table' es : List ℕ) (ok : Bool) : Type 0 where
   pub fits : Fits os xs (nodes t) table'
-  pub is : toldAnswers ok (answersIn table' es) (nodes t) ≡ addProjections (map (λ (e : ℕ). get_or xs e none) es) (nodes s)
+  pub is : told_answers ok (answers_in table' es) (nodes t) ≡ add_projections (map (λ (e : ℕ). get_or xs e none) es) (nodes s)
 
 -- what the walk at one expression of a list asks
 pub record ReadyOne (s table : List ℕ) (e : ℕ) : Type 0 where

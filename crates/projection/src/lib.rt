@@ -11,7 +11,7 @@ pub mod listing;
 pub mod walking;
 
 ghost use Rattle.std.specs.Prelude.{◌≡◌};
-ghost use Rattle.projection.specs.Calls.{projectedExpr, projectedExpressions};
+ghost use Rattle.projection.specs.Calls.{projected_expr, projected_expressions};
 
 use arena::adding::all_below;
 use arena::cells::{node_count, wide};
@@ -31,7 +31,7 @@ pub enum Projected {
 // The projection of an expression. The mapping has for each source the source, its target count and its targets.
 // Refusals: 12, 11, 1, 3.
 pub fn project_expr(cells: &mut [u32; 11265], group: Group, mapping: &[u32], expr: u32) -> Projected
-    ensures { (result, cells.new) ≡ projectedExpr expr mapping.now cells.old group }
+    ensures { (result, cells.new) ≡ projected_expr expr mapping.now cells.old group }
 {
     let number = project_number(cells, group, mapping);
     if number != 0 {
@@ -53,7 +53,7 @@ pub fn project_expressions(
     exprs: &[u32],
     out: &mut [u32],
 ) -> u32
-    ensures { ((result, out.new), cells.new) ≡ projectedExpressions exprs.now out.old mapping.now cells.old group }
+    ensures { ((result, out.new), cells.new) ≡ projected_expressions exprs.now out.old mapping.now cells.old group }
 {
     let number = project_number(cells, group, mapping);
     if number != 0 {

@@ -1,14 +1,14 @@
 // The projections of a list of expressions, one after the other, over one table.
 ghost use Rattle.std.specs.Prelude.{map, ◌++◌, ◌≡◌, ℕ, ◌≤◌, ◌<◌, length, get_or, drop};
 ghost use Rattle.arena.specs.Layout.{count, decode as nodes};
-ghost use Rattle.arena.specs.Calls.{inCells};
+ghost use Rattle.arena.specs.Calls.{in_cells};
 ghost use Rattle.arena.specs.Inner.{Holds};
 ghost use Rattle.classes.specs.Layout.{decode as classes};
 ghost use Rattle.classes.specs.Inner.{Coded};
 ghost use Rattle.mappings.specs.Layout.{decode, Checked};
-ghost use Rattle.projection_table.specs.Projecting.{projectAll};
-ghost use Rattle.projection.specs.Calls.{outputOf, writtenAnswer};
-ghost use Rattle.projection.specs.Inner.{answer_of, answersIn, ReadyOne, WalkedOne, ReadyAll, WalkedAll};
+ghost use Rattle.projection_table.specs.Projecting.{project_all};
+ghost use Rattle.projection.specs.Calls.{output_of, written_answer};
+ghost use Rattle.projection.specs.Inner.{answer_of, answers_in, ReadyOne, WalkedOne, ReadyAll, WalkedAll};
 
 use crate::walking::project_node;
 use arena::cells::wide;
@@ -47,7 +47,7 @@ pub fn project_all(cells: &mut [u32; 11265], table: &mut [u32; 1024], exprs: &[u
 
 // An entry of the table in the output.
 fn output_of(entry: u32) -> u32
-    ensures { result ≡ outputOf (answer_of entry) }
+    ensures { result ≡ output_of (answer_of entry) }
 {
     if entry < 2 { 4294967295 } else { entry - 2 }
 }
@@ -55,7 +55,7 @@ fn output_of(entry: u32) -> u32
 // Writes the answers of the table for a list of expressions, from the output's first place on.
 fn write_answers(table: &[u32; 1024], exprs: &[u32], out: &mut [u32])
     requires { (length exprs.now ≤ length out.old) × ((k : ℕ) → k < length exprs.now → get_or exprs.now k 0 < 1024) }
-    ensures { out.new ≡ map outputOf (answersIn table.now exprs.now) ++ drop (length exprs.now) out.old }
+    ensures { out.new ≡ map output_of (answers_in table.now exprs.now) ++ drop (length exprs.now) out.old }
 {
     let n = exprs.len();
     let mut k = 0;
@@ -76,7 +76,7 @@ pub fn project_list(
     out: &mut [u32],
 ) -> u32
     requires { ((Holds cells.old × Checked (count cells.old) m) × Coded g) × ((k : ℕ) → k < length exprs.now → get_or exprs.now k 0 < count cells.old) }
-    ensures { ((result, out.new), cells.new) ≡ inCells (writtenAnswer out.old (nodes cells.old) (projectAll (nodes cells.old) (classes g) (decode m) exprs.now)) }
+    ensures { ((result, out.new), cells.new) ≡ in_cells (written_answer out.old (nodes cells.old) (project_all (nodes cells.old) (classes g) (decode m) exprs.now)) }
 {
     let saved = *cells;
     let mut table = projection_table(cells, g, m);

@@ -3,15 +3,15 @@
 // carried along, so each node is answered once.
 ghost use Rattle.std.specs.Prelude.{◌≡◌, ℕ, ◌≤◌, ◌<◌, ◌+◌, ◌-◌, ◌*◌};
 ghost use Rattle.arena.specs.Layout.{count, decode as nodes};
-ghost use Rattle.arena.specs.Calls.{inCells};
+ghost use Rattle.arena.specs.Calls.{in_cells};
 ghost use Rattle.arena.specs.Inner.{Known};
 ghost use Rattle.arena.specs.declared.Added.TheVariants.{Number};
 ghost use Rattle.classes.specs.Layout.{decode as classes};
 ghost use Rattle.classes.specs.Inner.{Coded};
 ghost use Rattle.mappings.specs.Layout.{decode, Checked};
 ghost use Rattle.projection_table.specs.Projecting.{projection};
-ghost use Rattle.projection.specs.Calls.{projectedAnswer};
-ghost use Rattle.projection.specs.Inner.{Ready, Walked, ReadyFrom, WalkedFrom, settledAs, restoredAs};
+ghost use Rattle.projection.specs.Calls.{projected_answer};
+ghost use Rattle.projection.specs.Inner.{Ready, Walked, ReadyFrom, WalkedFrom, settled_as, restored_as};
 
 use crate::Projected;
 use arena::Added;
@@ -24,7 +24,7 @@ use projection_table::table::projection_table;
 // Writes an answer for node e into the table.
 fn settle(table: &mut [u32; 1024], e: usize, answer: Added)
     requires { (e < 1024) × ((i : ℕ) → answer ≡ Number i → i < 1024) }
-    ensures { table.new ≡ settledAs table.old e answer }
+    ensures { table.new ≡ settled_as table.old e answer }
 {
     match answer {
         Added::Number(i) => {
@@ -78,7 +78,7 @@ pub fn project_node(cells: &mut [u32; 11265], table: &mut [u32; 1024], expr: u32
 
 // What the caller is told of a walk: where it found no room 3, and every cell is as it was saved.
 fn restored(cells: &mut [u32; 11265], saved: &[u32; 11265], answer: Added) -> Projected
-    ensures { (result, cells.new) ≡ restoredAs saved.now cells.old answer }
+    ensures { (result, cells.new) ≡ restored_as saved.now cells.old answer }
 {
     match answer {
         Added::Number(i) => Projected::Number(i),
@@ -92,7 +92,7 @@ fn restored(cells: &mut [u32; 11265], saved: &[u32; 11265], answer: Added) -> Pr
 // The projection of an expression: 3 where its missing nodes don't fit, and then every cell is as it was.
 pub fn project_in(cells: &mut [u32; 11265], g: Group, m: Mapping, expr: u32) -> Projected
     requires { (Known cells.old expr × Checked (count cells.old) m) × Coded g }
-    ensures { (result, cells.new) ≡ inCells (projectedAnswer (nodes cells.old) (projection (nodes cells.old) (classes g) (decode m) expr)) }
+    ensures { (result, cells.new) ≡ in_cells (projected_answer (nodes cells.old) (projection (nodes cells.old) (classes g) (decode m) expr)) }
 {
     let mut table = projection_table(cells, g, m);
     if table[wide(expr)] == 0 {

@@ -5,22 +5,22 @@ use mathlib.Core.List.{List, [], ◌∷◌, ◌++◌}
 use mathlib.Core.Option.{none, some}
 use mathlib.Core.Path.{◌≡◌, refl}
 use Rattle.laws.specs.Lists.{same_numbers}
-use Rattle.laws.specs.Tests.{each, first, firstFrom}
-use Rattle.arena.specs.Node.{Node, column, literal, operation, childNumbers, sameNode, made, madeAfter}
+use Rattle.laws.specs.Tests.{each, first, first_from}
+use Rattle.arena.specs.Node.{Node, column, literal, operation, child_numbers, same_node, made, made_after}
 use Rattle.arena.specs.Expression.{those, over, expressions}
-use Rattle.arena.specs.Arena.{placed, and_then, find, placed_at, add, addExpression, addExpressions}
-use Rattle.classes.specs.Class.{Constant, noConstant, heterogeneous, unknown, known, Class, isConstant, isUniform, taken, carried, single, merged, sameConstant}
-use Rattle.classes.specs.Group.{among, class_of, sameClass, total, removed, mergedAt, given, constantAt, classLike, constantFor, constantIn, withConstant}
+use Rattle.arena.specs.Arena.{placed, and_then, find, placed_at, add, add_expression, add_expressions}
+use Rattle.classes.specs.Class.{Constant, no_constant, heterogeneous, unknown, known, Class, is_constant, is_uniform, taken, carried, single, merged, same_constant}
+use Rattle.classes.specs.Group.{among, class_of, same_class, total, removed, merged_at, given, constant_at, class_like, constant_for, constant_in, with_constant}
 use Rattle.classes.specs.Good.{flat}
 use Rattle.classes.specs.Steps.{fits}
-use Rattle.classes.specs.Layout.{isLiteral, fresh}
-use Rattle.questions.specs.Questions.{classConstant, childrenConstant, or_else as constantOrElse, constantOfNode, constant_by}
-use Rattle.normal.specs.Normal.{operationOver, bothFound, number_of, numbersOf, first_at, first_of, replacedBy, replaced, normalBy, normalsBy}
-use Rattle.merging.specs.Extending.{without, missing, extended, pushed, pushedAll, classFrom, anyAmong, containsAny, isTrivial}
-use Rattle.merging.specs.Merging.{droppedAt, dropBelow, keptClasses, meetingBelow, lastMeeting, bridged, bridgeFrom, bridgeRest, bridgeClasses, fromClasses}
-use Rattle.mappings.specs.Mapping.{Mapped, sources, targetFor}
-use Rattle.projection_table.specs.Projecting.{or_else, becomes, bothProject, allProject, operationOf, byChildren, wholeOr, projectionsBy, addProjections, projectAll}
-use Rattle.group_projection.specs.Group.{projectedNumbers, there, projectedClasses, targetsOf, sourceClasses, telling, projectedList, newConstants, constantsSaid, projectedGroup}
+use Rattle.classes.specs.Layout.{is_literal, fresh}
+use Rattle.questions.specs.Questions.{class_constant, children_constant, or_else as constant_or_else, constant_of_node, constant_by}
+use Rattle.normal.specs.Normal.{operation_over, both_found, number_of, numbers_of, first_at, first_of, replaced_by, replaced, normal_by, normals_by}
+use Rattle.merging.specs.Extending.{without, missing, extended, pushed, pushed_all, class_from, any_among, contains_any, is_trivial}
+use Rattle.merging.specs.Merging.{dropped_at, drop_below, kept_classes, meeting_below, last_meeting, bridged, bridge_from, bridge_rest, bridge_classes, from_classes}
+use Rattle.mappings.specs.Mapping.{Mapped, sources, target_for}
+use Rattle.projection_table.specs.Projecting.{or_else, becomes, both_project, all_project, operation_of, by_children, whole_or, projections_by, add_projections, project_all}
+use Rattle.group_projection.specs.Group.{projected_numbers, there, projected_classes, targets_of, source_classes, telling, projected_list, new_constants, constants_said, projected_group}
 
 -- columns a, b, c, d (0 to 3), a + c (4), b + c (5), literal 7 (6), an operation over d (7), columns x, y and z of the output (8 to 10)
 abbrev arena : List Node
@@ -38,27 +38,27 @@ to e ts = record { source = e; targets = ts }
 
 -- the classes
 abbrev equal : List Class
-equal = class (0 ∷ 1 ∷ []) noConstant ∷ []
+equal = class (0 ∷ 1 ∷ []) no_constant ∷ []
 
 -- the mapping
 abbrev sums : List Mapped
 sums = to 4 (8 ∷ []) ∷ to 5 (9 ∷ []) ∷ []
 
 -- neither a nor b projects; both sources have the normal form a + c, which is there
-sums-numbers : projectedNumbers arena equal sums ≡ placed ((none ∷ none ∷ []), (4 ∷ 4 ∷ [])) arena
-unfolding projectedNumbers projectAll addProjections projectionsBy made madeAfter wholeOr byChildren operationOf allProject bothProject becomes or_else targetFor isLiteral sameClass class_of first firstFrom among flat sources expressions over those normalBy normalsBy number_of numbersOf operationOver bothFound replaced replacedBy first_of first_at addExpression addExpressions and_then add placed_at find sameNode same_numbers
+sums-numbers : projected_numbers arena equal sums ≡ placed ((none ∷ none ∷ []), (4 ∷ 4 ∷ [])) arena
+unfolding projected_numbers project_all add_projections projections_by made made_after whole_or by_children operation_of all_project both_project becomes or_else target_for is_literal same_class class_of first first_from among flat sources expressions over those normal_by normals_by number_of numbers_of operation_over both_found replaced replaced_by first_of first_at add_expression add_expressions and_then add placed_at find same_node same_numbers
 sums-numbers = refl
 
 -- so x = y
-sums-equal : projectedGroup arena equal sums (none ∷ none ∷ []) (4 ∷ 4 ∷ []) ≡ some (class (8 ∷ 9 ∷ []) noConstant ∷ [])
-unfolding projectedGroup projectedList projectedClasses sourceClasses targetsOf telling there newConstants constantsSaid withConstant constantIn constantAt constantFor classLike given fresh each classFrom pushedAll pushed extended merged missing without among single carried taken isUniform isConstant isTrivial sameConstant fits total fromClasses keptClasses dropBelow droppedAt removed bridgeClasses bridgeRest bridgeFrom lastMeeting meetingBelow bridged mergedAt containsAny anyAmong class_of first firstFrom constant_by constantOfNode classConstant childrenConstant constantOrElse made madeAfter childNumbers
+sums-equal : projected_group arena equal sums (none ∷ none ∷ []) (4 ∷ 4 ∷ []) ≡ some (class (8 ∷ 9 ∷ []) no_constant ∷ [])
+unfolding projected_group projected_list projected_classes source_classes targets_of telling there new_constants constants_said with_constant constant_in constant_at constant_for class_like given fresh each class_from pushed_all pushed extended merged missing without among single carried taken is_uniform is_constant is_trivial same_constant fits total from_classes kept_classes drop_below dropped_at removed bridge_classes bridge_rest bridge_from last_meeting meeting_below bridged merged_at contains_any any_among class_of first first_from constant_by constant_of_node class_constant children_constant constant_or_else made made_after child_numbers
 sums-equal = refl
 
 -- ---- members that project: a + c = b + c, and a becomes x, b becomes y, c becomes z
 
 -- the classes
 abbrev sum : List Class
-sum = class (4 ∷ 5 ∷ []) noConstant ∷ []
+sum = class (4 ∷ 5 ∷ []) no_constant ∷ []
 
 -- the mapping
 abbrev columns : List Mapped
@@ -69,13 +69,13 @@ abbrev wider : List Node
 wider = arena ++ (operation 9 (8 ∷ 10 ∷ []) ∷ operation 9 (9 ∷ 10 ∷ []) ∷ [])
 
 -- both are added, and each source is its own normal form
-members-numbers : projectedNumbers arena sum columns ≡ placed ((some 11 ∷ some 12 ∷ []), (0 ∷ 1 ∷ 2 ∷ [])) wider
-unfolding projectedNumbers projectAll addProjections projectionsBy made madeAfter wholeOr byChildren operationOf allProject bothProject becomes or_else targetFor isLiteral sameClass class_of first firstFrom among flat sources expressions over those normalBy normalsBy number_of numbersOf operationOver bothFound replaced replacedBy first_of first_at addExpression addExpressions and_then add placed_at find sameNode same_numbers
+members-numbers : projected_numbers arena sum columns ≡ placed ((some 11 ∷ some 12 ∷ []), (0 ∷ 1 ∷ 2 ∷ [])) wider
+unfolding projected_numbers project_all add_projections projections_by made made_after whole_or by_children operation_of all_project both_project becomes or_else target_for is_literal same_class class_of first first_from among flat sources expressions over those normal_by normals_by number_of numbers_of operation_over both_found replaced replaced_by first_of first_at add_expression add_expressions and_then add placed_at find same_node same_numbers
 members-numbers = refl
 
 -- so x + z = y + z
-members-equal : projectedGroup wider sum columns (some 11 ∷ some 12 ∷ []) (0 ∷ 1 ∷ 2 ∷ []) ≡ some (class (11 ∷ 12 ∷ []) noConstant ∷ [])
-unfolding projectedGroup projectedList projectedClasses sourceClasses targetsOf telling there newConstants constantsSaid withConstant constantIn constantAt constantFor classLike given fresh each classFrom pushedAll pushed extended merged missing without among single carried taken isUniform isConstant isTrivial sameConstant fits total fromClasses keptClasses dropBelow droppedAt removed bridgeClasses bridgeRest bridgeFrom lastMeeting meetingBelow bridged mergedAt containsAny anyAmong class_of first firstFrom constant_by constantOfNode classConstant childrenConstant constantOrElse made madeAfter childNumbers
+members-equal : projected_group wider sum columns (some 11 ∷ some 12 ∷ []) (0 ∷ 1 ∷ 2 ∷ []) ≡ some (class (11 ∷ 12 ∷ []) no_constant ∷ [])
+unfolding projected_group projected_list projected_classes source_classes targets_of telling there new_constants constants_said with_constant constant_in constant_at constant_for class_like given fresh each class_from pushed_all pushed extended merged missing without among single carried taken is_uniform is_constant is_trivial same_constant fits total from_classes kept_classes drop_below dropped_at removed bridge_classes bridge_rest bridge_from last_meeting meeting_below bridged merged_at contains_any any_among class_of first first_from constant_by constant_of_node class_constant children_constant constant_or_else made made_after child_numbers
 members-equal = refl
 
 -- ---- two unknown uniforms: a becomes x and b becomes y
@@ -89,30 +89,30 @@ abbrev pair : List Mapped
 pair = to 0 (8 ∷ []) ∷ to 1 (9 ∷ []) ∷ []
 
 -- `new` makes such a group
-new-unknowns : fromClasses unknowns ≡ unknowns
-unfolding fromClasses keptClasses dropBelow droppedAt isTrivial isConstant removed bridgeClasses bridgeRest bridgeFrom lastMeeting meetingBelow containsAny anyAmong among
+new-unknowns : from_classes unknowns ≡ unknowns
+unfolding from_classes kept_classes drop_below dropped_at is_trivial is_constant removed bridge_classes bridge_rest bridge_from last_meeting meeting_below contains_any any_among among
 new-unknowns = refl
 
 -- each member projects, and each source is its own normal form
-unknowns-numbers : projectedNumbers arena unknowns pair ≡ placed ((some 8 ∷ some 9 ∷ []), (0 ∷ 1 ∷ [])) arena
-unfolding projectedNumbers projectAll addProjections projectionsBy made madeAfter wholeOr byChildren operationOf allProject bothProject becomes or_else targetFor isLiteral sameClass class_of first firstFrom among flat sources expressions over those normalBy normalsBy number_of numbersOf operationOver bothFound replaced replacedBy first_of first_at addExpression addExpressions and_then add placed_at find sameNode same_numbers
+unknowns-numbers : projected_numbers arena unknowns pair ≡ placed ((some 8 ∷ some 9 ∷ []), (0 ∷ 1 ∷ [])) arena
+unfolding projected_numbers project_all add_projections projections_by made made_after whole_or by_children operation_of all_project both_project becomes or_else target_for is_literal same_class class_of first first_from among flat sources expressions over those normal_by normals_by number_of numbers_of operation_over both_found replaced replaced_by first_of first_at add_expression add_expressions and_then add placed_at find same_node same_numbers
 unknowns-numbers = refl
 
 -- no class says anything, and then the constants bring x and y together, though nothing said that they are equal
-unknowns-together : projectedGroup arena unknowns pair (some 8 ∷ some 9 ∷ []) (0 ∷ 1 ∷ []) ≡ some (class (8 ∷ 9 ∷ []) unknown ∷ [])
-unfolding projectedGroup projectedList projectedClasses sourceClasses targetsOf telling there newConstants constantsSaid withConstant constantIn constantAt constantFor classLike given fresh each classFrom pushedAll pushed extended merged missing without among single carried taken isUniform isConstant isTrivial sameConstant fits total fromClasses keptClasses dropBelow droppedAt removed bridgeClasses bridgeRest bridgeFrom lastMeeting meetingBelow bridged mergedAt containsAny anyAmong class_of first firstFrom constant_by constantOfNode classConstant childrenConstant constantOrElse made madeAfter childNumbers
-unknowns-together = refl
+unknowns_together : projected_group arena unknowns pair (some 8 ∷ some 9 ∷ []) (0 ∷ 1 ∷ []) ≡ some (class (8 ∷ 9 ∷ []) unknown ∷ [])
+unfolding projected_group projected_list projected_classes source_classes targets_of telling there new_constants constants_said with_constant constant_in constant_at constant_for class_like given fresh each class_from pushed_all pushed extended merged missing without among single carried taken is_uniform is_constant is_trivial same_constant fits total from_classes kept_classes drop_below dropped_at removed bridge_classes bridge_rest bridge_from last_meeting meeting_below bridged merged_at contains_any any_among class_of first first_from constant_by constant_of_node class_constant children_constant constant_or_else made made_after child_numbers
+unknowns_together = refl
 
 -- another way to such a group: the constants are said of a and of b while they are in classes of their own
-said-unknowns : withConstant true arena (withConstant true arena (class (0 ∷ 2 ∷ []) noConstant ∷ class (1 ∷ 3 ∷ []) noConstant ∷ []) 0 unknown) 1 unknown
+said-unknowns : with_constant true arena (with_constant true arena (class (0 ∷ 2 ∷ []) no_constant ∷ class (1 ∷ 3 ∷ []) no_constant ∷ []) 0 unknown) 1 unknown
     ≡ class (0 ∷ 2 ∷ []) unknown ∷ class (1 ∷ 3 ∷ []) unknown ∷ []
-unfolding withConstant constantIn constantAt given taken carried isUniform class_of first firstFrom among
+unfolding with_constant constant_in constant_at given taken carried is_uniform class_of first first_from among
 said-unknowns = refl
 
 -- there too x and y come together
-said-together : projectedGroup arena (class (0 ∷ 2 ∷ []) unknown ∷ class (1 ∷ 3 ∷ []) unknown ∷ []) pair (some 8 ∷ some 8 ∷ some 9 ∷ some 9 ∷ []) (0 ∷ 1 ∷ []) ≡ some (class (8 ∷ 9 ∷ []) unknown ∷ [])
-unfolding projectedGroup projectedList projectedClasses sourceClasses targetsOf telling there newConstants constantsSaid withConstant constantIn constantAt constantFor classLike given fresh each classFrom pushedAll pushed extended merged missing without among single carried taken isUniform isConstant isTrivial sameConstant fits total fromClasses keptClasses dropBelow droppedAt removed bridgeClasses bridgeRest bridgeFrom lastMeeting meetingBelow bridged mergedAt containsAny anyAmong class_of first firstFrom constant_by constantOfNode classConstant childrenConstant constantOrElse made madeAfter childNumbers
-said-together = refl
+said_together : projected_group arena (class (0 ∷ 2 ∷ []) unknown ∷ class (1 ∷ 3 ∷ []) unknown ∷ []) pair (some 8 ∷ some 8 ∷ some 9 ∷ some 9 ∷ []) (0 ∷ 1 ∷ []) ≡ some (class (8 ∷ 9 ∷ []) unknown ∷ [])
+unfolding projected_group projected_list projected_classes source_classes targets_of telling there new_constants constants_said with_constant constant_in constant_at constant_for class_like given fresh each class_from pushed_all pushed extended merged missing without among single carried taken is_uniform is_constant is_trivial same_constant fits total from_classes kept_classes drop_below dropped_at removed bridge_classes bridge_rest bridge_from last_meeting meeting_below bridged merged_at contains_any any_among class_of first first_from constant_by constant_of_node class_constant children_constant constant_or_else made made_after child_numbers
+said_together = refl
 
 -- ---- the constants of sources
 
@@ -121,21 +121,21 @@ abbrev varying : List Class
 varying = class (3 ∷ []) heterogeneous ∷ []
 
 -- a source with two targets gives both its constant: they are one class
-two-targets : projectedGroup arena varying (to 3 (8 ∷ 9 ∷ []) ∷ []) (some 8 ∷ []) (3 ∷ []) ≡ some (class (8 ∷ 9 ∷ []) heterogeneous ∷ [])
-unfolding projectedGroup projectedList projectedClasses sourceClasses targetsOf telling there newConstants constantsSaid withConstant constantIn constantAt constantFor classLike given fresh each classFrom pushedAll pushed extended merged missing without among single carried taken isUniform isConstant isTrivial sameConstant fits total fromClasses keptClasses dropBelow droppedAt removed bridgeClasses bridgeRest bridgeFrom lastMeeting meetingBelow bridged mergedAt containsAny anyAmong class_of first firstFrom constant_by constantOfNode classConstant childrenConstant constantOrElse made madeAfter childNumbers
+two-targets : projected_group arena varying (to 3 (8 ∷ 9 ∷ []) ∷ []) (some 8 ∷ []) (3 ∷ []) ≡ some (class (8 ∷ 9 ∷ []) heterogeneous ∷ [])
+unfolding projected_group projected_list projected_classes source_classes targets_of telling there new_constants constants_said with_constant constant_in constant_at constant_for class_like given fresh each class_from pushed_all pushed extended merged missing without among single carried taken is_uniform is_constant is_trivial same_constant fits total from_classes kept_classes drop_below dropped_at removed bridge_classes bridge_rest bridge_from last_meeting meeting_below bridged merged_at contains_any any_among class_of first first_from constant_by constant_of_node class_constant children_constant constant_or_else made made_after child_numbers
 two-targets = refl
 
 -- each target's constant is said: (8, heterogeneous), then (9, heterogeneous)
-two_said : newConstants arena varying (to 3 (8 ∷ 9 ∷ []) ∷ []) ≡ (8, heterogeneous) ∷ (9, heterogeneous) ∷ []
-unfolding newConstants isConstant constant_by constantOfNode classConstant childrenConstant constantOrElse carried made madeAfter childNumbers class_of first firstFrom among
+two_said : new_constants arena varying (to 3 (8 ∷ 9 ∷ []) ∷ []) ≡ (8, heterogeneous) ∷ (9, heterogeneous) ∷ []
+unfolding new_constants is_constant constant_by constant_of_node class_constant children_constant constant_or_else carried made made_after child_numbers class_of first first_from among
 two_said = refl
 
 -- an operation over d is constant by its child, so its target is
-child-constant : projectedGroup arena varying (to 7 (9 ∷ []) ∷ []) (none ∷ []) (7 ∷ []) ≡ some (class (9 ∷ []) heterogeneous ∷ [])
-unfolding projectedGroup projectedList projectedClasses sourceClasses targetsOf telling there newConstants constantsSaid withConstant constantIn constantAt constantFor classLike given fresh each classFrom pushedAll pushed extended merged missing without among single carried taken isUniform isConstant isTrivial sameConstant fits total fromClasses keptClasses dropBelow droppedAt removed bridgeClasses bridgeRest bridgeFrom lastMeeting meetingBelow bridged mergedAt containsAny anyAmong class_of first firstFrom constant_by constantOfNode classConstant childrenConstant constantOrElse made madeAfter childNumbers
+child-constant : projected_group arena varying (to 7 (9 ∷ []) ∷ []) (none ∷ []) (7 ∷ []) ≡ some (class (9 ∷ []) heterogeneous ∷ [])
+unfolding projected_group projected_list projected_classes source_classes targets_of telling there new_constants constants_said with_constant constant_in constant_at constant_for class_like given fresh each class_from pushed_all pushed extended merged missing without among single carried taken is_uniform is_constant is_trivial same_constant fits total from_classes kept_classes drop_below dropped_at removed bridge_classes bridge_rest bridge_from last_meeting meeting_below bridged merged_at contains_any any_among class_of first first_from constant_by constant_of_node class_constant children_constant constant_or_else made made_after child_numbers
 child-constant = refl
 
 -- a literal source gives its value
-literal-constant : projectedGroup arena [] (to 6 (8 ∷ []) ∷ []) [] (6 ∷ []) ≡ some (class (8 ∷ []) (known 7) ∷ [])
-unfolding projectedGroup projectedList projectedClasses sourceClasses targetsOf telling there newConstants constantsSaid withConstant constantIn constantAt constantFor classLike given fresh each classFrom pushedAll pushed extended merged missing without among single carried taken isUniform isConstant isTrivial sameConstant fits total fromClasses keptClasses dropBelow droppedAt removed bridgeClasses bridgeRest bridgeFrom lastMeeting meetingBelow bridged mergedAt containsAny anyAmong class_of first firstFrom constant_by constantOfNode classConstant childrenConstant constantOrElse made madeAfter childNumbers
+literal-constant : projected_group arena [] (to 6 (8 ∷ []) ∷ []) [] (6 ∷ []) ≡ some (class (8 ∷ []) (known 7) ∷ [])
+unfolding projected_group projected_list projected_classes source_classes targets_of telling there new_constants constants_said with_constant constant_in constant_at constant_for class_like given fresh each class_from pushed_all pushed extended merged missing without among single carried taken is_uniform is_constant is_trivial same_constant fits total from_classes kept_classes drop_below dropped_at removed bridge_classes bridge_rest bridge_from last_meeting meeting_below bridged merged_at contains_any any_among class_of first first_from constant_by constant_of_node class_constant children_constant constant_or_else made made_after child_numbers
 literal-constant = refl

@@ -6,24 +6,24 @@ use mathlib.Core.Path.{◌≡◌, refl, sym, ap, ◌∙◌, subst, subst₂}
 use native.Mathlib.Omega.{arith}
 use lib.ListN.{length, get_or, length-map}
 use Rattle.arena.specs.Node.{Node}
-use Rattle.arena.specs.Expression.{Expression, expressionAt}
-use Rattle.arena.specs.Arena.{Sound, Extends, Small, placed, and_then, addExpression}
+use Rattle.arena.specs.Expression.{Expression, expression_at}
+use Rattle.arena.specs.Arena.{Sound, Extends, Small, placed, and_then, add_expression}
 use Rattle.arena.proofs.Nodes.{extends-none, extends-both, extends-longer}
 use Rattle.arena.proofs.Trees.{expression-kept}
 use Rattle.arena.proofs.Growing.{AddedExpression, between, add-expression}
 use Rattle.classes.specs.Class.{Class}
 use Rattle.mappings.specs.Mapping.{Mapped}
 use Rattle.mappings.specs.Agree.{Over}
-use Rattle.projection_table.specs.Projecting.{projection, addProjections, projectAll}
+use Rattle.projection_table.specs.Projecting.{projection, add_projections, project_all}
 use Rattle.projection_laws.proofs.ProjectedValue.{projection-small}
 
 -- an answer for what may have a projection: that there is none, or the number of one
 unfoldable pub Answers : List Node → Option Expression → Option ℕ → Type 0
 Answers ms x none = x ≡ none
-Answers ms x (some k) = (k < length ms) × (x ≡ some (expressionAt ms k))
+Answers ms x (some k) = (k < length ms) × (x ≡ some (expression_at ms k))
 
 -- an answer that is a number
-pub answers-some : (ms : List Node) (x : Option Expression) (answer : Option ℕ) → Answers ms x answer → (k : ℕ) → answer ≡ some k → (k < length ms) × (x ≡ some (expressionAt ms k))
+pub answers-some : (ms : List Node) (x : Option Expression) (answer : Option ℕ) → Answers ms x answer → (k : ℕ) → answer ≡ some k → (k < length ms) × (x ≡ some (expression_at ms k))
 unfolding Answers
 answers-some ms x answer h k e = subst (Answers ms x) e h
 
@@ -65,16 +65,16 @@ some-added x xs ns k ms ks os a b = record { counted = ap suc b.counted; sound =
 
 -- small projections that are added have the answers' numbers
 pub add-projections : (xs : List (Option Expression)) (ns : List Node) → Sound ns → ((j : ℕ) → j < length xs → (x : Expression) → get_or xs j none ≡ some x → Small x)
-    → (ks : List (Option ℕ)) (ms : List Node) → addProjections xs ns ≡ placed ks ms → AddedProjections xs ns ks ms
-unfolding addProjections
+    → (ks : List (Option ℕ)) (ms : List Node) → add_projections xs ns ≡ placed ks ms → AddedProjections xs ns ks ms
+unfolding add_projections
 add-projections [] ns s h ks ms e = placed-added [] ns [] ks ns ms e (record { counted = refl; sound = s; extends = extends-none ns; answers = λ j l. absurd (omega arith) })
 add-projections (none ∷ xs) ns s h ks ms e =
-    let b = between (addProjections xs ns) (λ js os. placed (none ∷ js) os) ks ms e in
+    let b = between (add_projections xs ns) (λ js os. placed (none ∷ js) os) ks ms e in
     placed-added (none ∷ xs) ns (none ∷ b.answer) ks b.arena ms b.then
     (none-added xs ns b.answer b.arena (add-projections xs ns s (λ j l. h (suc j) (omega arith)) b.answer b.arena b.first))
 add-projections (some x ∷ xs) ns s h ks ms e =
-    let b = between (addExpression x ns) (λ k os. and_then (addProjections xs os) (λ js qs. placed (some k ∷ js) qs)) ks ms e in
-    let c = between (addProjections xs b.arena) (λ js qs. placed (some b.answer ∷ js) qs) ks ms b.then in
+    let b = between (add_expression x ns) (λ k os. and_then (add_projections xs os) (λ js qs. placed (some k ∷ js) qs)) ks ms e in
+    let c = between (add_projections xs b.arena) (λ js qs. placed (some b.answer ∷ js) qs) ks ms b.then in
     let p = add-expression x ns s (h 0 (omega arith) x refl) b.answer b.arena b.first in
     placed-added (some x ∷ xs) ns (some b.answer ∷ c.answer) ks c.arena ms c.then
     (some-added x xs ns b.answer b.arena c.answer c.arena p (add-projections xs b.arena p.sound (λ j l. h (suc j) (omega arith)) c.answer c.arena c.first))
@@ -87,19 +87,19 @@ pub record ProjectedAt (ns : List Node) (cs : List Class) (ps : List Mapped) (es
   pub answers : (j : ℕ) → j < length es → Answers ms (projection ns cs ps (get_or es j 0)) (get_or ks j none)
 
 -- place j of a list that was mapped
-pub mapped_at : {A B : Type 0} (f : A → B) (xs : List A) (j : ℕ) (a : A) (b : B) → j < length xs → get_or (map f xs) j b ≡ f (get_or xs j a)
-mapped_at f [] j a b l = absurd (omega arith)
-mapped_at f (x ∷ xs) zero a b l = refl
-mapped_at f (x ∷ xs) (suc j) a b l = mapped_at f xs j a b (omega arith)
+pub mapped_at_lem : {A B : Type 0} (f : A → B) (xs : List A) (j : ℕ) (a : A) (b : B) → j < length xs → get_or (map f xs) j b ≡ f (get_or xs j a)
+mapped_at_lem f [] j a b l = absurd (omega arith)
+mapped_at_lem f (x ∷ xs) zero a b l = refl
+mapped_at_lem f (x ∷ xs) (suc j) a b l = mapped_at_lem f xs j a b (omega arith)
 
 -- the projections of known expressions that are added have the answers' numbers
-pub project-all-is : (ns : List Node) (cs : List Class) (ps : List Mapped) (es : List ℕ) → Sound ns → Over ns ps → ((j : ℕ) → j < length es → get_or es j 0 < length ns)
-    → (ks : List (Option ℕ)) (ms : List Node) → projectAll ns cs ps es ≡ placed ks ms → ProjectedAt ns cs ps es ks ms
-unfolding projectAll
-project-all-is ns cs ps es s o b ks ms e =
+pub project_all-is : (ns : List Node) (cs : List Class) (ps : List Mapped) (es : List ℕ) → Sound ns → Over ns ps → ((j : ℕ) → j < length es → get_or es j 0 < length ns)
+    → (ks : List (Option ℕ)) (ms : List Node) → project_all ns cs ps es ≡ placed ks ms → ProjectedAt ns cs ps es ks ms
+unfolding project_all
+project_all-is ns cs ps es s o b ks ms e =
     let xs : List (Option Expression) = map (projection ns cs ps) es in
     let n : length xs ≡ length es = length-map es (projection ns cs ps) in
-    let at : (j : ℕ) → j < length es → get_or xs j none ≡ projection ns cs ps (get_or es j 0) = λ j l. mapped_at (projection ns cs ps) es j 0 none l in
+    let at : (j : ℕ) → j < length es → get_or xs j none ≡ projection ns cs ps (get_or es j 0) = λ j l. mapped_at_lem (projection ns cs ps) es j 0 none l in
     let a = add-projections xs ns s
     (λ j l x q. let k : j < length es = omega arith in projection-small ns cs ps s o (get_or es j 0) (b j k) x (sym (at j k) ∙ q)) ks ms e in
     record {

@@ -9,11 +9,11 @@ use native.Mathlib.Omega.{arith}
 use lib.Dec.{eqb}
 use lib.ListN.{length}
 use Rattle.laws.specs.Tests.{if◌then◌else◌}
-use Rattle.arena.specs.Node.{Node, nodeAt}
+use Rattle.arena.specs.Node.{Node, node_at}
 use Rattle.classes.specs.Class.{Class}
-use Rattle.classes.specs.Group.{sameClass}
-use Rattle.classes.specs.Layout.{isLiteral}
-use Rattle.mappings.specs.Mapping.{Mapped, firstTarget, targetFor, mappedAt}
+use Rattle.classes.specs.Group.{same_class}
+use Rattle.classes.specs.Layout.{is_literal}
+use Rattle.mappings.specs.Mapping.{Mapped, first_target, target_for, mapped_at}
 use Rattle.mappings.specs.Layout.{place_in, decode, Checked}
 use Rattle.mappings.specs.declared.Mapping.{Mapping}
 use Rattle.mappings.proofs.Targets.{mapped-target, decode-length, decode-at}
@@ -26,24 +26,24 @@ use Rattle.projection_table.specs.Inner.{entry_of}
 pub record Found (test : ℕ → Bool) (ps : List Mapped) (i : ℕ) : Type 0 where
   pub place : ℕ
   pub below : place < length ps
-  pub passes : test (mappedAt ps place).source ≡ true
-  pub is : firstTarget (mappedAt ps place) ≡ i
+  pub passes : test (mapped_at ps place).source ≡ true
+  pub is : first_target (mapped_at ps place) ≡ i
 
 -- so is a target that is found
-target_found : (test : ℕ → Bool) (ps : List Mapped) (i : ℕ) → targetFor test ps ≡ some i → Found test ps i
-unfolding targetFor
+target_found : (test : ℕ → Bool) (ps : List Mapped) (i : ℕ) → target_for test ps ≡ some i → Found test ps i
+unfolding target_for
 target_found test [] i e = absurd (let z : ◌≡◌ {A = ℕ} 0 1 = cc in omega arith)
 target_found test (p ∷ ps) i e = go (test p.source) refl (target_found test ps i)
   where
-    go : (b : Bool) → test p.source ≡ b → (targetFor test ps ≡ some i → Found test ps i) → Found test (p ∷ ps) i
-    go true q r = let z : some (firstTarget p) ≡ some i = sym (rw q) ∙ e in record { place = 0; below = omega arith; passes = q; is = cc }
+    go : (b : Bool) → test p.source ≡ b → (target_for test ps ≡ some i → Found test ps i) → Found test (p ∷ ps) i
+    go true q r = let z : some (first_target p) ≡ some i = sym (rw q) ∙ e in record { place = 0; below = omega arith; passes = q; is = cc }
     go false q r = let f = r (sym (rw q) ∙ e) in record { place = suc f.place; below = omega (arith, f.below); passes = f.passes; is = f.is }
 
 -- expression e becomes i as a whole: by its own source's first target, as a literal that stays, or by the first target of a source in its class
 pub data Becomes (ns : List Node) (cs : List Class) (ps : List Mapped) (e i : ℕ) : Type 0 where
   by-source : Found (λ s. eqb s e) ps i → Becomes ns cs ps e i
-  by-literal : isLiteral (nodeAt ns e) ≡ true → e ≡ i → Becomes ns cs ps e i
-  by-class : Found (λ s. sameClass cs s e) ps i → Becomes ns cs ps e i
+  by-literal : is_literal (node_at ns e) ≡ true → e ≡ i → Becomes ns cs ps e i
+  by-class : Found (λ s. same_class cs s e) ps i → Becomes ns cs ps e i
 
 -- the first finding or the second
 or_some : (o p : Option ℕ) (i : ℕ) → or_else o p ≡ some i → (o ≡ some i) ⊎ (p ≡ some i)
@@ -54,22 +54,22 @@ or_some (some j) p i e = inl e
 -- what an expression becomes as a whole, it becomes in one of these ways
 pub becomes-is : (ns : List Node) (cs : List Class) (ps : List Mapped) (e i : ℕ) → becomes ns cs ps e ≡ some i → Becomes ns cs ps e i
 unfolding becomes
-becomes-is ns cs ps e i q = go (or_some (targetFor (λ s. eqb s e) ps) (or_else (stays (isLiteral (nodeAt ns e))) (targetFor (λ s. sameClass cs s e) ps)) i q)
+becomes-is ns cs ps e i q = go (or_some (target_for (λ s. eqb s e) ps) (or_else (stays (is_literal (node_at ns e))) (target_for (λ s. same_class cs s e) ps)) i q)
   where
     stays : Bool → Option ℕ
     stays b = if b then some e else none
 
-    itself : (b : Bool) → isLiteral (nodeAt ns e) ≡ b → stays b ≡ some i → Becomes ns cs ps e i
+    itself : (b : Bool) → is_literal (node_at ns e) ≡ b → stays b ≡ some i → Becomes ns cs ps e i
     itself true t r = by-literal t (cc)
     itself false t r = absurd (let z : ◌≡◌ {A = ℕ} 0 1 = cc in omega arith)
 
-    later : (stays (isLiteral (nodeAt ns e)) ≡ some i) ⊎ (targetFor (λ s. sameClass cs s e) ps ≡ some i) → Becomes ns cs ps e i
-    later (inl r) = itself (isLiteral (nodeAt ns e)) refl r
-    later (inr r) = by-class (target_found (λ s. sameClass cs s e) ps i r)
+    later : (stays (is_literal (node_at ns e)) ≡ some i) ⊎ (target_for (λ s. same_class cs s e) ps ≡ some i) → Becomes ns cs ps e i
+    later (inl r) = itself (is_literal (node_at ns e)) refl r
+    later (inr r) = by-class (target_found (λ s. same_class cs s e) ps i r)
 
-    go : (targetFor (λ s. eqb s e) ps ≡ some i) ⊎ (or_else (stays (isLiteral (nodeAt ns e))) (targetFor (λ s. sameClass cs s e) ps) ≡ some i) → Becomes ns cs ps e i
+    go : (target_for (λ s. eqb s e) ps ≡ some i) ⊎ (or_else (stays (is_literal (node_at ns e))) (target_for (λ s. same_class cs s e) ps) ≡ some i) → Becomes ns cs ps e i
     go (inl r) = by-source (target_found (λ s. eqb s e) ps i r)
-    go (inr r) = later (or_some (stays (isLiteral (nodeAt ns e))) (targetFor (λ s. sameClass cs s e) ps) i r)
+    go (inr r) = later (or_some (stays (is_literal (node_at ns e))) (target_for (λ s. same_class cs s e) ps) i r)
 
 -- a target that is found in a checked mapping is among the first n
 found_below : (test : ℕ → Bool) (n : ℕ) (m : Mapping) → Checked n m → (i : ℕ) → Found test (decode m) i → i < n
@@ -83,7 +83,7 @@ found_below test n m c i f =
 pub becomes-below : (ns : List Node) (cs : List Class) (n : ℕ) (m : Mapping) (e : ℕ) → Checked n m → e < n → (i : ℕ) → Becomes ns cs (decode m) e i → i < n
 becomes-below ns cs n m e c l i (by-source f) = found_below (λ s. eqb s e) n m c i f
 becomes-below ns cs n m e c l i (by-literal t q) = omega arith
-becomes-below ns cs n m e c l i (by-class f) = found_below (λ s. sameClass cs s e) n m c i f
+becomes-below ns cs n m e c l i (by-class f) = found_below (λ s. same_class cs s e) n m c i f
 
 -- ---- what becomes of a whole expression, as an entry
 
@@ -99,25 +99,25 @@ unfolding entry_of or_else
 first_found none p h = absurd (h refl)
 first_found (some i) p h = refl
 
-module _ (ns : List Node) (cs : List Class) (ps : List Mapped) (e own : ℕ) (q : own ≡ entry_of (targetFor (λ s. eqb s e) ps)) where
+module _ (ns : List Node) (cs : List Class) (ps : List Mapped) (e own : ℕ) (q : own ≡ entry_of (target_for (λ s. eqb s e) ps)) where
   -- a mapped source
   pub becomes-own : (own ≡ 0 → ⊥) → own ≡ entry_of (becomes ns cs ps e)
   unfolding becomes
   becomes-own h =
       q
-      ∙ ap entry_of (sym (first_found (targetFor (λ s. eqb s e) ps)
-      (or_else (if isLiteral (nodeAt ns e) then some e else none) (targetFor (λ s. sameClass cs s e) ps)) (λ z. h (q ∙ z))))
+      ∙ ap entry_of (sym (first_found (target_for (λ s. eqb s e) ps)
+      (or_else (if is_literal (node_at ns e) then some e else none) (target_for (λ s. same_class cs s e) ps)) (λ z. h (q ∙ z))))
 
   module _ (z : own ≡ 0) where
-    no_source : targetFor (λ s. eqb s e) ps ≡ none
-    no_source = entry-none (targetFor (λ s. eqb s e) ps) (sym z ∙ q)
+    no_source : target_for (λ s. eqb s e) ps ≡ none
+    no_source = entry-none (target_for (λ s. eqb s e) ps) (sym z ∙ q)
 
     -- a literal
-    pub becomes-literal : isLiteral (nodeAt ns e) ≡ true → e + 2 ≡ entry_of (becomes ns cs ps e)
+    pub becomes-literal : is_literal (node_at ns e) ≡ true → e + 2 ≡ entry_of (becomes ns cs ps e)
     unfolding becomes or_else entry_of
     becomes-literal t = rw (no_source, t)
 
     -- what the class gives
-    pub becomes-class : isLiteral (nodeAt ns e) ≡ false → (r : ℕ) → r ≡ entry_of (targetFor (λ s. sameClass cs s e) ps) → r ≡ entry_of (becomes ns cs ps e)
+    pub becomes-class : is_literal (node_at ns e) ≡ false → (r : ℕ) → r ≡ entry_of (target_for (λ s. same_class cs s e) ps) → r ≡ entry_of (becomes ns cs ps e)
     unfolding becomes or_else
     becomes-class t r h = h ∙ rw (no_source, t)

@@ -3,13 +3,13 @@
 // node is looked at once.
 ghost use Rattle.std.specs.Prelude.{not, ◌≡◌, ℕ, ◌≤◌, ◌<◌, eqb, length, get_or};
 ghost use Rattle.laws.specs.Tests.{each};
-ghost use Rattle.arena.specs.Node.{nodeAt, childNumbers};
+ghost use Rattle.arena.specs.Node.{node_at, child_numbers};
 ghost use Rattle.arena.specs.Layout.{count, decode as nodes};
 ghost use Rattle.arena.specs.Inner.{Holds, Known};
 ghost use Rattle.classes.specs.Layout.{decode as classes};
 ghost use Rattle.classes.specs.Inner.{Coded};
-ghost use Rattle.questions.specs.Inner.{Placed, samePlace};
-ghost use Rattle.mappings.specs.Mapping.{targetFor};
+ghost use Rattle.questions.specs.Inner.{Placed, same_place};
+ghost use Rattle.mappings.specs.Mapping.{target_for};
 ghost use Rattle.mappings.specs.Layout.{decode, Checked};
 ghost use Rattle.projection_table.specs.Projecting.{becomes, projections};
 ghost use Rattle.projection_table.specs.Inner.{entry_of, Says, Tabled};
@@ -23,7 +23,7 @@ use questions::questions::{class_places, same_place};
 // The entry of a mapped source: its first target.
 fn source_entry(m: Mapping, e: u32) -> u32
     requires { Checked 1024 m }
-    ensures { result ≡ entry_of (targetFor (λ s. eqb s e) (decode m)) }
+    ensures { result ≡ entry_of (target_for (λ s. eqb s e) (decode m)) }
 {
     let n = m.count;
     let mut i = 0;
@@ -40,7 +40,7 @@ fn source_entry(m: Mapping, e: u32) -> u32
 // The entry of an expression that is in one class with a source: the first target of the first such source.
 fn class_entry(m: Mapping, places: &[u32; 1024], e: u32) -> u32
     requires { Checked 1024 m × (e < 1024) }
-    ensures { result ≡ entry_of (targetFor (λ s. samePlace places.now s e) (decode m)) }
+    ensures { result ≡ entry_of (target_for (λ s. same_place places.now s e) (decode m)) }
 {
     let n = m.count;
     let mut i = 0;
@@ -72,7 +72,7 @@ fn whole_entry(cells: &[u32; 11265], g: Group, m: Mapping, places: &[u32; 1024],
 // The children of node e all have projections, by the table of the nodes before it.
 fn children_project(cells: &[u32; 11265], table: &[u32; 1024], e: usize) -> bool
     requires { Known cells.now e }
-    ensures { result ≡ each (λ k. not (eqb (get_or table.now (get_or (childNumbers (nodeAt (nodes cells.now) e)) k 0) 0) 0)) (length (childNumbers (nodeAt (nodes cells.now) e))) }
+    ensures { result ≡ each (λ k. not (eqb (get_or table.now (get_or (child_numbers (node_at (nodes cells.now) e)) k 0) 0) 0)) (length (child_numbers (node_at (nodes cells.now) e))) }
 {
     let n = child_count(cells, e);
     let mut k = 0;

@@ -12,36 +12,36 @@ use Rattle.laws.specs.Tests.{if◌then◌else◌}
 use Rattle.laws.proofs.Booleans.{and_left}
 use Rattle.arena.specs.Node.{Node}
 use Rattle.arena.specs.Arena.{Sound}
-use Rattle.arena.specs.Expression.{expressionAt}
+use Rattle.arena.specs.Expression.{expression_at}
 use Rattle.arena.specs.Value.{Row, Meaning, value}
 use Rattle.arena.specs.Layout.{lawful, decode as nodes}
 use Rattle.arena.specs.declared.Added.{Added}
 use Rattle.arena.specs.declared.Added.TheVariants.{Number, Refused}
 use Rattle.classes.specs.Agree.{PairsAgree}
 use Rattle.classes.specs.Class.{Class}
-use Rattle.classes.specs.Group.{sameClass}
+use Rattle.classes.specs.Group.{same_class}
 use Rattle.classes.specs.Layout.{encode, decode}
 use Rattle.classes.specs.Steps.{Outcome, refused}
-use Rattle.classes.specs.Calls.{groupNumber, askGroup}
+use Rattle.classes.specs.Calls.{group_number, ask_group}
 use Rattle.group_checks.specs.Calls.{opened}
 use Rattle.classes.specs.declared.Group.{Group}
 use Rattle.classes.specs.declared.Changed.{Changed}
-use Rattle.arena.proofs.Layouts.{lawful-exactly, decode-encode as nodes-of-cells}
-use Rattle.arena.specs.Calls.{inCells}
+use Rattle.arena.proofs.Layouts.{lawful_exactly, decode-encode as nodes-of-cells}
+use Rattle.arena.specs.Calls.{in_cells}
 use Rattle.classes.proofs.Codec.{decode-encode}
 use Rattle.group_checks.proofs.HeldLaws.{number-fit}
 use Rattle.conditions.specs.Steps.{Chain, after, accepted, outcomes}
-use Rattle.questions.specs.Questions.{exprsEqual}
-use Rattle.questions.specs.Calls.{equalAnswer}
+use Rattle.questions.specs.Questions.{exprs_equal}
+use Rattle.questions.specs.Calls.{equal_answer}
 use Rattle.questions.specs.declared.Answer.{Answer}
 use Rattle.questions.specs.declared.Answer.TheVariants.{Yes, No, Refused as Answer-Refused}
-use Rattle.normal.specs.Calls.{onChecked, normalized, normalizeExpr}
-use Rattle.demands.proofs.Valid.{valid-opened}
+use Rattle.normal.specs.Calls.{on_checked, normalized, normalize_expr}
+use Rattle.demands.proofs.Valid.{valid_opened}
 use Rattle.demands.proofs.Demands as Lists
 use Rattle.demands.proofs.Limits.{limit-more-first}
-use Rattle.normal.proofs.NormalDemand.{normal-form-keeps-value}
+use Rattle.normal.proofs.NormalDemand.{normal_form-keeps-value}
 use Rattle.normal.proofs.NormalKept.{form-kept}
-use Rattle.promises.specs.Sequence.{calls, groupAfter, acceptedPairs, seen}
+use Rattle.promises.specs.Sequence.{calls, group_after, accepted_pairs, seen}
 use Rattle.promises.proofs.Sequences.{after_is, calls_are, accepted-are, after-checked}
 
 -- an opened group has the limit and no class
@@ -56,7 +56,7 @@ opened-is limit = go (ltb 0 limit && leb limit 256)
 -- the nodes in lawful cells are a sound arena
 nodes-sound : (cells : List ℕ) → lawful cells ≡ true → Sound (nodes cells)
 nodes-sound cells w =
-    let a = (lawful-exactly cells).0 w in
+    let a = (lawful_exactly cells).0 w in
     subst (λ (ns : List Node). Sound ns) (sym (ap nodes a.1.1 ∙ nodes-of-cells a.0 a.1.0)) a.1.0
 
 -- what the definitions say of an opened group, over its limit and no class
@@ -66,35 +66,35 @@ from-opened f limit z =
     ap (λ (g : Group). f g.limit (decode g)) (opened-is limit z) ∙ ap (λ (cs : List Class). f limit cs) (decode-encode limit [])
 
 -- the answer to the equality question, where the group passes the check
-asked_is : (cells : List ℕ) (g : Group) → groupNumber cells g ≡ 0 → (x y : ℕ) → askGroup (λ k. Answer-Refused k) (equalAnswer x y) cells g ≡ equalAnswer x y (nodes cells) (decode g)
-unfolding askGroup
-asked_is cells g z x y = ap (λ (k : ℕ). if eqb k 0 then equalAnswer x y (nodes cells) (decode g) else Answer-Refused k) z
+asked_is : (cells : List ℕ) (g : Group) → group_number cells g ≡ 0 → (x y : ℕ) → ask_group (λ k. Answer-Refused k) (equal_answer x y) cells g ≡ equal_answer x y (nodes cells) (decode g)
+unfolding ask_group
+asked_is cells g z x y = ap (λ (k : ℕ). if eqb k 0 then equal_answer x y (nodes cells) (decode g) else Answer-Refused k) z
 
 -- a yes, and what it says
-yes-said : (x y : ℕ) (ns : List Node) (cs : List Class) → equalAnswer x y ns cs ≡ Yes → ((ltb x (length ns) && ltb y (length ns)) ≡ true) × (exprsEqual ns cs x y ≡ true)
-unfolding equalAnswer
-yes-said x y ns cs = go (ltb x (length ns) && ltb y (length ns)) (exprsEqual ns cs x y)
+yes_said : (x y : ℕ) (ns : List Node) (cs : List Class) → equal_answer x y ns cs ≡ Yes → ((ltb x (length ns) && ltb y (length ns)) ≡ true) × (exprs_equal ns cs x y ≡ true)
+unfolding equal_answer
+yes_said x y ns cs = go (ltb x (length ns) && ltb y (length ns)) (exprs_equal ns cs x y)
   where
     go : (b c : Bool) → (if b then (if c then Yes else No) else Answer-Refused 1) ≡ Yes → (b ≡ true) × (c ≡ true)
     go true true e = (refl, refl)
     go true false e = absurd (let z : ◌≡◌ {A = ℕ} 0 1 = cc in omega arith)
     go false c e = absurd (let z : ◌≡◌ {A = ℕ} 0 1 = cc in omega arith)
 
-said-yes : (x y : ℕ) (ns : List Node) (cs : List Class) → (ltb x (length ns) && ltb y (length ns)) ≡ true → exprsEqual ns cs x y ≡ true → equalAnswer x y ns cs ≡ Yes
-unfolding equalAnswer
-said-yes x y ns cs p q = rw (p, q) refl
+said_yes : (x y : ℕ) (ns : List Node) (cs : List Class) → (ltb x (length ns) && ltb y (length ns)) ≡ true → exprs_equal ns cs x y ≡ true → equal_answer x y ns cs ≡ Yes
+unfolding equal_answer
+said_yes x y ns cs p q = rw (p, q) refl
 
 module _ (cells : List ℕ) (arena : lawful cells ≡ true) (limit : ℕ) (opens : (opened limit).number ≡ 0) (pairs : List (ℕ × ℕ)) where
   abbrev start : Group
   start = (opened limit).group
 
   abbrev group : Group
-  group = groupAfter cells pairs start
+  group = group_after cells pairs start
 
-  start-checked : groupNumber cells start ≡ 0
-  start-checked = valid-opened cells arena limit opens
+  start-checked : group_number cells start ≡ 0
+  start-checked = valid_opened cells arena limit opens
 
-  group-checked : groupNumber cells group ≡ 0
+  group-checked : group_number cells group ≡ 0
   group-checked = after-checked cells pairs start start-checked
 
   -- the classes are those of the sequence
@@ -102,25 +102,25 @@ module _ (cells : List ℕ) (arena : lawful cells ≡ true) (limit : ℕ) (opens
   classes-are = after_is cells pairs start start-checked ∙ from-opened (λ l cs. after l (nodes cells) cs pairs) limit opens
 
   -- and so are the accepted pairs
-  joining-are : acceptedPairs cells pairs start ≡ accepted limit (nodes cells) [] pairs
+  joining-are : accepted_pairs cells pairs start ≡ accepted limit (nodes cells) [] pairs
   joining-are = accepted-are cells pairs start start-checked ∙ from-opened (λ l cs. accepted l (nodes cells) cs pairs) limit opens
 
-  pub share-a-class-exactly : (x y : ℕ) → (x ≡ y → ⊥) → (sameClass (decode group) x y ≡ true) ↔ Chain (acceptedPairs cells pairs start) x y
-  share-a-class-exactly x y d = rw (classes-are, joining-are) (Lists.same-class-exactly (nodes cells) limit pairs x y d)
+  pub share_a_class_exactly : (x y : ℕ) → (x ≡ y → ⊥) → (same_class (decode group) x y ≡ true) ↔ Chain (accepted_pairs cells pairs start) x y
+  share_a_class_exactly x y d = rw (classes-are, joining-are) (Lists.same_class_exactly (nodes cells) limit pairs x y d)
 
-  pub yes-stays-yes : (further : List (ℕ × ℕ)) (x y : ℕ) → askGroup (λ k. Answer-Refused k) (equalAnswer x y) cells group ≡ Yes
-      → askGroup (λ k. Answer-Refused k) (equalAnswer x y) cells (groupAfter cells further group) ≡ Yes
-  yes-stays-yes further x y e =
-      let said = yes-said x y (nodes cells) (decode group) (sym (asked_is cells group group-checked x y) ∙ e) in
+  pub yes_stays_yes : (further : List (ℕ × ℕ)) (x y : ℕ) → ask_group (λ k. Answer-Refused k) (equal_answer x y) cells group ≡ Yes
+      → ask_group (λ k. Answer-Refused k) (equal_answer x y) cells (group_after cells further group) ≡ Yes
+  yes_stays_yes further x y e =
+      let said = yes_said x y (nodes cells) (decode group) (sym (asked_is cells group group-checked x y) ∙ e) in
       let stays =
-      Lists.yes-stays (nodes cells) (nodes-sound cells arena) group.limit (decode group) (number-fit cells group group-checked).good.distinct further x y
+      Lists.yes_stays (nodes cells) (nodes-sound cells arena) group.limit (decode group) (number-fit cells group group-checked).good.distinct further x y
       (ltb-true x (length (nodes cells)) (and_left (ltb x (length (nodes cells))) (ltb y (length (nodes cells))) said.0)) said.1 in
-      asked_is cells (groupAfter cells further group) (after-checked cells further group group-checked) x y
-      ∙ said-yes x y (nodes cells) (decode (groupAfter cells further group)) said.0 (rw (after_is cells further group group-checked) stays)
+      asked_is cells (group_after cells further group) (after-checked cells further group group-checked) x y
+      ∙ said_yes x y (nodes cells) (decode (group_after cells further group)) said.0 (rw (after_is cells further group group-checked) stays)
 
   -- what was seen of the calls, for any limit
   seen_are : (l : ℕ) → (opened l).number ≡ 0 → map seen (calls cells pairs (opened l).group) ≡ outcomes l (nodes cells) [] pairs
-  seen_are l z = calls_are cells pairs (opened l).group (valid-opened cells arena l z) ∙ from-opened (λ k cs. outcomes k (nodes cells) cs pairs) l z
+  seen_are l z = calls_are cells pairs (opened l).group (valid_opened cells arena l z) ∙ from-opened (λ k cs. outcomes k (nodes cells) cs pairs) l z
 
   pub larger-limit-same : (larger : ℕ) → limit ≤ larger → (opened larger).number ≡ 0
       → (k : ℕ) → ((i : ℕ) → i < k → i < length pairs → (get_or (map seen (calls cells pairs start)) i (refused 0 [])).number ≡ 0)
@@ -130,22 +130,22 @@ module _ (cells : List ℕ) (arena : lawful cells ≡ true) (limit : ℕ) (opens
       (limit-more-first limit larger le (nodes cells) [] pairs k (subst (λ (os : List Outcome). (i : ℕ) → i < k → i < length pairs → (get_or os i (refused 0 [])).number ≡ 0) (seen_are limit opens) h))
 
   -- what the call of a normal form comes to
-  normalized-is : (e : ℕ) → normalized e cells group ≡ inCells (normalizeExpr e (nodes cells) (decode group))
-  unfolding onChecked
-  normalized-is e = ap {B = Added × List ℕ} (λ (k : ℕ). if eqb k 0 then inCells (normalizeExpr e (nodes cells) (decode group)) else (Refused k, cells)) group-checked
+  normalized-is : (e : ℕ) → normalized e cells group ≡ in_cells (normalize_expr e (nodes cells) (decode group))
+  unfolding on_checked
+  normalized-is e = ap {B = Added × List ℕ} (λ (k : ℕ). if eqb k 0 then in_cells (normalize_expr e (nodes cells) (decode group)) else (Refused k, cells)) group-checked
 
-  pub normal-form-has-the-value : {A : Type 0} (m : Meaning A) (row : Row A) → PairsAgree (nodes cells) (acceptedPairs cells pairs start) m row
-      → (e i : ℕ) (cells' : List ℕ) → normalized e cells group ≡ (Number i, cells') → value (expressionAt (nodes cells') i) m row ≡ value (expressionAt (nodes cells) e) m row
-  unfolding inCells
-  normal-form-has-the-value m row agree e i cells' q =
+  pub normal_form_has_the_value : {A : Type 0} (m : Meaning A) (row : Row A) → PairsAgree (nodes cells) (accepted_pairs cells pairs start) m row
+      → (e i : ℕ) (cells' : List ℕ) → normalized e cells group ≡ (Number i, cells') → value (expression_at (nodes cells') i) m row ≡ value (expression_at (nodes cells) e) m row
+  unfolding in_cells
+  normal_form_has_the_value m row agree e i cells' q =
       let ns = nodes cells in
-      let o = normalizeExpr e ns (decode group) in
+      let o = normalize_expr e ns (decode group) in
       let r = sym (normalized-is e) ∙ q in
       let sound = nodes-sound cells arena in
       let kept = form-kept e ns (decode group) sound (number-fit cells group group-checked).good in
       let number : o.0 ≡ Number i = ap (λ (p : Added × List ℕ). p.0) r in
       let same : nodes cells' ≡ o.1 = ap (λ (p : Added × List ℕ). nodes p.1) (sym r) ∙ nodes-of-cells o.1 kept.sound in
-      let done : normalizeExpr e ns (after limit ns [] pairs) ≡ (Number i, o.1) =
-      ap (λ (cs : List Class). normalizeExpr e ns cs) (sym classes-are) ∙ (λ j. (number j, o.1)) in
-      ap (λ (ms : List Node). value (expressionAt ms i) m row) same
-      ∙ normal-form-keeps-value limit ns pairs m row (subst (λ (ps : List (ℕ × ℕ)). PairsAgree ns ps m row) joining-are agree) sound e i o.1 done
+      let done : normalize_expr e ns (after limit ns [] pairs) ≡ (Number i, o.1) =
+      ap (λ (cs : List Class). normalize_expr e ns cs) (sym classes-are) ∙ (λ j. (number j, o.1)) in
+      ap (λ (ms : List Node). value (expression_at ms i) m row) same
+      ∙ normal_form-keeps-value limit ns pairs m row (subst (λ (ps : List (ℕ × ℕ)). PairsAgree ns ps m row) joining-are agree) sound e i o.1 done

@@ -6,22 +6,22 @@ use mathlib.Core.List.{List, [], map}
 use mathlib.Core.Logic.{◌↔◌}
 use mathlib.Core.Path.{◌≡◌}
 use lib.ListN.{length, get_or, take}
-use Rattle.arena.specs.Expression.{expressionAt}
+use Rattle.arena.specs.Expression.{expression_at}
 use Rattle.arena.specs.Value.{Row, Meaning, value}
 use Rattle.arena.specs.Layout.{lawful, decode as nodes}
 use Rattle.arena.specs.declared.Added.TheVariants.{Number}
 use Rattle.classes.specs.Agree.{PairsAgree}
-use Rattle.classes.specs.Group.{sameClass}
+use Rattle.classes.specs.Group.{same_class}
 use Rattle.classes.specs.Layout.{decode}
 use Rattle.classes.specs.Steps.{refused}
-use Rattle.classes.specs.Calls.{askGroup}
+use Rattle.classes.specs.Calls.{ask_group}
 use Rattle.group_checks.specs.Calls.{opened}
 use Rattle.classes.specs.declared.Group.{Group}
 use Rattle.conditions.specs.Steps.{Chain}
-use Rattle.questions.specs.Calls.{equalAnswer}
+use Rattle.questions.specs.Calls.{equal_answer}
 use Rattle.questions.specs.declared.Answer.TheVariants.{Yes, Refused as Answer-Refused}
 use Rattle.normal.specs.Calls.{normalized}
-use Rattle.promises.specs.Sequence.{calls, groupAfter, acceptedPairs, seen}
+use Rattle.promises.specs.Sequence.{calls, group_after, accepted_pairs, seen}
 use Rattle.promises.proofs.EveryCall as EveryCall
 use Rattle.promises.proofs.EveryCall.{EveryCallAnswers, EveryCallChecks}
 use Rattle.promises.proofs.EveryNumber as EveryNumber
@@ -33,20 +33,20 @@ use Rattle.promises.proofs.Conditions as Conditions
 -- ---- Demand 1
 
 -- Every call ends on every input, reads nothing outside what it is given ..
-pub every-call-answers : (M : Type 1) → EveryCallAnswers M
-every-call-answers = EveryCall.every-call-answers
+pub every_call_answers : (M : Type 1) → EveryCallAnswers M
+every_call_answers = EveryCall.every_call_answers
 
 -- .. and checks for itself.
-pub every-call-checks-for-itself : EveryCallChecks
-every-call-checks-for-itself = EveryCall.every-call-checks
+pub every_call_checks_for_itself : EveryCallChecks
+every_call_checks_for_itself = EveryCall.every_call_checks
 
 -- A refusal gives its number from the table: what is returned is 0 or one of the numbers that the header names for the call ..
-pub every-number-stands : EveryNumberStands
-every-number-stands = EveryNumber.every-number-stands
+pub every_number_stands : EveryNumberStands
+every_number_stands = EveryNumber.every_number_stands
 
 -- .. and leaves arena, group, orderings and output exactly as they were.
-pub every-refusal-keeps : EveryRefusalKeeps
-every-refusal-keeps = EveryRefusal.every-refusal-keeps
+pub every_refusal_keeps : EveryRefusalKeeps
+every_refusal_keeps = EveryRefusal.every_refusal_keeps
 
 -- ---- Demand 3
 
@@ -54,20 +54,20 @@ every-refusal-keeps = EveryRefusal.every-refusal-keeps
 module _ (cells : List ℕ) (arena : lawful cells ≡ true) (limit : ℕ) (opens : (opened limit).number ≡ 0) (pairs : List (ℕ × ℕ)) where
   -- the group afterwards
   abbrev pub group : Group
-  group = groupAfter cells pairs (opened limit).group
+  group = group_after cells pairs (opened limit).group
 
   -- the pairs that were accepted
   abbrev pub joining : List (ℕ × ℕ)
-  joining = acceptedPairs cells pairs (opened limit).group
+  joining = accepted_pairs cells pairs (opened limit).group
 
   -- two different expressions share a class exactly when a chain of accepted pairs joins them.
-  pub share-a-class-exactly : (x y : ℕ) → (x ≡ y → ⊥) → (sameClass (decode group) x y ≡ true) ↔ Chain joining x y
-  share-a-class-exactly = Conditions.share-a-class-exactly cells arena limit opens pairs
+  pub share_a_class_exactly : (x y : ℕ) → (x ≡ y → ⊥) → (same_class (decode group) x y ≡ true) ↔ Chain joining x y
+  share_a_class_exactly = Conditions.share_a_class_exactly cells arena limit opens pairs
 
   -- A yes of the equality question stays yes after any further conditions.
-  pub yes-stays-yes : (further : List (ℕ × ℕ)) (x y : ℕ) → askGroup (λ k. Answer-Refused k) (equalAnswer x y) cells group ≡ Yes
-      → askGroup (λ k. Answer-Refused k) (equalAnswer x y) cells (groupAfter cells further group) ≡ Yes
-  yes-stays-yes = Conditions.yes-stays-yes cells arena limit opens pairs
+  pub yes_stays_yes : (further : List (ℕ × ℕ)) (x y : ℕ) → ask_group (λ k. Answer-Refused k) (equal_answer x y) cells group ≡ Yes
+      → ask_group (λ k. Answer-Refused k) (equal_answer x y) cells (group_after cells further group) ≡ Yes
+  yes_stays_yes = Conditions.yes_stays_yes cells arena limit opens pairs
 
   -- A larger member limit gives the same answers and classes up to the smaller one's first refusal.
   pub larger-limit-same : (larger : ℕ) → limit ≤ larger → (opened larger).number ≡ 0
@@ -76,6 +76,6 @@ module _ (cells : List ℕ) (arena : lawful cells ≡ true) (limit : ℕ) (opens
   larger-limit-same = Conditions.larger-limit-same cells arena limit opens pairs
 
   -- On every row where all accepted pairs agree, a normalised expression has the value of the original, for any meaning of the operations.
-  pub normal-form-has-the-value : {A : Type 0} (m : Meaning A) (row : Row A) → PairsAgree (nodes cells) joining m row
-      → (e i : ℕ) (cells' : List ℕ) → normalized e cells group ≡ (Number i, cells') → value (expressionAt (nodes cells') i) m row ≡ value (expressionAt (nodes cells) e) m row
-  normal-form-has-the-value = Conditions.normal-form-has-the-value cells arena limit opens pairs
+  pub normal_form_has_the_value : {A : Type 0} (m : Meaning A) (row : Row A) → PairsAgree (nodes cells) joining m row
+      → (e i : ℕ) (cells' : List ℕ) → normalized e cells group ≡ (Number i, cells') → value (expression_at (nodes cells') i) m row ≡ value (expression_at (nodes cells) e) m row
+  normal_form_has_the_value = Conditions.normal_form_has_the_value cells arena limit opens pairs

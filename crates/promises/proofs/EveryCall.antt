@@ -131,18 +131,18 @@ pub record EveryCallAnswers (M : Type 1) : Type 2 where
   pub add-operation : AddOperationStatement.statement M
   pub read-node : ReadNodeStatement.statement M
   pub read-child : ReadChildStatement.statement M
-  pub add-offset-to-expr : AddOffsetToExprStatement.statement M
+  pub add_offset-to-expr : AddOffsetToExprStatement.statement M
   pub open-group : OpenGroupStatement.statement M
   pub check-group : CheckGroupStatement.statement M
-  pub get-equivalence-class : GetEquivalenceClassStatement.statement M
-  pub add-equal-conditions : AddEqualConditionsStatement.statement M
+  pub get_equivalence_class_lem : GetEquivalenceClassStatement.statement M
+  pub add_equal-conditions : AddEqualConditionsStatement.statement M
   pub add-constant : AddConstantStatement.statement M
-  pub clear-per-partition-constants : ClearPerPartitionConstantsStatement.statement M
+  pub clear_per_partition_constants_lem : ClearPerPartitionConstantsStatement.statement M
   pub exprs-equal : ExprsEqualStatement.statement M
-  pub is-expr-constant : IsExprConstantStatement.statement M
+  pub is-expr_constant : IsExprConstantStatement.statement M
   pub normalize-expr : NormalizeExprStatement.statement M
-  pub normalize-sort-expr : NormalizeSortExprStatement.statement M
-  pub normalize-sort-exprs : NormalizeSortExprsStatement.statement M
+  pub normalize_sort_expr_lem : NormalizeSortExprStatement.statement M
+  pub normalize_sort_exprs_lem : NormalizeSortExprsStatement.statement M
   pub new-group : NewGroupStatement.statement M
   pub join : JoinStatement.statement M
   pub project : ProjectStatement.statement M
@@ -150,43 +150,43 @@ pub record EveryCallAnswers (M : Type 1) : Type 2 where
   pub project-expressions : ProjectExpressionsStatement.statement M
   pub check-map : CheckMapStatement.statement M
   pub insert : InsertStatement.statement M
-  pub construct-prefix-orderings : ConstructPrefixOrderingsStatement.statement M
-  pub generate-dependency-orderings : GenerateDependencyOrderingsStatement.statement M
+  pub construct_prefix_orderings_lem : ConstructPrefixOrderingsStatement.statement M
+  pub generate_dependency_orderings_lem : GenerateDependencyOrderingsStatement.statement M
   pub check-orderings : CheckOrderingsStatement.statement M
   pub new-orderings : NewOrderingsStatement.statement M
   pub add-orderings : AddOrderingsStatement.statement M
   pub extend-orderings : ExtendOrderingsStatement.statement M
   pub clear-orderings : ClearOrderingsStatement.statement M
-  pub get-options : GetOptionsStatement.statement M
-  pub is-expr-partial-const : IsExprPartialConstStatement.statement M
+  pub get_options_lem : GetOptionsStatement.statement M
+  pub is-expr-partial_const : IsExprPartialConstStatement.statement M
   pub output-ordering : OutputOrderingStatement.statement M
   pub join-suffix : JoinSuffixStatement.statement M
-  pub add-offset : AddOffsetStatement.statement M
+  pub add_offset_lem : AddOffsetStatement.statement M
   pub read-record : ReadRecordStatement.statement M
   pub read-group : ReadGroupStatement.statement M
   pub chosen : ChosenStatement.statement M
   pub session : SessionStatement.statement M
 
-pub every-call-answers : (M : Type 1) → EveryCallAnswers M
-every-call-answers M = record {
+pub every_call_answers : (M : Type 1) → EveryCallAnswers M
+every_call_answers M = record {
   check-arena = CheckArenaMet.met;
   add-column = AddColumnMet.met;
   add-literal = AddLiteralMet.met;
   add-operation = AddOperationMet.met;
   read-node = ReadNodeMet.met;
   read-child = ReadChildMet.met;
-  add-offset-to-expr = AddOffsetToExprMet.met;
+  add_offset-to-expr = AddOffsetToExprMet.met;
   open-group = OpenGroupMet.met;
   check-group = CheckGroupMet.met;
-  get-equivalence-class = GetEquivalenceClassMet.met;
-  add-equal-conditions = AddEqualConditionsMet.met;
+  get_equivalence_class_lem = GetEquivalenceClassMet.met;
+  add_equal-conditions = AddEqualConditionsMet.met;
   add-constant = AddConstantMet.met;
-  clear-per-partition-constants = ClearPerPartitionConstantsMet.met;
+  clear_per_partition_constants_lem = ClearPerPartitionConstantsMet.met;
   exprs-equal = ExprsEqualMet.met;
-  is-expr-constant = IsExprConstantMet.met;
+  is-expr_constant = IsExprConstantMet.met;
   normalize-expr = NormalizeExprMet.met;
-  normalize-sort-expr = NormalizeSortExprMet.met;
-  normalize-sort-exprs = NormalizeSortExprsMet.met;
+  normalize_sort_expr_lem = NormalizeSortExprMet.met;
+  normalize_sort_exprs_lem = NormalizeSortExprsMet.met;
   new-group = NewGroupMet.met;
   join = JoinMet.met;
   project = ProjectMet.met;
@@ -194,18 +194,18 @@ every-call-answers M = record {
   project-expressions = ProjectExpressionsMet.met;
   check-map = CheckMapMet.met;
   insert = InsertMet.met;
-  construct-prefix-orderings = ConstructPrefixOrderingsMet.met;
-  generate-dependency-orderings = GenerateDependencyOrderingsMet.met;
+  construct_prefix_orderings_lem = ConstructPrefixOrderingsMet.met;
+  generate_dependency_orderings_lem = GenerateDependencyOrderingsMet.met;
   check-orderings = CheckOrderingsMet.met;
   new-orderings = NewOrderingsMet.met;
   add-orderings = AddOrderingsMet.met;
   extend-orderings = ExtendOrderingsMet.met;
   clear-orderings = ClearOrderingsMet.met;
-  get-options = GetOptionsMet.met;
-  is-expr-partial-const = IsExprPartialConstMet.met;
+  get_options_lem = GetOptionsMet.met;
+  is-expr-partial_const = IsExprPartialConstMet.met;
   output-ordering = OutputOrderingMet.met;
   join-suffix = JoinSuffixMet.met;
-  add-offset = AddOffsetMet.met;
+  add_offset_lem = AddOffsetMet.met;
   read-record = ReadRecordMet.met;
   read-group = ReadGroupMet.met;
   chosen = ChosenMet.met;
@@ -220,18 +220,18 @@ pub record EveryCallChecks : Type 1 where
   pub add-operation : (κs : _) (a : _) → AddOperation.Asked κs a
   pub read-node : (κs : _) (a : _) → ReadNode.Asked κs a
   pub read-child : (κs : _) (a : _) → ReadChild.Asked κs a
-  pub add-offset-to-expr : (κs : _) (a : _) → AddOffsetToExpr.Asked κs a
+  pub add_offset-to-expr : (κs : _) (a : _) → AddOffsetToExpr.Asked κs a
   pub open-group : (κs : _) (a : _) → OpenGroup.Asked κs a
   pub check-group : (κs : _) (a : _) → CheckGroup.Asked κs a
-  pub get-equivalence-class : (κs : _) (a : _) → GetEquivalenceClass.Asked κs a
-  pub add-equal-conditions : (κs : _) (a : _) → AddEqualConditions.Asked κs a
+  pub get_equivalence_class_lem : (κs : _) (a : _) → GetEquivalenceClass.Asked κs a
+  pub add_equal-conditions : (κs : _) (a : _) → AddEqualConditions.Asked κs a
   pub add-constant : (κs : _) (a : _) → AddConstant.Asked κs a
-  pub clear-per-partition-constants : (κs : _) (a : _) → ClearPerPartitionConstants.Asked κs a
+  pub clear_per_partition_constants_lem : (κs : _) (a : _) → ClearPerPartitionConstants.Asked κs a
   pub exprs-equal : (κs : _) (a : _) → ExprsEqual.Asked κs a
-  pub is-expr-constant : (κs : _) (a : _) → IsExprConstant.Asked κs a
+  pub is-expr_constant : (κs : _) (a : _) → IsExprConstant.Asked κs a
   pub normalize-expr : (κs : _) (a : _) → NormalizeExpr.Asked κs a
-  pub normalize-sort-expr : (κs : _) (a : _) → NormalizeSortExpr.Asked κs a
-  pub normalize-sort-exprs : (κs : _) (a : _) → NormalizeSortExprs.Asked κs a
+  pub normalize_sort_expr_lem : (κs : _) (a : _) → NormalizeSortExpr.Asked κs a
+  pub normalize_sort_exprs_lem : (κs : _) (a : _) → NormalizeSortExprs.Asked κs a
   pub new-group : (κs : _) (a : _) → NewGroup.Asked κs a
   pub join : (κs : _) (a : _) → Join.Asked κs a
   pub project : (κs : _) (a : _) → Project.Asked κs a
@@ -239,43 +239,43 @@ pub record EveryCallChecks : Type 1 where
   pub project-expressions : (κs : _) (a : _) → ProjectExpressions.Asked κs a
   pub check-map : (κs : _) (a : _) → CheckMap.Asked κs a
   pub insert : (κs : _) (a : _) → Insert.Asked κs a
-  pub construct-prefix-orderings : (κs : _) (a : _) → ConstructPrefixOrderings.Asked κs a
-  pub generate-dependency-orderings : (κs : _) (a : _) → GenerateDependencyOrderings.Asked κs a
+  pub construct_prefix_orderings_lem : (κs : _) (a : _) → ConstructPrefixOrderings.Asked κs a
+  pub generate_dependency_orderings_lem : (κs : _) (a : _) → GenerateDependencyOrderings.Asked κs a
   pub check-orderings : (κs : _) (a : _) → CheckOrderings.Asked κs a
   pub new-orderings : (κs : _) (a : _) → NewOrderings.Asked κs a
   pub add-orderings : (κs : _) (a : _) → AddOrderings.Asked κs a
   pub extend-orderings : (κs : _) (a : _) → ExtendOrderings.Asked κs a
   pub clear-orderings : (κs : _) (a : _) → ClearOrderings.Asked κs a
-  pub get-options : (κs : _) (a : _) → GetOptions.Asked κs a
-  pub is-expr-partial-const : (κs : _) (a : _) → IsExprPartialConst.Asked κs a
+  pub get_options_lem : (κs : _) (a : _) → GetOptions.Asked κs a
+  pub is-expr-partial_const : (κs : _) (a : _) → IsExprPartialConst.Asked κs a
   pub output-ordering : (κs : _) (a : _) → OutputOrdering.Asked κs a
   pub join-suffix : (κs : _) (a : _) → JoinSuffix.Asked κs a
-  pub add-offset : (κs : _) (a : _) → AddOffset.Asked κs a
+  pub add_offset_lem : (κs : _) (a : _) → AddOffset.Asked κs a
   pub read-record : (κs : _) (a : _) → ReadRecord.Asked κs a
   pub read-group : (κs : _) (a : _) → ReadGroup.Asked κs a
   pub chosen : (κs : _) (a : _) → Chosen.Asked κs a
   pub session : (κs : _) (a : _) → Session.Asked κs a
 
-pub every-call-checks : EveryCallChecks
-every-call-checks = record {
+pub every_call_checks : EveryCallChecks
+every_call_checks = record {
   check-arena = λ κs a. tt;
   add-column = λ κs a. tt;
   add-literal = λ κs a. tt;
   add-operation = λ κs a. tt;
   read-node = λ κs a. tt;
   read-child = λ κs a. tt;
-  add-offset-to-expr = λ κs a. tt;
+  add_offset-to-expr = λ κs a. tt;
   open-group = λ κs a. tt;
   check-group = λ κs a. tt;
-  get-equivalence-class = λ κs a. tt;
-  add-equal-conditions = λ κs a. tt;
+  get_equivalence_class_lem = λ κs a. tt;
+  add_equal-conditions = λ κs a. tt;
   add-constant = λ κs a. tt;
-  clear-per-partition-constants = λ κs a. tt;
+  clear_per_partition_constants_lem = λ κs a. tt;
   exprs-equal = λ κs a. tt;
-  is-expr-constant = λ κs a. tt;
+  is-expr_constant = λ κs a. tt;
   normalize-expr = λ κs a. tt;
-  normalize-sort-expr = λ κs a. tt;
-  normalize-sort-exprs = λ κs a. tt;
+  normalize_sort_expr_lem = λ κs a. tt;
+  normalize_sort_exprs_lem = λ κs a. tt;
   new-group = λ κs a. tt;
   join = λ κs a. tt;
   project = λ κs a. tt;
@@ -283,18 +283,18 @@ every-call-checks = record {
   project-expressions = λ κs a. tt;
   check-map = λ κs a. tt;
   insert = λ κs a. tt;
-  construct-prefix-orderings = λ κs a. tt;
-  generate-dependency-orderings = λ κs a. tt;
+  construct_prefix_orderings_lem = λ κs a. tt;
+  generate_dependency_orderings_lem = λ κs a. tt;
   check-orderings = λ κs a. tt;
   new-orderings = λ κs a. tt;
   add-orderings = λ κs a. tt;
   extend-orderings = λ κs a. tt;
   clear-orderings = λ κs a. tt;
-  get-options = λ κs a. tt;
-  is-expr-partial-const = λ κs a. tt;
+  get_options_lem = λ κs a. tt;
+  is-expr-partial_const = λ κs a. tt;
   output-ordering = λ κs a. tt;
   join-suffix = λ κs a. tt;
-  add-offset = λ κs a. tt;
+  add_offset_lem = λ κs a. tt;
   read-record = λ κs a. tt;
   read-group = λ κs a. tt;
   chosen = λ κs a. tt;

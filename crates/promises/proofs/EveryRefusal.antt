@@ -3,7 +3,7 @@ use Prim.Native.Nat.{ℕ, ◌<◌}
 use mathlib.Core.List.{List}
 use mathlib.Core.Path.{◌≡◌, ap, ◌∙◌}
 use borrow.Fn.World.{ArgsD}
-use Rattle.answer_laws.proofs.Refused.{Stays, BothStay, answer-stays, changed-stays, child-stays, chosen-stays, class-stays, column-stays, constant-stays, form-stays, generate-stays, group-stays, item-stays, join-stays, list-offset-stays, list-stays, literal-stays, map-stays, operation-stays, options-stays, output-stays, partial-stays, prefix-stays, project-expr-stays, project-stays, read_stays, session-stays, shifted-stays, sort-key-stays, sort-keys-stay}
+use Rattle.answer_laws.proofs.Refused.{Stays, BothStay, answer-stays, changed-stays, child-stays, chosen-stays, class-stays, column-stays, constant-stays, form-stays, generate_stays, group-stays, item_stays, join-stays, list_offset_stays, list-stays, literal-stays, map-stays, operation-stays, options-stays, output-stays, partial_stays, prefix-stays, project_expr-stays, project-stays, read_stays, session-stays, shifted-stays, sort_key_stays, sort_keys_stay}
 use Rattle.projection_laws.proofs.ProjectedCalls.{expressions-refused}
 use Rattle.galthumir.specs.contracts.expressions.galthumir_add_column.{signature}
 use Rattle.galthumir.proofs.expressions.galthumir_add_column.Reads as AddColumn
@@ -67,75 +67,75 @@ pub record EveryRefusalKeeps : Type 1 where
   pub add-operation : (κs : _) (a : _) → KeepsBoth a.1.1.1.0.now (λ s. s.1.1.1.0.now) a.0.now (λ s. s.0.now) (AddOperation.Learnt κs a)
   pub read-node : (κs : _) (a : _) → Keeps a.1.1.0.now (λ s. s.1.1.0.now) (ReadNode.Learnt κs a)
   pub read-child : (κs : _) (a : _) → Keeps a.1.1.1.0.now (λ s. s.1.1.1.0.now) (ReadChild.Learnt κs a)
-  pub add-offset-to-expr : (κs : _) (a : _) → KeepsBoth a.1.1.1.0.now (λ s. s.1.1.1.0.now) a.0.now (λ s. s.0.now) (AddOffsetToExpr.Learnt κs a)
+  pub add_offset-to-expr : (κs : _) (a : _) → KeepsBoth a.1.1.1.0.now (λ s. s.1.1.1.0.now) a.0.now (λ s. s.0.now) (AddOffsetToExpr.Learnt κs a)
   pub open-group : (κs : _) (a : _) → Keeps a.1.0.now (λ s. s.1.0.now) (OpenGroup.Learnt κs a)
-  pub get-equivalence-class : (κs : _) (a : _) → Keeps a.1.1.1.0.now (λ s. s.1.1.1.0.now) (GetEquivalenceClass.Learnt κs a)
-  pub add-equal-conditions : (κs : _) (a : _) → KeepsBoth a.1.1.1.1.0.now (λ s. s.1.1.1.1.0.now) a.1.0.now (λ s. s.1.0.now) (AddEqualConditions.Learnt κs a)
+  pub get_equivalence_class_lem : (κs : _) (a : _) → Keeps a.1.1.1.0.now (λ s. s.1.1.1.0.now) (GetEquivalenceClass.Learnt κs a)
+  pub add_equal-conditions : (κs : _) (a : _) → KeepsBoth a.1.1.1.1.0.now (λ s. s.1.1.1.1.0.now) a.1.0.now (λ s. s.1.0.now) (AddEqualConditions.Learnt κs a)
   pub add-constant : (κs : _) (a : _) → Keeps a.1.0.now (λ s. s.1.0.now) (AddConstant.Learnt κs a)
-  pub clear-per-partition-constants : (κs : _) (a : _) → KeepsBoth a.1.1.0.now (λ s. s.1.1.0.now) a.1.0.now (λ s. s.1.0.now) (ClearPerPartitionConstants.Learnt κs a)
+  pub clear_per_partition_constants_lem : (κs : _) (a : _) → KeepsBoth a.1.1.0.now (λ s. s.1.1.0.now) a.1.0.now (λ s. s.1.0.now) (ClearPerPartitionConstants.Learnt κs a)
   pub exprs-equal : (κs : _) (a : _) → Keeps a.1.1.1.1.0.now (λ s. s.1.1.1.1.0.now) (ExprsEqual.Learnt κs a)
-  pub is-expr-constant : (κs : _) (a : _) → Keeps a.1.1.1.0.now (λ s. s.1.1.1.0.now) (IsExprConstant.Learnt κs a)
+  pub is-expr_constant : (κs : _) (a : _) → Keeps a.1.1.1.0.now (λ s. s.1.1.1.0.now) (IsExprConstant.Learnt κs a)
   pub normalize-expr : (κs : _) (a : _) → KeepsBoth a.1.1.1.0.now (λ s. s.1.1.1.0.now) a.0.now (λ s. s.0.now) (NormalizeExpr.Learnt κs a)
-  pub normalize-sort-expr : (κs : _) (a : _) → KeepsBoth a.1.1.1.1.0.now (λ s. s.1.1.1.1.0.now) a.0.now (λ s. s.0.now) (NormalizeSortExpr.Learnt κs a)
-  pub normalize-sort-exprs : (κs : _) (a : _) → KeepsBoth a.1.1.1.0.now (λ s. s.1.1.1.0.now) a.0.now (λ s. s.0.now) (NormalizeSortExprs.Learnt κs a)
+  pub normalize_sort_expr_lem : (κs : _) (a : _) → KeepsBoth a.1.1.1.1.0.now (λ s. s.1.1.1.1.0.now) a.0.now (λ s. s.0.now) (NormalizeSortExpr.Learnt κs a)
+  pub normalize_sort_exprs_lem : (κs : _) (a : _) → KeepsBoth a.1.1.1.0.now (λ s. s.1.1.1.0.now) a.0.now (λ s. s.0.now) (NormalizeSortExprs.Learnt κs a)
   pub new-group : (κs : _) (a : _) → Keeps a.1.1.0.now (λ s. s.1.1.0.now) (NewGroup.Learnt κs a)
   pub join : (κs : _) (a : _) → KeepsBoth a.1.1.1.1.1.1.0.now (λ s. s.1.1.1.1.1.1.0.now) a.0.now (λ s. s.0.now) (Join.Learnt κs a)
   pub project : (κs : _) (a : _) → KeepsBoth a.1.1.1.0.now (λ s. s.1.1.1.0.now) a.0.now (λ s. s.0.now) (Project.Learnt κs a)
   pub project-expr : (κs : _) (a : _) → KeepsBoth a.1.1.1.1.0.now (λ s. s.1.1.1.1.0.now) a.0.now (λ s. s.0.now) (ProjectExpr.Learnt κs a)
   pub project-expressions : (κs : _) (a : _) → KeepsBoth a.1.1.1.1.0.now (λ s. s.1.1.1.1.0.now) a.0.now (λ s. s.0.now) (ProjectExpressions.Learnt κs a)
   pub insert : (κs : _) (a : _) → Keeps a.1.0.now (λ s. s.1.0.now) (Insert.Learnt κs a)
-  pub construct-prefix-orderings : (κs : _) (a : _) → KeepsBoth a.1.1.1.1.1.0.now (λ s. s.1.1.1.1.1.0.now) a.1.1.1.1.0.now (λ s. s.1.1.1.1.0.now) (ConstructPrefixOrderings.Learnt κs a)
-  pub generate-dependency-orderings : (κs : _) (a : _) → KeepsBoth a.1.1.1.1.0.now (λ s. s.1.1.1.1.0.now) a.1.1.1.0.now (λ s. s.1.1.1.0.now) (GenerateDependencyOrderings.Learnt κs a)
+  pub construct_prefix_orderings_lem : (κs : _) (a : _) → KeepsBoth a.1.1.1.1.1.0.now (λ s. s.1.1.1.1.1.0.now) a.1.1.1.1.0.now (λ s. s.1.1.1.1.0.now) (ConstructPrefixOrderings.Learnt κs a)
+  pub generate_dependency_orderings_lem : (κs : _) (a : _) → KeepsBoth a.1.1.1.1.0.now (λ s. s.1.1.1.1.0.now) a.1.1.1.0.now (λ s. s.1.1.1.0.now) (GenerateDependencyOrderings.Learnt κs a)
   pub new-orderings : (κs : _) (a : _) → Keeps a.1.1.0.now (λ s. s.1.1.0.now) (NewOrderings.Learnt κs a)
   pub add-orderings : (κs : _) (a : _) → Keeps a.1.0.now (λ s. s.1.0.now) (AddOrderings.Learnt κs a)
   pub extend-orderings : (κs : _) (a : _) → Keeps a.1.0.now (λ s. s.1.0.now) (ExtendOrderings.Learnt κs a)
   pub clear-orderings : (κs : _) (a : _) → Keeps a.1.0.now (λ s. s.1.0.now) (ClearOrderings.Learnt κs a)
-  pub get-options : (κs : _) (a : _) → Keeps a.1.1.1.0.now (λ s. s.1.1.1.0.now) (GetOptions.Learnt κs a)
-  pub is-expr-partial-const : (κs : _) (a : _) → Keeps a.1.1.1.0.now (λ s. s.1.1.1.0.now) (IsExprPartialConst.Learnt κs a)
+  pub get_options_lem : (κs : _) (a : _) → Keeps a.1.1.1.0.now (λ s. s.1.1.1.0.now) (GetOptions.Learnt κs a)
+  pub is-expr-partial_const : (κs : _) (a : _) → Keeps a.1.1.1.0.now (λ s. s.1.1.1.0.now) (IsExprPartialConst.Learnt κs a)
   pub output-ordering : (κs : _) (a : _) → Keeps a.1.1.0.now (λ s. s.1.1.0.now) (OutputOrdering.Learnt κs a)
   pub join-suffix : (κs : _) (a : _) → Keeps a.1.1.1.0.now (λ s. s.1.1.1.0.now) (JoinSuffix.Learnt κs a)
-  pub add-offset : (κs : _) (a : _) → KeepsBoth a.1.0.now (λ s. s.1.0.now) a.0.now (λ s. s.0.now) (AddOffset.Learnt κs a)
+  pub add_offset_lem : (κs : _) (a : _) → KeepsBoth a.1.0.now (λ s. s.1.0.now) a.0.now (λ s. s.0.now) (AddOffset.Learnt κs a)
   pub read-record : (κs : _) (a : _) → Keeps a.1.0.now (λ s. s.1.0.now) (ReadRecord.Learnt κs a)
   pub read-group : (κs : _) (a : _) → Keeps a.1.1.0.now (λ s. s.1.1.0.now) (ReadGroup.Learnt κs a)
   pub chosen : (κs : _) (a : _) → Keeps a.1.1.1.0.now (λ s. s.1.1.1.0.now) (Chosen.Learnt κs a)
   pub session : (κs : _) (a : _) → KeepsBoth a.1.1.0.now (λ s. s.1.1.0.now) a.1.0.now (λ s. s.1.0.now) (Session.Learnt κs a)
 
-pub every-refusal-keeps : EveryRefusalKeeps
-every-refusal-keeps = record {
+pub every_refusal_keeps : EveryRefusalKeeps
+every_refusal_keeps = record {
   add-column = λ κs a l r s. both (column-stays _ _ _ _ l);
   add-literal = λ κs a r s. both (literal-stays _ _ _);
   add-operation = λ κs a r s. both (operation-stays _ _ _ _);
   read-node = λ κs a r s. one (read_stays _ _);
   read-child = λ κs a r s. one (child-stays _ _);
-  add-offset-to-expr = λ κs a r s. both (shifted-stays _ _ _ _);
+  add_offset-to-expr = λ κs a r s. both (shifted-stays _ _ _ _);
   open-group = λ κs a r s. one (group-stays _ _);
-  get-equivalence-class = λ κs a r s. one (class-stays _ _);
-  add-equal-conditions = λ κs a r s. both (changed-stays _ _ _);
+  get_equivalence_class_lem = λ κs a r s. one (class-stays _ _);
+  add_equal-conditions = λ κs a r s. both (changed-stays _ _ _);
   add-constant = λ κs a r s. one (group-stays _ _);
-  clear-per-partition-constants = λ κs a r s. both (changed-stays _ _ _);
+  clear_per_partition_constants_lem = λ κs a r s. both (changed-stays _ _ _);
   exprs-equal = λ κs a r s. one (answer-stays _ _);
-  is-expr-constant = λ κs a r s. one (constant-stays _ _);
+  is-expr_constant = λ κs a r s. one (constant-stays _ _);
   normalize-expr = λ κs a r s. both (form-stays _ _ _ _);
-  normalize-sort-expr = λ κs a r s. both (sort-key-stays _ _ _ _ _);
-  normalize-sort-exprs = λ κs a r s. both (sort-keys-stay _ _ _ _);
+  normalize_sort_expr_lem = λ κs a r s. both (sort_key_stays _ _ _ _ _);
+  normalize_sort_exprs_lem = λ κs a r s. both (sort_keys_stay _ _ _ _);
   new-group = λ κs a r s. one (group-stays _ _);
   join = λ κs a r s. both (join-stays _ _ _ _ _ _ _);
   project = λ κs a r s. both (project-stays _ _ _ _);
-  project-expr = λ κs a r s. both (project-expr-stays _ _ _ _ _);
+  project-expr = λ κs a r s. both (project_expr-stays _ _ _ _ _);
   project-expressions = λ κs a r s. both (expressions-refused _ _ _ _ _);
   insert = λ κs a r s. one (map-stays _ _);
-  construct-prefix-orderings = λ κs a r s. both (prefix-stays _ _ _ _ _ _);
-  generate-dependency-orderings = λ κs a r s. both (generate-stays _ _ _ _ _);
+  construct_prefix_orderings_lem = λ κs a r s. both (prefix-stays _ _ _ _ _ _);
+  generate_dependency_orderings_lem = λ κs a r s. both (generate_stays _ _ _ _ _);
   new-orderings = λ κs a r s. one (list-stays _ _);
   add-orderings = λ κs a r s. one (list-stays _ _);
   extend-orderings = λ κs a r s. one (list-stays _ _);
   clear-orderings = λ κs a r s. one (list-stays _ _);
-  get-options = λ κs a r s. one (options-stays _ _);
-  is-expr-partial-const = λ κs a r s. one (partial-stays _ _);
+  get_options_lem = λ κs a r s. one (options-stays _ _);
+  is-expr-partial_const = λ κs a r s. one (partial_stays _ _);
   output-ordering = λ κs a r s. one (output-stays _ _);
   join-suffix = λ κs a r s. one (list-stays _ _);
-  add-offset = λ κs a r s. both (list-offset-stays _ _ _ _);
-  read-record = λ κs a r s. one (item-stays _ _);
+  add_offset_lem = λ κs a r s. both (list_offset_stays _ _ _ _);
+  read-record = λ κs a r s. one (item_stays _ _);
   read-group = λ κs a r s. one (group-stays _ _);
   chosen = λ κs a r s. one (chosen-stays _ _ _ _);
   session = λ κs a r s. both (session-stays _ _ _);

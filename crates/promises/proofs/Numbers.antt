@@ -6,7 +6,7 @@ use mathlib.Core.Path.{◌≡◌, refl, subst}
 use borrow.Author.Tests.{eqb-true}
 use lib.Dec.{eqb}
 use Rattle.laws.specs.Tests.{if◌then◌else◌}
-use Rattle.laws.proofs.Booleans.{true-not-false, and_left, and_right}
+use Rattle.laws.proofs.Booleans.{true_not_false, and_left, and_right}
 use Rattle.classes.specs.Group.{among}
 
 -- a number is 0 or one of some
@@ -26,23 +26,23 @@ either P false p q = q
 -- ---- more numbers
 
 -- each of some numbers is among others
-unfoldable pub allAmong : List ℕ → List ℕ → Bool
-allAmong [] ns = true
-allAmong (m ∷ ms) ns = among m ns && allAmong ms ns
+unfoldable pub all_among : List ℕ → List ℕ → Bool
+all_among [] ns = true
+all_among (m ∷ ms) ns = among m ns && all_among ms ns
 
 -- what is among the first is among the others
-among-all : (ms ns : List ℕ) (r : ℕ) → allAmong ms ns ≡ true → among r ms ≡ true → among r ns ≡ true
-unfolding among allAmong
-among-all [] ns r a e = absurd (true-not-false e refl)
-among-all (m ∷ ms) ns r a e = by (eqb m r) refl e (among-all ms ns r (and_right (among m ns) (allAmong ms ns) a))
+among-all : (ms ns : List ℕ) (r : ℕ) → all_among ms ns ≡ true → among r ms ≡ true → among r ns ≡ true
+unfolding among all_among
+among-all [] ns r a e = absurd (true_not_false e refl)
+among-all (m ∷ ms) ns r a e = by (eqb m r) refl e (among-all ms ns r (and_right (among m ns) (all_among ms ns) a))
   where
     by : (b : Bool) → eqb m r ≡ b → (b || among r ms) ≡ true → (among r ms ≡ true → among r ns ≡ true) → among r ns ≡ true
-    by true q z h = subst (λ (k : ℕ). among k ns ≡ true) (eqb-true m r q) (and_left (among m ns) (allAmong ms ns) a)
+    by true q z h = subst (λ (k : ℕ). among k ns ≡ true) (eqb-true m r q) (and_left (among m ns) (all_among ms ns) a)
     by false q z h = h z
 
 -- one of some is one of more
-pub wider : {ms ns : List ℕ} {r : ℕ} → OneOf ms r → allAmong ms (0 ∷ ns) ≡ true → OneOf ns r
-unfolding among allAmong
+pub wider : {ms ns : List ℕ} {r : ℕ} → OneOf ms r → all_among ms (0 ∷ ns) ≡ true → OneOf ns r
+unfolding among all_among
 wider {ms} {ns} {r} o a = record { is = among-all (0 ∷ ms) (0 ∷ ns) r a o.is }
 
 -- ---- checks in steps

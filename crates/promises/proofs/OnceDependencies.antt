@@ -31,11 +31,11 @@ use Rattle.dependency_orderings.proofs.writing.measure_all.Reads as DependencyOr
 
 -- ---- dependencies
 
-pub dependencies-checking-lawful-map : (κs : _) (a : _) → OneAnswer (DependenciesCheckingLawfulMap.Learnt κs a)
-dependencies-checking-lawful-map κs a r r' s s' = one-result
+pub dependencies-checking-lawful_map : (κs : _) (a : _) → OneAnswer (DependenciesCheckingLawfulMap.Learnt κs a)
+dependencies-checking-lawful_map κs a r r' s s' = one-result
 
-pub dependencies-checking-check-map : (κs : _) (a : _) → OneAnswer (DependenciesCheckingCheckMap.Learnt κs a)
-dependencies-checking-check-map κs a r r' s s' = one-result
+pub dependencies-checking-check_map : (κs : _) (a : _) → OneAnswer (DependenciesCheckingCheckMap.Learnt κs a)
+dependencies-checking-check_map κs a r r' s s' = one-result
 
 pub dependencies-inserting-nothing : (κs : _) (a : _) → OneAnswer (DependenciesInsertingNothing.Learnt κs a)
 dependencies-inserting-nothing κs a r r' s s' = one-result
@@ -43,23 +43,23 @@ dependencies-inserting-nothing κs a r r' s s' = one-result
 pub dependencies-inserting-refusal : (κs : _) (a : _) → OneAnswer (DependenciesInsertingRefusal.Learnt κs a)
 dependencies-inserting-refusal κs a r r' s s' = one-result
 
-pub dependencies-inserting-options-known : (κs : _) (a : _) → OneAnswer (DependenciesInsertingOptionsKnown.Learnt κs a)
-dependencies-inserting-options-known κs a r r' s s' = one-result
+pub dependencies-inserting-options_known : (κs : _) (a : _) → OneAnswer (DependenciesInsertingOptionsKnown.Learnt κs a)
+dependencies-inserting-options_known κs a r r' s s' = one-result
 
-pub dependencies-inserting-given-below : (κs : _) (a : _) → OneAnswer (DependenciesInsertingGivenBelow.Learnt κs a)
-dependencies-inserting-given-below κs a r r' s s' = one-result
+pub dependencies-inserting-given_below : (κs : _) (a : _) → OneAnswer (DependenciesInsertingGivenBelow.Learnt κs a)
+dependencies-inserting-given_below κs a r r' s s' = one-result
 
 pub dependencies-inserting-packed : (κs : _) (a : _) → OneAnswer (DependenciesInsertingPacked.Learnt κs a)
 dependencies-inserting-packed κs a r r' s s' = one-result
 
-pub dependencies-inserting-find-key : (κs : _) (a : _) → OneAnswer (DependenciesInsertingFindKey.Learnt κs a)
-dependencies-inserting-find-key κs a r r' s s' = one-result
+pub dependencies-inserting-find_key : (κs : _) (a : _) → OneAnswer (DependenciesInsertingFindKey.Learnt κs a)
+dependencies-inserting-find_key κs a r r' s s' = one-result
 
-pub dependencies-inserting-insert-in : (κs : _) (a : _) → OneAnswer (DependenciesInsertingInsertIn.Learnt κs a)
-dependencies-inserting-insert-in κs a r r' s s' = one-result
+pub dependencies-inserting-insert_in : (κs : _) (a : _) → OneAnswer (DependenciesInsertingInsertIn.Learnt κs a)
+dependencies-inserting-insert_in κs a r r' s s' = one-result
 
-pub dependencies-open-map : (κs : _) (a : _) → OneAnswer (DependenciesOpenMap.Learnt κs a)
-dependencies-open-map κs a r r' s s' = one-result
+pub dependencies-open_map : (κs : _) (a : _) → OneAnswer (DependenciesOpenMap.Learnt κs a)
+dependencies-open_map κs a r r' s s' = one-result
 
 pub dependencies-check : (κs : _) (a : _) → OneAnswer (DependenciesCheck.Learnt κs a)
 dependencies-check κs a r r' s s' = one-result
@@ -69,51 +69,51 @@ dependencies-insert κs a r r' s s' = one-result
 
 -- ---- enumeration
 
-pub enumeration-marking-new-enumerator : (κs : _) (a : _) → OneAnswer (EnumerationMarkingNewEnumerator.Learnt κs a)
-enumeration-marking-new-enumerator κs a r r' s s' = one-result
+pub enumeration-marking-new_enumerator : (κs : _) (a : _) → OneAnswer (EnumerationMarkingNewEnumerator.Learnt κs a)
+enumeration-marking-new_enumerator κs a r r' s s' = one-result
 
 pub enumeration-marking-mark : (κs : _) (a : _) → OneAnswer (EnumerationMarkingMark.Learnt κs a)
 enumeration-marking-mark κs a r r' s s' = one-result
 
-pub enumeration-prefixes-nothing-found : (κs : _) (a : _) → OneAnswer (EnumerationPrefixesNothingFound.Learnt κs a)
-enumeration-prefixes-nothing-found κs a r r' s s' = one-result
+pub enumeration-prefixes-nothing_found : (κs : _) (a : _) → OneAnswer (EnumerationPrefixesNothingFound.Learnt κs a)
+enumeration-prefixes-nothing_found κs a r r' s s' = one-result
 
 -- ---- products
 
-pub products-choosing-start-of : (κs : _) (a : _) → OneAnswer (ProductsChoosingStartOf.Learnt κs a)
-products-choosing-start-of κs a r r' s s' = one-result
+pub products-choosing-start_of : (κs : _) (a : _) → OneAnswer (ProductsChoosingStartOf.Learnt κs a)
+products-choosing-start_of κs a r r' s s' = one-result
 
-pub products-choosing-choice-at : (κs : _) (a : _) → OneAnswer (ProductsChoosingChoiceAt.Learnt κs a)
-products-choosing-choice-at κs a r r' s s' = one-result
+pub products-choosing-choice_at : (κs : _) (a : _) → OneAnswer (ProductsChoosingChoiceAt.Learnt κs a)
+products-choosing-choice_at κs a r r' s s' = one-result
 
-pub products-choosing-count-choices : (κs : _) (a : _) → OneAnswer (ProductsChoosingCountChoices.Learnt κs a)
-products-choosing-count-choices κs a r r' s s' = one-result
+pub products-choosing-count_choices : (κs : _) (a : _) → OneAnswer (ProductsChoosingCountChoices.Learnt κs a)
+products-choosing-count_choices κs a r r' s s' = one-result
 
 pub products-ordering-factorial : (κs : _) (a : _) → OneAnswer (ProductsOrderingFactorial.Learnt κs a)
 products-ordering-factorial κs a r r' s s' = one-result
 
-pub products-ordering-ordering-at : (κs : _) (a : _) → OneAnswer (ProductsOrderingOrderingAt.Learnt κs a)
-products-ordering-ordering-at κs a r r' s s' = one-result
+pub products-ordering-ordering_at : (κs : _) (a : _) → OneAnswer (ProductsOrderingOrderingAt.Learnt κs a)
+products-ordering-ordering_at κs a r r' s s' = one-result
 
 -- ---- dependency_orderings
 
-pub dependency-orderings-answering-refused : (κs : _) (a : _) → OneAnswer (DependencyOrderingsAnsweringRefused.Learnt κs a)
-dependency-orderings-answering-refused κs a r r' s s' = one-result
+pub dependency_orderings-answering-refused : (κs : _) (a : _) → OneAnswer (DependencyOrderingsAnsweringRefused.Learnt κs a)
+dependency_orderings-answering-refused κs a r r' s s' = one-result
 
-pub dependency-orderings-answering-answer-prefixes : (κs : _) (a : _) → OneWith (λ s. s.1.1.0.now) (DependencyOrderingsAnsweringAnswerPrefixes.Learnt κs a)
-dependency-orderings-answering-answer-prefixes κs a r r' s s' = one-result
+pub dependency_orderings-answering-answer_prefixes : (κs : _) (a : _) → OneWith (λ s. s.1.1.0.now) (DependencyOrderingsAnsweringAnswerPrefixes.Learnt κs a)
+dependency_orderings-answering-answer_prefixes κs a r r' s s' = one-result
 
-pub dependency-orderings-checking-prefix-number : (κs : _) (a : _) → OneAnswer (DependencyOrderingsCheckingPrefixNumber.Learnt κs a)
-dependency-orderings-checking-prefix-number κs a r r' s s' = one-result
+pub dependency_orderings-checking-prefix_number : (κs : _) (a : _) → OneAnswer (DependencyOrderingsCheckingPrefixNumber.Learnt κs a)
+dependency_orderings-checking-prefix_number κs a r r' s s' = one-result
 
-pub dependency-orderings-checking-generate-number : (κs : _) (a : _) → OneAnswer (DependencyOrderingsCheckingGenerateNumber.Learnt κs a)
-dependency-orderings-checking-generate-number κs a r r' s s' = one-result
+pub dependency_orderings-checking-generate_number : (κs : _) (a : _) → OneAnswer (DependencyOrderingsCheckingGenerateNumber.Learnt κs a)
+dependency_orderings-checking-generate_number κs a r r' s s' = one-result
 
-pub dependency-orderings-construct-prefix-orderings : (κs : _) (a : _) → OneWith (λ s. s.1.1.1.1.0.now) (DependencyOrderingsConstructPrefixOrderings.Learnt κs a)
-dependency-orderings-construct-prefix-orderings κs a r r' s s' = one-result
+pub dependency_orderings-construct_prefix_orderings : (κs : _) (a : _) → OneWith (λ s. s.1.1.1.1.0.now) (DependencyOrderingsConstructPrefixOrderings.Learnt κs a)
+dependency_orderings-construct_prefix_orderings κs a r r' s s' = one-result
 
-pub dependency-orderings-generate-dependency-orderings : (κs : _) (a : _) → OneWith (λ s. s.1.1.1.0.now) (DependencyOrderingsGenerateDependencyOrderings.Learnt κs a)
-dependency-orderings-generate-dependency-orderings κs a r r' s s' = one-result
+pub dependency_orderings-generate_dependency_orderings : (κs : _) (a : _) → OneWith (λ s. s.1.1.1.0.now) (DependencyOrderingsGenerateDependencyOrderings.Learnt κs a)
+dependency_orderings-generate_dependency_orderings κs a r r' s s' = one-result
 
-pub dependency-orderings-writing-measure-all : (κs : _) (a : _) → OneAnswer (DependencyOrderingsWritingMeasureAll.Learnt κs a)
-dependency-orderings-writing-measure-all κs a r r' s s' = one-result
+pub dependency_orderings-writing-measure_all : (κs : _) (a : _) → OneAnswer (DependencyOrderingsWritingMeasureAll.Learnt κs a)
+dependency_orderings-writing-measure_all κs a r r' s s' = one-result

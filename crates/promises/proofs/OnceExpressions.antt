@@ -30,17 +30,17 @@ use Rattle.shifting.proofs.shifting.shift_in.Reads as ShiftingShiftingShiftIn
 
 -- ---- arena
 
-pub arena-adding-column-row : (κs : _) (a : _) → OneAnswer (ArenaAddingColumnRow.Learnt κs a)
-arena-adding-column-row κs a r r' s s' = one-result
+pub arena-adding-column_row : (κs : _) (a : _) → OneAnswer (ArenaAddingColumnRow.Learnt κs a)
+arena-adding-column_row κs a r r' s s' = one-result
 
-pub arena-adding-literal-row : (κs : _) (a : _) → OneAnswer (ArenaAddingLiteralRow.Learnt κs a)
-arena-adding-literal-row κs a r r' s s' = one-result
+pub arena-adding-literal_row : (κs : _) (a : _) → OneAnswer (ArenaAddingLiteralRow.Learnt κs a)
+arena-adding-literal_row κs a r r' s s' = one-result
 
-pub arena-adding-operation-row : (κs : _) (a : _) → OneAnswer (ArenaAddingOperationRow.Learnt κs a)
-arena-adding-operation-row κs a r r' s s' = one-result
+pub arena-adding-operation_row : (κs : _) (a : _) → OneAnswer (ArenaAddingOperationRow.Learnt κs a)
+arena-adding-operation_row κs a r r' s s' = one-result
 
-pub arena-adding-all-below : (κs : _) (a : _) → OneAnswer (ArenaAddingAllBelow.Learnt κs a)
-arena-adding-all-below κs a r r' s s' = one-result
+pub arena-adding-all_below : (κs : _) (a : _) → OneAnswer (ArenaAddingAllBelow.Learnt κs a)
+arena-adding-all_below κs a r r' s s' = one-result
 
 pub arena-adding-place : (κs : _) (a : _) → OneWith (λ s. s.0.now) (ArenaAddingPlace.Learnt κs a)
 arena-adding-place κs a r r' s s' = one-result
@@ -51,38 +51,38 @@ arena-cells-wide κs a r r' s s' = one-result
 pub arena-cells-narrow : (κs : _) (a : _) → OneAnswer (ArenaCellsNarrow.Learnt κs a)
 arena-cells-narrow κs a r r' s s' = one-result
 
-pub arena-cells-node-count : (κs : _) (a : _) → OneAnswer (ArenaCellsNodeCount.Learnt κs a)
-arena-cells-node-count κs a r r' s s' = one-result
+pub arena-cells-node_count : (κs : _) (a : _) → OneAnswer (ArenaCellsNodeCount.Learnt κs a)
+arena-cells-node_count κs a r r' s s' = one-result
 
-pub arena-cells-cell-of : (κs : _) (a : _) → OneAnswer (ArenaCellsCellOf.Learnt κs a)
-arena-cells-cell-of κs a r r' s s' = one-result
+pub arena-cells-cell_of : (κs : _) (a : _) → OneAnswer (ArenaCellsCellOf.Learnt κs a)
+arena-cells-cell_of κs a r r' s s' = one-result
 
-pub arena-cells-row-of : (κs : _) (a : _) → OneAnswer (ArenaCellsRowOf.Learnt κs a)
-arena-cells-row-of κs a r r' s s' = one-result
+pub arena-cells-row_of : (κs : _) (a : _) → OneAnswer (ArenaCellsRowOf.Learnt κs a)
+arena-cells-row_of κs a r r' s s' = one-result
 
-pub arena-checking-row-below : (κs : _) (a : _) → OneAnswer (ArenaCheckingRowBelow.Learnt κs a)
-arena-checking-row-below κs a r r' s s' = one-result
+pub arena-checking-row_below : (κs : _) (a : _) → OneAnswer (ArenaCheckingRowBelow.Learnt κs a)
+arena-checking-row_below κs a r r' s s' = one-result
 
-pub arena-checking-lawful-arena : (κs : _) (a : _) → OneAnswer (ArenaCheckingLawfulArena.Learnt κs a)
-arena-checking-lawful-arena κs a r r' s s' = one-result
+pub arena-checking-lawful_arena : (κs : _) (a : _) → OneAnswer (ArenaCheckingLawfulArena.Learnt κs a)
+arena-checking-lawful_arena κs a r r' s s' = one-result
 
-pub arena-check-arena : (κs : _) (a : _) → OneAnswer (ArenaCheckArena.Learnt κs a)
-arena-check-arena κs a r r' s s' = one-result
+pub arena-check_arena : (κs : _) (a : _) → OneAnswer (ArenaCheckArena.Learnt κs a)
+arena-check_arena κs a r r' s s' = one-result
 
-pub arena-add-column : (κs : _) (a : _) → OneWith (λ s. s.0.now) (ArenaAddColumn.Learnt κs a)
-arena-add-column κs a r r' s s' = one-result
+pub arena-add_column : (κs : _) (a : _) → OneWith (λ s. s.0.now) (ArenaAddColumn.Learnt κs a)
+arena-add_column κs a r r' s s' = one-result
 
-pub arena-add-literal : (κs : _) (a : _) → OneWith (λ s. s.0.now) (ArenaAddLiteral.Learnt κs a)
-arena-add-literal κs a r r' s s' = one-result
+pub arena-add_literal : (κs : _) (a : _) → OneWith (λ s. s.0.now) (ArenaAddLiteral.Learnt κs a)
+arena-add_literal κs a r r' s s' = one-result
 
-pub arena-add-operation : (κs : _) (a : _) → OneWith (λ s. s.0.now) (ArenaAddOperation.Learnt κs a)
-arena-add-operation κs a r r' s s' = one-result
+pub arena-add_operation : (κs : _) (a : _) → OneWith (λ s. s.0.now) (ArenaAddOperation.Learnt κs a)
+arena-add_operation κs a r r' s s' = one-result
 
-pub arena-read-node : (κs : _) (a : _) → OneAnswer (ArenaReadNode.Learnt κs a)
-arena-read-node κs a r r' s s' = one-result
+pub arena-read_node : (κs : _) (a : _) → OneAnswer (ArenaReadNode.Learnt κs a)
+arena-read_node κs a r r' s s' = one-result
 
-pub arena-read-child : (κs : _) (a : _) → OneAnswer (ArenaReadChild.Learnt κs a)
-arena-read-child κs a r r' s s' = one-result
+pub arena-read_child : (κs : _) (a : _) → OneAnswer (ArenaReadChild.Learnt κs a)
+arena-read_child κs a r r' s s' = one-result
 
 pub arena-memo-note : (κs : _) (a : _) → OneLent (λ s. s.0.now) (ArenaMemoNote.Learnt κs a)
 arena-memo-note κs a r r' s s' = one-result
@@ -90,22 +90,22 @@ arena-memo-note κs a r r' s s' = one-result
 pub arena-memo-refused : (κs : _) (a : _) → OneAnswer (ArenaMemoRefused.Learnt κs a)
 arena-memo-refused κs a r r' s s' = one-result
 
-pub arena-reading-read-in : (κs : _) (a : _) → OneAnswer (ArenaReadingReadIn.Learnt κs a)
-arena-reading-read-in κs a r r' s s' = one-result
+pub arena-reading-read_in : (κs : _) (a : _) → OneAnswer (ArenaReadingReadIn.Learnt κs a)
+arena-reading-read_in κs a r r' s s' = one-result
 
-pub arena-reading-child-count : (κs : _) (a : _) → OneAnswer (ArenaReadingChildCount.Learnt κs a)
-arena-reading-child-count κs a r r' s s' = one-result
+pub arena-reading-child_count : (κs : _) (a : _) → OneAnswer (ArenaReadingChildCount.Learnt κs a)
+arena-reading-child_count κs a r r' s s' = one-result
 
-pub arena-reading-child-in : (κs : _) (a : _) → OneAnswer (ArenaReadingChildIn.Learnt κs a)
-arena-reading-child-in κs a r r' s s' = one-result
+pub arena-reading-child_in : (κs : _) (a : _) → OneAnswer (ArenaReadingChildIn.Learnt κs a)
+arena-reading-child_in κs a r r' s s' = one-result
 
 -- ---- shifting
 
-pub shifting-add-offset-to-expr : (κs : _) (a : _) → OneWith (λ s. s.0.now) (ShiftingAddOffsetToExpr.Learnt κs a)
-shifting-add-offset-to-expr κs a r r' s s' = one-result
+pub shifting-add_offset_to_expr : (κs : _) (a : _) → OneWith (λ s. s.0.now) (ShiftingAddOffsetToExpr.Learnt κs a)
+shifting-add_offset_to_expr κs a r r' s s' = one-result
 
-pub shifting-shifting-can-move : (κs : _) (a : _) → OneAnswer (ShiftingShiftingCanMove.Learnt κs a)
-shifting-shifting-can-move κs a r r' s s' = one-result
+pub shifting-shifting-can_move : (κs : _) (a : _) → OneAnswer (ShiftingShiftingCanMove.Learnt κs a)
+shifting-shifting-can_move κs a r r' s s' = one-result
 
-pub shifting-shifting-shift-in : (κs : _) (a : _) → OneWith (λ s. s.0.now) (ShiftingShiftingShiftIn.Learnt κs a)
-shifting-shifting-shift-in κs a r r' s s' = one-result
+pub shifting-shifting-shift_in : (κs : _) (a : _) → OneWith (λ s. s.0.now) (ShiftingShiftingShiftIn.Learnt κs a)
+shifting-shifting-shift_in κs a r r' s s' = one-result

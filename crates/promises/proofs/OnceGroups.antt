@@ -53,147 +53,147 @@ use Rattle.sort_keys.proofs.normalize_sort_exprs.Reads as SortKeysNormalizeSortE
 pub classes-building-empty : (κs : _) (a : _) → OneAnswer (ClassesBuildingEmpty.Learnt κs a)
 classes-building-empty κs a r r' s s' = one-result
 
-pub classes-building-class-start : (κs : _) (a : _) → OneAnswer (ClassesBuildingClassStart.Learnt κs a)
-classes-building-class-start κs a r r' s s' = one-result
+pub classes-building-class_start : (κs : _) (a : _) → OneAnswer (ClassesBuildingClassStart.Learnt κs a)
+classes-building-class_start κs a r r' s s' = one-result
 
-pub classes-building-taken-over : (κs : _) (a : _) → OneAnswer (ClassesBuildingTakenOver.Learnt κs a)
-classes-building-taken-over κs a r r' s s' = one-result
+pub classes-building-taken_over : (κs : _) (a : _) → OneAnswer (ClassesBuildingTakenOver.Learnt κs a)
+classes-building-taken_over κs a r r' s s' = one-result
 
-pub classes-building-mark-from : (κs : _) (a : _) → OneAnswer (ClassesBuildingMarkFrom.Learnt κs a)
-classes-building-mark-from κs a r r' s s' = one-result
+pub classes-building-mark_from : (κs : _) (a : _) → OneAnswer (ClassesBuildingMarkFrom.Learnt κs a)
+classes-building-mark_from κs a r r' s s' = one-result
 
-pub classes-building-mark-of : (κs : _) (a : _) → OneAnswer (ClassesBuildingMarkOf.Learnt κs a)
-classes-building-mark-of κs a r r' s s' = one-result
+pub classes-building-mark_of : (κs : _) (a : _) → OneAnswer (ClassesBuildingMarkOf.Learnt κs a)
+classes-building-mark_of κs a r r' s s' = one-result
 
-pub classes-building-add-class : (κs : _) (a : _) → OneAnswer (ClassesBuildingAddClass.Learnt κs a)
-classes-building-add-class κs a r r' s s' = one-result
+pub classes-building-add_class : (κs : _) (a : _) → OneAnswer (ClassesBuildingAddClass.Learnt κs a)
+classes-building-add_class κs a r r' s s' = one-result
 
-pub classes-building-merge-last : (κs : _) (a : _) → OneAnswer (ClassesBuildingMergeLast.Learnt κs a)
-classes-building-merge-last κs a r r' s s' = one-result
+pub classes-building-merge_last : (κs : _) (a : _) → OneAnswer (ClassesBuildingMergeLast.Learnt κs a)
+classes-building-merge_last κs a r r' s s' = one-result
 
-pub classes-building-set-constant : (κs : _) (a : _) → OneAnswer (ClassesBuildingSetConstant.Learnt κs a)
-classes-building-set-constant κs a r r' s s' = one-result
+pub classes-building-set_constant : (κs : _) (a : _) → OneAnswer (ClassesBuildingSetConstant.Learnt κs a)
+classes-building-set_constant κs a r r' s s' = one-result
 
-pub classes-building-remove-class-at-idx : (κs : _) (a : _) → OneAnswer (ClassesBuildingRemoveClassAtIdx.Learnt κs a)
-classes-building-remove-class-at-idx κs a r r' s s' = one-result
+pub classes-building-remove_class_at_idx : (κs : _) (a : _) → OneAnswer (ClassesBuildingRemoveClassAtIdx.Learnt κs a)
+classes-building-remove_class_at_idx κs a r r' s s' = one-result
 
-pub classes-building-merge-class-at-idx : (κs : _) (a : _) → OneAnswer (ClassesBuildingMergeClassAtIdx.Learnt κs a)
-classes-building-merge-class-at-idx κs a r r' s s' = one-result
+pub classes-building-merge_class_at_idx : (κs : _) (a : _) → OneAnswer (ClassesBuildingMergeClassAtIdx.Learnt κs a)
+classes-building-merge_class_at_idx κs a r r' s s' = one-result
 
-pub classes-building-first-member : (κs : _) (a : _) → OneAnswer (ClassesBuildingFirstMember.Learnt κs a)
-classes-building-first-member κs a r r' s s' = one-result
+pub classes-building-first_member : (κs : _) (a : _) → OneAnswer (ClassesBuildingFirstMember.Learnt κs a)
+classes-building-first_member κs a r r' s s' = one-result
 
-pub classes-building-class-size : (κs : _) (a : _) → OneAnswer (ClassesBuildingClassSize.Learnt κs a)
-classes-building-class-size κs a r r' s s' = one-result
+pub classes-building-class_size : (κs : _) (a : _) → OneAnswer (ClassesBuildingClassSize.Learnt κs a)
+classes-building-class_size κs a r r' s s' = one-result
 
-pub classes-finding-find-class : (κs : _) (a : _) → OneAnswer (ClassesFindingFindClass.Learnt κs a)
-classes-finding-find-class κs a r r' s s' = one-result
+pub classes-finding-find_class : (κs : _) (a : _) → OneAnswer (ClassesFindingFindClass.Learnt κs a)
+classes-finding-find_class κs a r r' s s' = one-result
 
-pub classes-refusing-no-group : (κs : _) (a : _) → OneAnswer (ClassesRefusingNoGroup.Learnt κs a)
-classes-refusing-no-group κs a r r' s s' = one-result
+pub classes-refusing-no_group : (κs : _) (a : _) → OneAnswer (ClassesRefusingNoGroup.Learnt κs a)
+classes-refusing-no_group κs a r r' s s' = one-result
 
-pub classes-single-carried-mark : (κs : _) (a : _) → OneAnswer (ClassesSingleCarriedMark.Learnt κs a)
-classes-single-carried-mark κs a r r' s s' = one-result
+pub classes-single-carried_mark : (κs : _) (a : _) → OneAnswer (ClassesSingleCarriedMark.Learnt κs a)
+classes-single-carried_mark κs a r r' s s' = one-result
 
-pub classes-single-one-class : (κs : _) (a : _) → OneAnswer (ClassesSingleOneClass.Learnt κs a)
-classes-single-one-class κs a r r' s s' = one-result
+pub classes-single-one_class : (κs : _) (a : _) → OneAnswer (ClassesSingleOneClass.Learnt κs a)
+classes-single-one_class κs a r r' s s' = one-result
 
-pub classes-single-single-group : (κs : _) (a : _) → OneAnswer (ClassesSingleSingleGroup.Learnt κs a)
-classes-single-single-group κs a r r' s s' = one-result
+pub classes-single-single_group : (κs : _) (a : _) → OneAnswer (ClassesSingleSingleGroup.Learnt κs a)
+classes-single-single_group κs a r r' s s' = one-result
 
 -- ---- group_checks
 
-pub group-checks-checking-known-flavour : (κs : _) (a : _) → OneAnswer (GroupChecksCheckingKnownFlavour.Learnt κs a)
-group-checks-checking-known-flavour κs a r r' s s' = one-result
+pub group_checks-checking-known_flavour : (κs : _) (a : _) → OneAnswer (GroupChecksCheckingKnownFlavour.Learnt κs a)
+group_checks-checking-known_flavour κs a r r' s s' = one-result
 
-pub group-checks-checking-in-set : (κs : _) (a : _) → OneAnswer (GroupChecksCheckingInSet.Learnt κs a)
-group-checks-checking-in-set κs a r r' s s' = one-result
+pub group_checks-checking-in_set : (κs : _) (a : _) → OneAnswer (GroupChecksCheckingInSet.Learnt κs a)
+group_checks-checking-in_set κs a r r' s s' = one-result
 
-pub group-checks-checking-members-below : (κs : _) (a : _) → OneAnswer (GroupChecksCheckingMembersBelow.Learnt κs a)
-group-checks-checking-members-below κs a r r' s s' = one-result
+pub group_checks-checking-members_below : (κs : _) (a : _) → OneAnswer (GroupChecksCheckingMembersBelow.Learnt κs a)
+group_checks-checking-members_below κs a r r' s s' = one-result
 
-pub group-checks-checking-member-fits : (κs : _) (a : _) → OneAnswer (GroupChecksCheckingMemberFits.Learnt κs a)
-group-checks-checking-member-fits κs a r r' s s' = one-result
+pub group_checks-checking-member_fits : (κs : _) (a : _) → OneAnswer (GroupChecksCheckingMemberFits.Learnt κs a)
+group_checks-checking-member_fits κs a r r' s s' = one-result
 
-pub group-checks-checking-lawful-group : (κs : _) (a : _) → OneAnswer (GroupChecksCheckingLawfulGroup.Learnt κs a)
-group-checks-checking-lawful-group κs a r r' s s' = one-result
+pub group_checks-checking-lawful_group : (κs : _) (a : _) → OneAnswer (GroupChecksCheckingLawfulGroup.Learnt κs a)
+group_checks-checking-lawful_group κs a r r' s s' = one-result
 
-pub group-checks-checking-check-group : (κs : _) (a : _) → OneAnswer (GroupChecksCheckingCheckGroup.Learnt κs a)
-group-checks-checking-check-group κs a r r' s s' = one-result
+pub group_checks-checking-check_group : (κs : _) (a : _) → OneAnswer (GroupChecksCheckingCheckGroup.Learnt κs a)
+group_checks-checking-check_group κs a r r' s s' = one-result
 
-pub group-checks-open-group : (κs : _) (a : _) → OneAnswer (GroupChecksOpenGroup.Learnt κs a)
-group-checks-open-group κs a r r' s s' = one-result
+pub group_checks-open_group : (κs : _) (a : _) → OneAnswer (GroupChecksOpenGroup.Learnt κs a)
+group_checks-open_group κs a r r' s s' = one-result
 
-pub group-checks-check : (κs : _) (a : _) → OneAnswer (GroupChecksCheck.Learnt κs a)
-group-checks-check κs a r r' s s' = one-result
+pub group_checks-check : (κs : _) (a : _) → OneAnswer (GroupChecksCheck.Learnt κs a)
+group_checks-check κs a r r' s s' = one-result
 
-pub group-checks-get-equivalence-class : (κs : _) (a : _) → OneAnswer (GroupChecksGetEquivalenceClass.Learnt κs a)
-group-checks-get-equivalence-class κs a r r' s s' = one-result
+pub group_checks-get_equivalence_class : (κs : _) (a : _) → OneAnswer (GroupChecksGetEquivalenceClass.Learnt κs a)
+group_checks-get_equivalence_class κs a r r' s s' = one-result
 
 -- ---- conditions
 
-pub conditions-clearing-clear-in : (κs : _) (a : _) → OneAnswer (ConditionsClearingClearIn.Learnt κs a)
-conditions-clearing-clear-in κs a r r' s s' = one-result
+pub conditions-clearing-clear_in : (κs : _) (a : _) → OneAnswer (ConditionsClearingClearIn.Learnt κs a)
+conditions-clearing-clear_in κs a r r' s s' = one-result
 
-pub conditions-constants-can-say : (κs : _) (a : _) → OneAnswer (ConditionsConstantsCanSay.Learnt κs a)
-conditions-constants-can-say κs a r r' s s' = one-result
+pub conditions-constants-can_say : (κs : _) (a : _) → OneAnswer (ConditionsConstantsCanSay.Learnt κs a)
+conditions-constants-can_say κs a r r' s s' = one-result
 
-pub conditions-constants-add-constant-in : (κs : _) (a : _) → OneAnswer (ConditionsConstantsAddConstantIn.Learnt κs a)
-conditions-constants-add-constant-in κs a r r' s s' = one-result
+pub conditions-constants-add_constant_in : (κs : _) (a : _) → OneAnswer (ConditionsConstantsAddConstantIn.Learnt κs a)
+conditions-constants-add_constant_in κs a r r' s s' = one-result
 
-pub conditions-equating-equal-condition-in : (κs : _) (a : _) → OneAnswer (ConditionsEquatingEqualConditionIn.Learnt κs a)
-conditions-equating-equal-condition-in κs a r r' s s' = one-result
+pub conditions-equating-equal_condition_in : (κs : _) (a : _) → OneAnswer (ConditionsEquatingEqualConditionIn.Learnt κs a)
+conditions-equating-equal_condition_in κs a r r' s s' = one-result
 
-pub conditions-add-equal-conditions : (κs : _) (a : _) → OneAnswer (ConditionsAddEqualConditions.Learnt κs a)
-conditions-add-equal-conditions κs a r r' s s' = one-result
+pub conditions-add_equal_conditions : (κs : _) (a : _) → OneAnswer (ConditionsAddEqualConditions.Learnt κs a)
+conditions-add_equal_conditions κs a r r' s s' = one-result
 
-pub conditions-add-constant : (κs : _) (a : _) → OneAnswer (ConditionsAddConstant.Learnt κs a)
-conditions-add-constant κs a r r' s s' = one-result
+pub conditions-add_constant : (κs : _) (a : _) → OneAnswer (ConditionsAddConstant.Learnt κs a)
+conditions-add_constant κs a r r' s s' = one-result
 
-pub conditions-clear-per-partition-constants : (κs : _) (a : _) → OneAnswer (ConditionsClearPerPartitionConstants.Learnt κs a)
-conditions-clear-per-partition-constants κs a r r' s s' = one-result
+pub conditions-clear_per_partition_constants : (κs : _) (a : _) → OneAnswer (ConditionsClearPerPartitionConstants.Learnt κs a)
+conditions-clear_per_partition_constants κs a r r' s s' = one-result
 
 -- ---- questions
 
-pub questions-exprs-equal : (κs : _) (a : _) → OneAnswer (QuestionsExprsEqual.Learnt κs a)
-questions-exprs-equal κs a r r' s s' = one-result
+pub questions-exprs_equal : (κs : _) (a : _) → OneAnswer (QuestionsExprsEqual.Learnt κs a)
+questions-exprs_equal κs a r r' s s' = one-result
 
-pub questions-is-expr-constant : (κs : _) (a : _) → OneAnswer (QuestionsIsExprConstant.Learnt κs a)
-questions-is-expr-constant κs a r r' s s' = one-result
+pub questions-is_expr_constant : (κs : _) (a : _) → OneAnswer (QuestionsIsExprConstant.Learnt κs a)
+questions-is_expr_constant κs a r r' s s' = one-result
 
-pub questions-questions-same-place : (κs : _) (a : _) → OneAnswer (QuestionsQuestionsSamePlace.Learnt κs a)
-questions-questions-same-place κs a r r' s s' = one-result
+pub questions-questions-same_place : (κs : _) (a : _) → OneAnswer (QuestionsQuestionsSamePlace.Learnt κs a)
+questions-questions-same_place κs a r r' s s' = one-result
 
-pub questions-questions-equal-in : (κs : _) (a : _) → OneAnswer (QuestionsQuestionsEqualIn.Learnt κs a)
-questions-questions-equal-in κs a r r' s s' = one-result
+pub questions-questions-equal_in : (κs : _) (a : _) → OneAnswer (QuestionsQuestionsEqualIn.Learnt κs a)
+questions-questions-equal_in κs a r r' s s' = one-result
 
-pub questions-questions-constant-in : (κs : _) (a : _) → OneAnswer (QuestionsQuestionsConstantIn.Learnt κs a)
-questions-questions-constant-in κs a r r' s s' = one-result
+pub questions-questions-constant_in : (κs : _) (a : _) → OneAnswer (QuestionsQuestionsConstantIn.Learnt κs a)
+questions-questions-constant_in κs a r r' s s' = one-result
 
 -- ---- normal
 
-pub normal-normalize-expr : (κs : _) (a : _) → OneWith (λ s. s.0.now) (NormalNormalizeExpr.Learnt κs a)
-normal-normalize-expr κs a r r' s s' = one-result
+pub normal-normalize_expr : (κs : _) (a : _) → OneWith (λ s. s.0.now) (NormalNormalizeExpr.Learnt κs a)
+normal-normalize_expr κs a r r' s s' = one-result
 
-pub normal-normalizing-normalize-in : (κs : _) (a : _) → OneWith (λ s. s.0.now) (NormalNormalizingNormalizeIn.Learnt κs a)
-normal-normalizing-normalize-in κs a r r' s s' = one-result
+pub normal-normalizing-normalize_in : (κs : _) (a : _) → OneWith (λ s. s.0.now) (NormalNormalizingNormalizeIn.Learnt κs a)
+normal-normalizing-normalize_in κs a r r' s s' = one-result
 
 -- ---- sort_keys
 
-pub sort-keys-keys-no-keys : (κs : _) (a : _) → OneAnswer (SortKeysKeysNoKeys.Learnt κs a)
-sort-keys-keys-no-keys κs a r r' s s' = one-result
+pub sort_keys-keys-no_keys : (κs : _) (a : _) → OneAnswer (SortKeysKeysNoKeys.Learnt κs a)
+sort_keys-keys-no_keys κs a r r' s s' = one-result
 
-pub sort-keys-keys-options-known : (κs : _) (a : _) → OneAnswer (SortKeysKeysOptionsKnown.Learnt κs a)
-sort-keys-keys-options-known κs a r r' s s' = one-result
+pub sort_keys-keys-options_known : (κs : _) (a : _) → OneAnswer (SortKeysKeysOptionsKnown.Learnt κs a)
+sort_keys-keys-options_known κs a r r' s s' = one-result
 
-pub sort-keys-keys-exprs-below : (κs : _) (a : _) → OneAnswer (SortKeysKeysExprsBelow.Learnt κs a)
-sort-keys-keys-exprs-below κs a r r' s s' = one-result
+pub sort_keys-keys-exprs_below : (κs : _) (a : _) → OneAnswer (SortKeysKeysExprsBelow.Learnt κs a)
+sort_keys-keys-exprs_below κs a r r' s s' = one-result
 
-pub sort-keys-keys-sort-in : (κs : _) (a : _) → OneWith (λ s. s.0.now) (SortKeysKeysSortIn.Learnt κs a)
-sort-keys-keys-sort-in κs a r r' s s' = one-result
+pub sort_keys-keys-sort_in : (κs : _) (a : _) → OneWith (λ s. s.0.now) (SortKeysKeysSortIn.Learnt κs a)
+sort_keys-keys-sort_in κs a r r' s s' = one-result
 
-pub sort-keys-normalize-sort-expr : (κs : _) (a : _) → OneWith (λ s. s.0.now) (SortKeysNormalizeSortExpr.Learnt κs a)
-sort-keys-normalize-sort-expr κs a r r' s s' = one-result
+pub sort_keys-normalize_sort_expr : (κs : _) (a : _) → OneWith (λ s. s.0.now) (SortKeysNormalizeSortExpr.Learnt κs a)
+sort_keys-normalize_sort_expr κs a r r' s s' = one-result
 
-pub sort-keys-normalize-sort-exprs : (κs : _) (a : _) → OneWith (λ s. s.0.now) (SortKeysNormalizeSortExprs.Learnt κs a)
-sort-keys-normalize-sort-exprs κs a r r' s s' = one-result
+pub sort_keys-normalize_sort_exprs : (κs : _) (a : _) → OneWith (λ s. s.0.now) (SortKeysNormalizeSortExprs.Learnt κs a)
+sort_keys-normalize_sort_exprs κs a r r' s s' = one-result

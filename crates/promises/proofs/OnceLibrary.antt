@@ -45,125 +45,125 @@ use Rattle.galthumir.proofs.sessions.galthumir_session.Reads as GalthumirSession
 
 -- ---- galthumir
 
-pub galthumir-expressions-galthumir-check-arena : (κs : _) (a : _) → OneAnswer (GalthumirExpressionsGalthumirCheckArena.Learnt κs a)
-galthumir-expressions-galthumir-check-arena κs a r r' s s' = one-result
+pub galthumir-expressions-galthumir_check_arena : (κs : _) (a : _) → OneAnswer (GalthumirExpressionsGalthumirCheckArena.Learnt κs a)
+galthumir-expressions-galthumir_check_arena κs a r r' s s' = one-result
 
-pub galthumir-expressions-galthumir-add-column : (κs : _) (a : _) → OneWithBoth (λ s. s.1.1.1.0.now) (λ s. s.0.now) (GalthumirExpressionsGalthumirAddColumn.Learnt κs a)
-galthumir-expressions-galthumir-add-column κs a r r' s s' = one-result
+pub galthumir-expressions-galthumir_add_column : (κs : _) (a : _) → OneWithBoth (λ s. s.1.1.1.0.now) (λ s. s.0.now) (GalthumirExpressionsGalthumirAddColumn.Learnt κs a)
+galthumir-expressions-galthumir_add_column κs a r r' s s' = one-result
 
-pub galthumir-expressions-galthumir-add-literal : (κs : _) (a : _) → OneWithBoth (λ s. s.1.1.0.now) (λ s. s.0.now) (GalthumirExpressionsGalthumirAddLiteral.Learnt κs a)
-galthumir-expressions-galthumir-add-literal κs a r r' s s' = one-result
+pub galthumir-expressions-galthumir_add_literal : (κs : _) (a : _) → OneWithBoth (λ s. s.1.1.0.now) (λ s. s.0.now) (GalthumirExpressionsGalthumirAddLiteral.Learnt κs a)
+galthumir-expressions-galthumir_add_literal κs a r r' s s' = one-result
 
-pub galthumir-expressions-galthumir-add-operation : (κs : _) (a : _) → OneWithBoth (λ s. s.1.1.1.0.now) (λ s. s.0.now) (GalthumirExpressionsGalthumirAddOperation.Learnt κs a)
-galthumir-expressions-galthumir-add-operation κs a r r' s s' = one-result
+pub galthumir-expressions-galthumir_add_operation : (κs : _) (a : _) → OneWithBoth (λ s. s.1.1.1.0.now) (λ s. s.0.now) (GalthumirExpressionsGalthumirAddOperation.Learnt κs a)
+galthumir-expressions-galthumir_add_operation κs a r r' s s' = one-result
 
-pub galthumir-expressions-galthumir-read-node : (κs : _) (a : _) → OneWith (λ s. s.1.1.0.now) (GalthumirExpressionsGalthumirReadNode.Learnt κs a)
-galthumir-expressions-galthumir-read-node κs a r r' s s' = one-result
+pub galthumir-expressions-galthumir_read_node : (κs : _) (a : _) → OneWith (λ s. s.1.1.0.now) (GalthumirExpressionsGalthumirReadNode.Learnt κs a)
+galthumir-expressions-galthumir_read_node κs a r r' s s' = one-result
 
-pub galthumir-expressions-galthumir-read-child : (κs : _) (a : _) → OneWith (λ s. s.1.1.1.0.now) (GalthumirExpressionsGalthumirReadChild.Learnt κs a)
-galthumir-expressions-galthumir-read-child κs a r r' s s' = one-result
+pub galthumir-expressions-galthumir_read_child : (κs : _) (a : _) → OneWith (λ s. s.1.1.1.0.now) (GalthumirExpressionsGalthumirReadChild.Learnt κs a)
+galthumir-expressions-galthumir_read_child κs a r r' s s' = one-result
 
-pub galthumir-expressions-galthumir-add-offset-to-expr : (κs : _) (a : _) → OneWithBoth (λ s. s.1.1.1.0.now) (λ s. s.0.now) (GalthumirExpressionsGalthumirAddOffsetToExpr.Learnt κs a)
-galthumir-expressions-galthumir-add-offset-to-expr κs a r r' s s' = one-result
+pub galthumir-expressions-galthumir_add_offset_to_expr : (κs : _) (a : _) → OneWithBoth (λ s. s.1.1.1.0.now) (λ s. s.0.now) (GalthumirExpressionsGalthumirAddOffsetToExpr.Learnt κs a)
+galthumir-expressions-galthumir_add_offset_to_expr κs a r r' s s' = one-result
 
-pub galthumir-groups-galthumir-open-group : (κs : _) (a : _) → OneWith (λ s. s.1.0.now) (GalthumirGroupsGalthumirOpenGroup.Learnt κs a)
-galthumir-groups-galthumir-open-group κs a r r' s s' = one-result
+pub galthumir-groups-galthumir_open_group : (κs : _) (a : _) → OneWith (λ s. s.1.0.now) (GalthumirGroupsGalthumirOpenGroup.Learnt κs a)
+galthumir-groups-galthumir_open_group κs a r r' s s' = one-result
 
-pub galthumir-groups-galthumir-check-group : (κs : _) (a : _) → OneAnswer (GalthumirGroupsGalthumirCheckGroup.Learnt κs a)
-galthumir-groups-galthumir-check-group κs a r r' s s' = one-result
+pub galthumir-groups-galthumir_check_group : (κs : _) (a : _) → OneAnswer (GalthumirGroupsGalthumirCheckGroup.Learnt κs a)
+galthumir-groups-galthumir_check_group κs a r r' s s' = one-result
 
-pub galthumir-groups-galthumir-get-equivalence-class : (κs : _) (a : _) → OneWith (λ s. s.1.1.1.0.now) (GalthumirGroupsGalthumirGetEquivalenceClass.Learnt κs a)
-galthumir-groups-galthumir-get-equivalence-class κs a r r' s s' = one-result
+pub galthumir-groups-galthumir_get_equivalence_class : (κs : _) (a : _) → OneWith (λ s. s.1.1.1.0.now) (GalthumirGroupsGalthumirGetEquivalenceClass.Learnt κs a)
+galthumir-groups-galthumir_get_equivalence_class κs a r r' s s' = one-result
 
-pub galthumir-groups-galthumir-add-equal-conditions : (κs : _) (a : _) → OneWithBoth (λ s. s.1.1.1.1.0.now) (λ s. s.1.0.now) (GalthumirGroupsGalthumirAddEqualConditions.Learnt κs a)
-galthumir-groups-galthumir-add-equal-conditions κs a r r' s s' = one-result
+pub galthumir-groups-galthumir_add_equal_conditions : (κs : _) (a : _) → OneWithBoth (λ s. s.1.1.1.1.0.now) (λ s. s.1.0.now) (GalthumirGroupsGalthumirAddEqualConditions.Learnt κs a)
+galthumir-groups-galthumir_add_equal_conditions κs a r r' s s' = one-result
 
-pub galthumir-groups-galthumir-add-constant : (κs : _) (a : _) → OneWith (λ s. s.1.0.now) (GalthumirGroupsGalthumirAddConstant.Learnt κs a)
-galthumir-groups-galthumir-add-constant κs a r r' s s' = one-result
+pub galthumir-groups-galthumir_add_constant : (κs : _) (a : _) → OneWith (λ s. s.1.0.now) (GalthumirGroupsGalthumirAddConstant.Learnt κs a)
+galthumir-groups-galthumir_add_constant κs a r r' s s' = one-result
 
-pub galthumir-groups-galthumir-clear-per-partition-constants : (κs : _) (a : _) → OneWithBoth (λ s. s.1.1.0.now) (λ s. s.1.0.now) (GalthumirGroupsGalthumirClearPerPartitionConstants.Learnt κs a)
-galthumir-groups-galthumir-clear-per-partition-constants κs a r r' s s' = one-result
+pub galthumir-groups-galthumir_clear_per_partition_constants : (κs : _) (a : _) → OneWithBoth (λ s. s.1.1.0.now) (λ s. s.1.0.now) (GalthumirGroupsGalthumirClearPerPartitionConstants.Learnt κs a)
+galthumir-groups-galthumir_clear_per_partition_constants κs a r r' s s' = one-result
 
-pub galthumir-groups-galthumir-exprs-equal : (κs : _) (a : _) → OneWith (λ s. s.1.1.1.1.0.now) (GalthumirGroupsGalthumirExprsEqual.Learnt κs a)
-galthumir-groups-galthumir-exprs-equal κs a r r' s s' = one-result
+pub galthumir-groups-galthumir_exprs_equal : (κs : _) (a : _) → OneWith (λ s. s.1.1.1.1.0.now) (GalthumirGroupsGalthumirExprsEqual.Learnt κs a)
+galthumir-groups-galthumir_exprs_equal κs a r r' s s' = one-result
 
-pub galthumir-groups-galthumir-is-expr-constant : (κs : _) (a : _) → OneWith (λ s. s.1.1.1.0.now) (GalthumirGroupsGalthumirIsExprConstant.Learnt κs a)
-galthumir-groups-galthumir-is-expr-constant κs a r r' s s' = one-result
+pub galthumir-groups-galthumir_is_expr_constant : (κs : _) (a : _) → OneWith (λ s. s.1.1.1.0.now) (GalthumirGroupsGalthumirIsExprConstant.Learnt κs a)
+galthumir-groups-galthumir_is_expr_constant κs a r r' s s' = one-result
 
-pub galthumir-groups-galthumir-normalize-expr : (κs : _) (a : _) → OneWithBoth (λ s. s.1.1.1.0.now) (λ s. s.0.now) (GalthumirGroupsGalthumirNormalizeExpr.Learnt κs a)
-galthumir-groups-galthumir-normalize-expr κs a r r' s s' = one-result
+pub galthumir-groups-galthumir_normalize_expr : (κs : _) (a : _) → OneWithBoth (λ s. s.1.1.1.0.now) (λ s. s.0.now) (GalthumirGroupsGalthumirNormalizeExpr.Learnt κs a)
+galthumir-groups-galthumir_normalize_expr κs a r r' s s' = one-result
 
-pub galthumir-groups-galthumir-normalize-sort-expr : (κs : _) (a : _) → OneWithBoth (λ s. s.1.1.1.1.0.now) (λ s. s.0.now) (GalthumirGroupsGalthumirNormalizeSortExpr.Learnt κs a)
-galthumir-groups-galthumir-normalize-sort-expr κs a r r' s s' = one-result
+pub galthumir-groups-galthumir_normalize_sort_expr : (κs : _) (a : _) → OneWithBoth (λ s. s.1.1.1.1.0.now) (λ s. s.0.now) (GalthumirGroupsGalthumirNormalizeSortExpr.Learnt κs a)
+galthumir-groups-galthumir_normalize_sort_expr κs a r r' s s' = one-result
 
-pub galthumir-groups-galthumir-normalize-sort-exprs : (κs : _) (a : _) → OneWithBoth (λ s. s.1.1.1.0.now) (λ s. s.0.now) (GalthumirGroupsGalthumirNormalizeSortExprs.Learnt κs a)
-galthumir-groups-galthumir-normalize-sort-exprs κs a r r' s s' = one-result
+pub galthumir-groups-galthumir_normalize_sort_exprs : (κs : _) (a : _) → OneWithBoth (λ s. s.1.1.1.0.now) (λ s. s.0.now) (GalthumirGroupsGalthumirNormalizeSortExprs.Learnt κs a)
+galthumir-groups-galthumir_normalize_sort_exprs κs a r r' s s' = one-result
 
-pub galthumir-groups-galthumir-new-group : (κs : _) (a : _) → OneWith (λ s. s.1.1.0.now) (GalthumirGroupsGalthumirNewGroup.Learnt κs a)
-galthumir-groups-galthumir-new-group κs a r r' s s' = one-result
+pub galthumir-groups-galthumir_new_group : (κs : _) (a : _) → OneWith (λ s. s.1.1.0.now) (GalthumirGroupsGalthumirNewGroup.Learnt κs a)
+galthumir-groups-galthumir_new_group κs a r r' s s' = one-result
 
-pub galthumir-groups-galthumir-join : (κs : _) (a : _) → OneWithBoth (λ s. s.1.1.1.1.1.1.0.now) (λ s. s.0.now) (GalthumirGroupsGalthumirJoin.Learnt κs a)
-galthumir-groups-galthumir-join κs a r r' s s' = one-result
+pub galthumir-groups-galthumir_join : (κs : _) (a : _) → OneWithBoth (λ s. s.1.1.1.1.1.1.0.now) (λ s. s.0.now) (GalthumirGroupsGalthumirJoin.Learnt κs a)
+galthumir-groups-galthumir_join κs a r r' s s' = one-result
 
-pub galthumir-groups-galthumir-project : (κs : _) (a : _) → OneWithBoth (λ s. s.1.1.1.0.now) (λ s. s.0.now) (GalthumirGroupsGalthumirProject.Learnt κs a)
-galthumir-groups-galthumir-project κs a r r' s s' = one-result
+pub galthumir-groups-galthumir_project : (κs : _) (a : _) → OneWithBoth (λ s. s.1.1.1.0.now) (λ s. s.0.now) (GalthumirGroupsGalthumirProject.Learnt κs a)
+galthumir-groups-galthumir_project κs a r r' s s' = one-result
 
-pub galthumir-groups-galthumir-project-expr : (κs : _) (a : _) → OneWithBoth (λ s. s.1.1.1.1.0.now) (λ s. s.0.now) (GalthumirGroupsGalthumirProjectExpr.Learnt κs a)
-galthumir-groups-galthumir-project-expr κs a r r' s s' = one-result
+pub galthumir-groups-galthumir_project_expr : (κs : _) (a : _) → OneWithBoth (λ s. s.1.1.1.1.0.now) (λ s. s.0.now) (GalthumirGroupsGalthumirProjectExpr.Learnt κs a)
+galthumir-groups-galthumir_project_expr κs a r r' s s' = one-result
 
-pub galthumir-groups-galthumir-project-expressions : (κs : _) (a : _) → OneWithBoth (λ s. s.1.1.1.1.0.now) (λ s. s.0.now) (GalthumirGroupsGalthumirProjectExpressions.Learnt κs a)
-galthumir-groups-galthumir-project-expressions κs a r r' s s' = one-result
+pub galthumir-groups-galthumir_project_expressions : (κs : _) (a : _) → OneWithBoth (λ s. s.1.1.1.1.0.now) (λ s. s.0.now) (GalthumirGroupsGalthumirProjectExpressions.Learnt κs a)
+galthumir-groups-galthumir_project_expressions κs a r r' s s' = one-result
 
-pub galthumir-maps-galthumir-check-map : (κs : _) (a : _) → OneAnswer (GalthumirMapsGalthumirCheckMap.Learnt κs a)
-galthumir-maps-galthumir-check-map κs a r r' s s' = one-result
+pub galthumir-maps-galthumir_check_map : (κs : _) (a : _) → OneAnswer (GalthumirMapsGalthumirCheckMap.Learnt κs a)
+galthumir-maps-galthumir_check_map κs a r r' s s' = one-result
 
-pub galthumir-maps-galthumir-insert : (κs : _) (a : _) → OneWith (λ s. s.1.0.now) (GalthumirMapsGalthumirInsert.Learnt κs a)
-galthumir-maps-galthumir-insert κs a r r' s s' = one-result
+pub galthumir-maps-galthumir_insert : (κs : _) (a : _) → OneWith (λ s. s.1.0.now) (GalthumirMapsGalthumirInsert.Learnt κs a)
+galthumir-maps-galthumir_insert κs a r r' s s' = one-result
 
-pub galthumir-maps-galthumir-construct-prefix-orderings : (κs : _) (a : _) → OneWithBoth (λ s. s.1.1.1.1.1.0.now) (λ s. s.1.1.1.1.0.now) (GalthumirMapsGalthumirConstructPrefixOrderings.Learnt κs a)
-galthumir-maps-galthumir-construct-prefix-orderings κs a r r' s s' = one-result
+pub galthumir-maps-galthumir_construct_prefix_orderings : (κs : _) (a : _) → OneWithBoth (λ s. s.1.1.1.1.1.0.now) (λ s. s.1.1.1.1.0.now) (GalthumirMapsGalthumirConstructPrefixOrderings.Learnt κs a)
+galthumir-maps-galthumir_construct_prefix_orderings κs a r r' s s' = one-result
 
-pub galthumir-maps-galthumir-generate-dependency-orderings : (κs : _) (a : _) → OneWithBoth (λ s. s.1.1.1.1.0.now) (λ s. s.1.1.1.0.now) (GalthumirMapsGalthumirGenerateDependencyOrderings.Learnt κs a)
-galthumir-maps-galthumir-generate-dependency-orderings κs a r r' s s' = one-result
+pub galthumir-maps-galthumir_generate_dependency_orderings : (κs : _) (a : _) → OneWithBoth (λ s. s.1.1.1.1.0.now) (λ s. s.1.1.1.0.now) (GalthumirMapsGalthumirGenerateDependencyOrderings.Learnt κs a)
+galthumir-maps-galthumir_generate_dependency_orderings κs a r r' s s' = one-result
 
-pub galthumir-orders-galthumir-check-orderings : (κs : _) (a : _) → OneAnswer (GalthumirOrdersGalthumirCheckOrderings.Learnt κs a)
-galthumir-orders-galthumir-check-orderings κs a r r' s s' = one-result
+pub galthumir-orders-galthumir_check_orderings : (κs : _) (a : _) → OneAnswer (GalthumirOrdersGalthumirCheckOrderings.Learnt κs a)
+galthumir-orders-galthumir_check_orderings κs a r r' s s' = one-result
 
-pub galthumir-orders-galthumir-new-orderings : (κs : _) (a : _) → OneWith (λ s. s.1.1.0.now) (GalthumirOrdersGalthumirNewOrderings.Learnt κs a)
-galthumir-orders-galthumir-new-orderings κs a r r' s s' = one-result
+pub galthumir-orders-galthumir_new_orderings : (κs : _) (a : _) → OneWith (λ s. s.1.1.0.now) (GalthumirOrdersGalthumirNewOrderings.Learnt κs a)
+galthumir-orders-galthumir_new_orderings κs a r r' s s' = one-result
 
-pub galthumir-orders-galthumir-add-orderings : (κs : _) (a : _) → OneWith (λ s. s.1.0.now) (GalthumirOrdersGalthumirAddOrderings.Learnt κs a)
-galthumir-orders-galthumir-add-orderings κs a r r' s s' = one-result
+pub galthumir-orders-galthumir_add_orderings : (κs : _) (a : _) → OneWith (λ s. s.1.0.now) (GalthumirOrdersGalthumirAddOrderings.Learnt κs a)
+galthumir-orders-galthumir_add_orderings κs a r r' s s' = one-result
 
-pub galthumir-orders-galthumir-extend-orderings : (κs : _) (a : _) → OneWith (λ s. s.1.0.now) (GalthumirOrdersGalthumirExtendOrderings.Learnt κs a)
-galthumir-orders-galthumir-extend-orderings κs a r r' s s' = one-result
+pub galthumir-orders-galthumir_extend_orderings : (κs : _) (a : _) → OneWith (λ s. s.1.0.now) (GalthumirOrdersGalthumirExtendOrderings.Learnt κs a)
+galthumir-orders-galthumir_extend_orderings κs a r r' s s' = one-result
 
-pub galthumir-orders-galthumir-clear-orderings : (κs : _) (a : _) → OneWith (λ s. s.1.0.now) (GalthumirOrdersGalthumirClearOrderings.Learnt κs a)
-galthumir-orders-galthumir-clear-orderings κs a r r' s s' = one-result
+pub galthumir-orders-galthumir_clear_orderings : (κs : _) (a : _) → OneWith (λ s. s.1.0.now) (GalthumirOrdersGalthumirClearOrderings.Learnt κs a)
+galthumir-orders-galthumir_clear_orderings κs a r r' s s' = one-result
 
-pub galthumir-orders-galthumir-get-options : (κs : _) (a : _) → OneWith (λ s. s.1.1.1.0.now) (GalthumirOrdersGalthumirGetOptions.Learnt κs a)
-galthumir-orders-galthumir-get-options κs a r r' s s' = one-result
+pub galthumir-orders-galthumir_get_options : (κs : _) (a : _) → OneWith (λ s. s.1.1.1.0.now) (GalthumirOrdersGalthumirGetOptions.Learnt κs a)
+galthumir-orders-galthumir_get_options κs a r r' s s' = one-result
 
-pub galthumir-orders-galthumir-is-expr-partial-const : (κs : _) (a : _) → OneWith (λ s. s.1.1.1.0.now) (GalthumirOrdersGalthumirIsExprPartialConst.Learnt κs a)
-galthumir-orders-galthumir-is-expr-partial-const κs a r r' s s' = one-result
+pub galthumir-orders-galthumir_is_expr_partial_const : (κs : _) (a : _) → OneWith (λ s. s.1.1.1.0.now) (GalthumirOrdersGalthumirIsExprPartialConst.Learnt κs a)
+galthumir-orders-galthumir_is_expr_partial_const κs a r r' s s' = one-result
 
-pub galthumir-orders-galthumir-output-ordering : (κs : _) (a : _) → OneWith (λ s. s.1.1.0.now) (GalthumirOrdersGalthumirOutputOrdering.Learnt κs a)
-galthumir-orders-galthumir-output-ordering κs a r r' s s' = one-result
+pub galthumir-orders-galthumir_output_ordering : (κs : _) (a : _) → OneWith (λ s. s.1.1.0.now) (GalthumirOrdersGalthumirOutputOrdering.Learnt κs a)
+galthumir-orders-galthumir_output_ordering κs a r r' s s' = one-result
 
-pub galthumir-orders-galthumir-join-suffix : (κs : _) (a : _) → OneWith (λ s. s.1.1.1.0.now) (GalthumirOrdersGalthumirJoinSuffix.Learnt κs a)
-galthumir-orders-galthumir-join-suffix κs a r r' s s' = one-result
+pub galthumir-orders-galthumir_join_suffix : (κs : _) (a : _) → OneWith (λ s. s.1.1.1.0.now) (GalthumirOrdersGalthumirJoinSuffix.Learnt κs a)
+galthumir-orders-galthumir_join_suffix κs a r r' s s' = one-result
 
-pub galthumir-orders-galthumir-add-offset : (κs : _) (a : _) → OneWithBoth (λ s. s.1.0.now) (λ s. s.0.now) (GalthumirOrdersGalthumirAddOffset.Learnt κs a)
-galthumir-orders-galthumir-add-offset κs a r r' s s' = one-result
+pub galthumir-orders-galthumir_add_offset : (κs : _) (a : _) → OneWithBoth (λ s. s.1.0.now) (λ s. s.0.now) (GalthumirOrdersGalthumirAddOffset.Learnt κs a)
+galthumir-orders-galthumir_add_offset κs a r r' s s' = one-result
 
-pub galthumir-sessions-galthumir-read-record : (κs : _) (a : _) → OneWith (λ s. s.1.0.now) (GalthumirSessionsGalthumirReadRecord.Learnt κs a)
-galthumir-sessions-galthumir-read-record κs a r r' s s' = one-result
+pub galthumir-sessions-galthumir_read_record : (κs : _) (a : _) → OneWith (λ s. s.1.0.now) (GalthumirSessionsGalthumirReadRecord.Learnt κs a)
+galthumir-sessions-galthumir_read_record κs a r r' s s' = one-result
 
-pub galthumir-sessions-galthumir-read-group : (κs : _) (a : _) → OneWith (λ s. s.1.1.0.now) (GalthumirSessionsGalthumirReadGroup.Learnt κs a)
-galthumir-sessions-galthumir-read-group κs a r r' s s' = one-result
+pub galthumir-sessions-galthumir_read_group : (κs : _) (a : _) → OneWith (λ s. s.1.1.0.now) (GalthumirSessionsGalthumirReadGroup.Learnt κs a)
+galthumir-sessions-galthumir_read_group κs a r r' s s' = one-result
 
 pub galthumir-sessions-galthumir-chosen : (κs : _) (a : _) → OneWith (λ s. s.1.1.1.0.now) (GalthumirSessionsGalthumirChosen.Learnt κs a)
 galthumir-sessions-galthumir-chosen κs a r r' s s' = one-result
 
-pub galthumir-sessions-galthumir-session : (κs : _) (a : _) → OneWithBoth (λ s. s.1.1.0.now) (λ s. s.1.0.now) (GalthumirSessionsGalthumirSession.Learnt κs a)
-galthumir-sessions-galthumir-session κs a r r' s s' = one-result
+pub galthumir-sessions-galthumir_session : (κs : _) (a : _) → OneWithBoth (λ s. s.1.1.0.now) (λ s. s.1.0.now) (GalthumirSessionsGalthumirSession.Learnt κs a)
+galthumir-sessions-galthumir_session κs a r r' s s' = one-result

@@ -35,40 +35,40 @@ use Rattle.group_projection.proofs.projecting.project_in.Reads as GroupProjectio
 
 -- ---- lent_classes
 
-pub lent-classes-lent-number-at : (κs : _) (a : _) → OneAnswer (LentClassesLentNumberAt.Learnt κs a)
-lent-classes-lent-number-at κs a r r' s s' = one-result
+pub lent_classes-lent_number-at : (κs : _) (a : _) → OneAnswer (LentClassesLentNumberAt.Learnt κs a)
+lent_classes-lent_number-at κs a r r' s s' = one-result
 
-pub lent-classes-lent-new-number : (κs : _) (a : _) → OneAnswer (LentClassesLentNewNumber.Learnt κs a)
-lent-classes-lent-new-number κs a r r' s s' = one-result
+pub lent_classes-lent-new_number : (κs : _) (a : _) → OneAnswer (LentClassesLentNewNumber.Learnt κs a)
+lent_classes-lent-new_number κs a r r' s s' = one-result
 
-pub lent-classes-lent-lent-classes : (κs : _) (a : _) → OneAnswer (LentClassesLentLentClasses.Learnt κs a)
-lent-classes-lent-lent-classes κs a r r' s s' = one-result
+pub lent_classes-lent-lent_classes : (κs : _) (a : _) → OneAnswer (LentClassesLentLentClasses.Learnt κs a)
+lent_classes-lent-lent_classes κs a r r' s s' = one-result
 
 -- ---- merging
 
-pub merging-bridging-drop-trivial : (κs : _) (a : _) → OneAnswer (MergingBridgingDropTrivial.Learnt κs a)
-merging-bridging-drop-trivial κs a r r' s s' = one-result
+pub merging-bridging-drop_trivial : (κs : _) (a : _) → OneAnswer (MergingBridgingDropTrivial.Learnt κs a)
+merging-bridging-drop_trivial κs a r r' s s' = one-result
 
-pub merging-bridging-bridge-classes : (κs : _) (a : _) → OneAnswer (MergingBridgingBridgeClasses.Learnt κs a)
-merging-bridging-bridge-classes κs a r r' s s' = one-result
+pub merging-bridging-bridge_classes : (κs : _) (a : _) → OneAnswer (MergingBridgingBridgeClasses.Learnt κs a)
+merging-bridging-bridge_classes κs a r r' s s' = one-result
 
-pub merging-bridging-from-classes : (κs : _) (a : _) → OneAnswer (MergingBridgingFromClasses.Learnt κs a)
-merging-bridging-from-classes κs a r r' s s' = one-result
+pub merging-bridging-from_classes : (κs : _) (a : _) → OneAnswer (MergingBridgingFromClasses.Learnt κs a)
+merging-bridging-from_classes κs a r r' s s' = one-result
 
 pub merging-bridging-made : (κs : _) (a : _) → OneAnswer (MergingBridgingMade.Learnt κs a)
 merging-bridging-made κs a r r' s s' = one-result
 
-pub merging-extending-class-holds : (κs : _) (a : _) → OneAnswer (MergingExtendingClassHolds.Learnt κs a)
-merging-extending-class-holds κs a r r' s s' = one-result
+pub merging-extending-class_holds : (κs : _) (a : _) → OneAnswer (MergingExtendingClassHolds.Learnt κs a)
+merging-extending-class_holds κs a r r' s s' = one-result
 
-pub merging-extending-contains-any : (κs : _) (a : _) → OneAnswer (MergingExtendingContainsAny.Learnt κs a)
-merging-extending-contains-any κs a r r' s s' = one-result
+pub merging-extending-contains_any : (κs : _) (a : _) → OneAnswer (MergingExtendingContainsAny.Learnt κs a)
+merging-extending-contains_any κs a r r' s s' = one-result
 
-pub merging-extending-is-trivial : (κs : _) (a : _) → OneAnswer (MergingExtendingIsTrivial.Learnt κs a)
-merging-extending-is-trivial κs a r r' s s' = one-result
+pub merging-extending-is_trivial : (κs : _) (a : _) → OneAnswer (MergingExtendingIsTrivial.Learnt κs a)
+merging-extending-is_trivial κs a r r' s s' = one-result
 
-pub merging-extending-one-empty : (κs : _) (a : _) → OneAnswer (MergingExtendingOneEmpty.Learnt κs a)
-merging-extending-one-empty κs a r r' s s' = one-result
+pub merging-extending-one_empty : (κs : _) (a : _) → OneAnswer (MergingExtendingOneEmpty.Learnt κs a)
+merging-extending-one_empty κs a r r' s s' = one-result
 
 pub merging-extending-extend : (κs : _) (a : _) → OneAnswer (MergingExtendingExtend.Learnt κs a)
 merging-extending-extend κs a r r' s s' = one-result
@@ -81,61 +81,61 @@ merging-new κs a r r' s s' = one-result
 
 -- ---- shifted_classes
 
-pub shifted-classes-right-side-members-move : (κs : _) (a : _) → OneAnswer (ShiftedClassesRightSideMembersMove.Learnt κs a)
-shifted-classes-right-side-members-move κs a r r' s s' = one-result
+pub shifted_classes-right_side-members_move : (κs : _) (a : _) → OneAnswer (ShiftedClassesRightSideMembersMove.Learnt κs a)
+shifted_classes-right_side-members_move κs a r r' s s' = one-result
 
-pub shifted-classes-right-side-rights-move : (κs : _) (a : _) → OneAnswer (ShiftedClassesRightSideRightsMove.Learnt κs a)
-shifted-classes-right-side-rights-move κs a r r' s s' = one-result
+pub shifted_classes-right_side-rights_move : (κs : _) (a : _) → OneAnswer (ShiftedClassesRightSideRightsMove.Learnt κs a)
+shifted_classes-right_side-rights_move κs a r r' s s' = one-result
 
-pub shifted-classes-right-side-add-class-from : (κs : _) (a : _) → OneAnswer (ShiftedClassesRightSideAddClassFrom.Learnt κs a)
-shifted-classes-right-side-add-class-from κs a r r' s s' = one-result
+pub shifted_classes-right_side-add_class_from : (κs : _) (a : _) → OneAnswer (ShiftedClassesRightSideAddClassFrom.Learnt κs a)
+shifted_classes-right_side-add_class_from κs a r r' s s' = one-result
 
-pub shifted-classes-right-side-add-shifted : (κs : _) (a : _) → OneAnswer (ShiftedClassesRightSideAddShifted.Learnt κs a)
-shifted-classes-right-side-add-shifted κs a r r' s s' = one-result
+pub shifted_classes-right_side-add_shifted : (κs : _) (a : _) → OneAnswer (ShiftedClassesRightSideAddShifted.Learnt κs a)
+shifted_classes-right_side-add_shifted κs a r r' s s' = one-result
 
 -- ---- joins
 
-pub joins-joining-join-number : (κs : _) (a : _) → OneAnswer (JoinsJoiningJoinNumber.Learnt κs a)
-joins-joining-join-number κs a r r' s s' = one-result
+pub joins-joining-join_number : (κs : _) (a : _) → OneAnswer (JoinsJoiningJoinNumber.Learnt κs a)
+joins-joining-join_number κs a r r' s s' = one-result
 
-pub joins-joining-join-by : (κs : _) (a : _) → OneWith (λ s. s.0.now) (JoinsJoiningJoinBy.Learnt κs a)
-joins-joining-join-by κs a r r' s s' = one-result
+pub joins-joining-join_by : (κs : _) (a : _) → OneWith (λ s. s.0.now) (JoinsJoiningJoinBy.Learnt κs a)
+joins-joining-join_by κs a r r' s s' = one-result
 
-pub joins-kinds-kind-of : (κs : _) (a : _) → OneAnswer (JoinsKindsKindOf.Learnt κs a)
-joins-kinds-kind-of κs a r r' s s' = one-result
+pub joins-kinds-kind_of : (κs : _) (a : _) → OneAnswer (JoinsKindsKindOf.Learnt κs a)
+joins-kinds-kind_of κs a r r' s s' = one-result
 
 pub joins-join : (κs : _) (a : _) → OneWith (λ s. s.0.now) (JoinsJoin.Learnt κs a)
 joins-join κs a r r' s s' = one-result
 
 -- ---- mappings
 
-pub mappings-lent-project-number : (κs : _) (a : _) → OneAnswer (MappingsLentProjectNumber.Learnt κs a)
-mappings-lent-project-number κs a r r' s s' = one-result
+pub mappings-lent-project_number : (κs : _) (a : _) → OneAnswer (MappingsLentProjectNumber.Learnt κs a)
+mappings-lent-project_number κs a r r' s s' = one-result
 
 -- ---- projection
 
-pub projection-project-expr : (κs : _) (a : _) → OneWith (λ s. s.0.now) (ProjectionProjectExpr.Learnt κs a)
-projection-project-expr κs a r r' s s' = one-result
+pub projection-project_expr : (κs : _) (a : _) → OneWith (λ s. s.0.now) (ProjectionProjectExpr.Learnt κs a)
+projection-project_expr κs a r r' s s' = one-result
 
-pub projection-project-expressions : (κs : _) (a : _) → OneWithBoth (λ s. s.1.1.1.1.0.now) (λ s. s.0.now) (ProjectionProjectExpressions.Learnt κs a)
-projection-project-expressions κs a r r' s s' = one-result
+pub projection-project_expressions : (κs : _) (a : _) → OneWithBoth (λ s. s.1.1.1.1.0.now) (λ s. s.0.now) (ProjectionProjectExpressions.Learnt κs a)
+projection-project_expressions κs a r r' s s' = one-result
 
-pub projection-listing-project-list : (κs : _) (a : _) → OneWithBoth (λ s. s.1.1.1.1.0.now) (λ s. s.0.now) (ProjectionListingProjectList.Learnt κs a)
-projection-listing-project-list κs a r r' s s' = one-result
+pub projection-listing-project_list : (κs : _) (a : _) → OneWithBoth (λ s. s.1.1.1.1.0.now) (λ s. s.0.now) (ProjectionListingProjectList.Learnt κs a)
+projection-listing-project_list κs a r r' s s' = one-result
 
-pub projection-walking-project-in : (κs : _) (a : _) → OneWith (λ s. s.0.now) (ProjectionWalkingProjectIn.Learnt κs a)
-projection-walking-project-in κs a r r' s s' = one-result
+pub projection-walking-project_in : (κs : _) (a : _) → OneWith (λ s. s.0.now) (ProjectionWalkingProjectIn.Learnt κs a)
+projection-walking-project_in κs a r r' s s' = one-result
 
 -- ---- group_projection
 
-pub group-projection-constants-source-constants : (κs : _) (a : _) → OneAnswer (GroupProjectionConstantsSourceConstants.Learnt κs a)
-group-projection-constants-source-constants κs a r r' s s' = one-result
+pub group_projection-constants-source_constants : (κs : _) (a : _) → OneAnswer (GroupProjectionConstantsSourceConstants.Learnt κs a)
+group_projection-constants-source_constants κs a r r' s s' = one-result
 
-pub group-projection-project : (κs : _) (a : _) → OneWith (λ s. s.0.now) (GroupProjectionProject.Learnt κs a)
-group-projection-project κs a r r' s s' = one-result
+pub group_projection-project : (κs : _) (a : _) → OneWith (λ s. s.0.now) (GroupProjectionProject.Learnt κs a)
+group_projection-project κs a r r' s s' = one-result
 
-pub group-projection-listing-projected-list : (κs : _) (a : _) → OneAnswer (GroupProjectionListingProjectedList.Learnt κs a)
-group-projection-listing-projected-list κs a r r' s s' = one-result
+pub group_projection-listing-projected_list : (κs : _) (a : _) → OneAnswer (GroupProjectionListingProjectedList.Learnt κs a)
+group_projection-listing-projected_list κs a r r' s s' = one-result
 
-pub group-projection-projecting-project-in : (κs : _) (a : _) → OneWith (λ s. s.0.now) (GroupProjectionProjectingProjectIn.Learnt κs a)
-group-projection-projecting-project-in κs a r r' s s' = one-result
+pub group_projection-projecting-project_in : (κs : _) (a : _) → OneWith (λ s. s.0.now) (GroupProjectionProjectingProjectIn.Learnt κs a)
+group_projection-projecting-project_in κs a r r' s s' = one-result

@@ -35,20 +35,20 @@ use Rattle.ordering_joins.proofs.offsetting.offset_in.Reads as OrderingJoinsOffs
 
 -- ---- orderings
 
-pub orderings-checking-lawful-list : (κs : _) (a : _) → OneAnswer (OrderingsCheckingLawfulList.Learnt κs a)
-orderings-checking-lawful-list κs a r r' s s' = one-result
+pub orderings-checking-lawful_list : (κs : _) (a : _) → OneAnswer (OrderingsCheckingLawfulList.Learnt κs a)
+orderings-checking-lawful_list κs a r r' s s' = one-result
 
-pub orderings-checking-expr-of : (κs : _) (a : _) → OneAnswer (OrderingsCheckingExprOf.Learnt κs a)
-orderings-checking-expr-of κs a r r' s s' = one-result
+pub orderings-checking-expr_of : (κs : _) (a : _) → OneAnswer (OrderingsCheckingExprOf.Learnt κs a)
+orderings-checking-expr_of κs a r r' s s' = one-result
 
-pub orderings-checking-keys-below : (κs : _) (a : _) → OneAnswer (OrderingsCheckingKeysBelow.Learnt κs a)
-orderings-checking-keys-below κs a r r' s s' = one-result
+pub orderings-checking-keys_below : (κs : _) (a : _) → OneAnswer (OrderingsCheckingKeysBelow.Learnt κs a)
+orderings-checking-keys_below κs a r r' s s' = one-result
 
-pub orderings-checking-check-list : (κs : _) (a : _) → OneAnswer (OrderingsCheckingCheckList.Learnt κs a)
-orderings-checking-check-list κs a r r' s s' = one-result
+pub orderings-checking-check_list : (κs : _) (a : _) → OneAnswer (OrderingsCheckingCheckList.Learnt κs a)
+orderings-checking-check_list κs a r r' s s' = one-result
 
-pub orderings-checking-check-two : (κs : _) (a : _) → OneAnswer (OrderingsCheckingCheckTwo.Learnt κs a)
-orderings-checking-check-two κs a r r' s s' = one-result
+pub orderings-checking-check_two : (κs : _) (a : _) → OneAnswer (OrderingsCheckingCheckTwo.Learnt κs a)
+orderings-checking-check_two κs a r r' s s' = one-result
 
 pub orderings-check : (κs : _) (a : _) → OneAnswer (OrderingsCheck.Learnt κs a)
 orderings-check κs a r r' s s' = one-result
@@ -59,8 +59,8 @@ orderings-clear κs a r r' s s' = one-result
 pub orderings-making-nothing : (κs : _) (a : _) → OneAnswer (OrderingsMakingNothing.Learnt κs a)
 orderings-making-nothing κs a r r' s s' = one-result
 
-pub orderings-making-no-orderings : (κs : _) (a : _) → OneAnswer (OrderingsMakingNoOrderings.Learnt κs a)
-orderings-making-no-orderings κs a r r' s s' = one-result
+pub orderings-making-no_orderings : (κs : _) (a : _) → OneAnswer (OrderingsMakingNoOrderings.Learnt κs a)
+orderings-making-no_orderings κs a r r' s s' = one-result
 
 pub orderings-making-append : (κs : _) (a : _) → OneAnswer (OrderingsMakingAppend.Learnt κs a)
 orderings-making-append κs a r r' s s' = one-result
@@ -76,31 +76,31 @@ orderings-pushing-extend κs a r r' s s' = one-result
 
 -- ---- ordering_questions
 
-pub ordering-questions-get-options : (κs : _) (a : _) → OneAnswer (OrderingQuestionsGetOptions.Learnt κs a)
-ordering-questions-get-options κs a r r' s s' = one-result
+pub ordering_questions-get_options : (κs : _) (a : _) → OneAnswer (OrderingQuestionsGetOptions.Learnt κs a)
+ordering_questions-get_options κs a r r' s s' = one-result
 
-pub ordering-questions-is-expr-partial-const : (κs : _) (a : _) → OneAnswer (OrderingQuestionsIsExprPartialConst.Learnt κs a)
-ordering-questions-is-expr-partial-const κs a r r' s s' = one-result
+pub ordering_questions-is_expr_partial_const : (κs : _) (a : _) → OneAnswer (OrderingQuestionsIsExprPartialConst.Learnt κs a)
+ordering_questions-is_expr_partial_const κs a r r' s s' = one-result
 
-pub ordering-questions-questions-options-in : (κs : _) (a : _) → OneAnswer (OrderingQuestionsQuestionsOptionsIn.Learnt κs a)
-ordering-questions-questions-options-in κs a r r' s s' = one-result
+pub ordering_questions-questions-options_in : (κs : _) (a : _) → OneAnswer (OrderingQuestionsQuestionsOptionsIn.Learnt κs a)
+ordering_questions-questions-options_in κs a r r' s s' = one-result
 
-pub ordering-questions-questions-partial-in : (κs : _) (a : _) → OneAnswer (OrderingQuestionsQuestionsPartialIn.Learnt κs a)
-ordering-questions-questions-partial-in κs a r r' s s' = one-result
+pub ordering_questions-questions-partial_in : (κs : _) (a : _) → OneAnswer (OrderingQuestionsQuestionsPartialIn.Learnt κs a)
+ordering_questions-questions-partial_in κs a r r' s s' = one-result
 
 -- ---- reduction
 
-pub reduction-lent-lent-number : (κs : _) (a : _) → OneAnswer (ReductionLentLentNumber.Learnt κs a)
-reduction-lent-lent-number κs a r r' s s' = one-result
+pub reduction-lent-lent_number : (κs : _) (a : _) → OneAnswer (ReductionLentLentNumber.Learnt κs a)
+reduction-lent-lent_number κs a r r' s s' = one-result
 
-pub reduction-lent-extend-number : (κs : _) (a : _) → OneAnswer (ReductionLentExtendNumber.Learnt κs a)
-reduction-lent-extend-number κs a r r' s s' = one-result
+pub reduction-lent-extend_number : (κs : _) (a : _) → OneAnswer (ReductionLentExtendNumber.Learnt κs a)
+reduction-lent-extend_number κs a r r' s s' = one-result
 
-pub reduction-lent-add-in : (κs : _) (a : _) → OneAnswer (ReductionLentAddIn.Learnt κs a)
-reduction-lent-add-in κs a r r' s s' = one-result
+pub reduction-lent-add_in : (κs : _) (a : _) → OneAnswer (ReductionLentAddIn.Learnt κs a)
+reduction-lent-add_in κs a r r' s s' = one-result
 
-pub reduction-add-orderings : (κs : _) (a : _) → OneAnswer (ReductionAddOrderings.Learnt κs a)
-reduction-add-orderings κs a r r' s s' = one-result
+pub reduction-add_orderings : (κs : _) (a : _) → OneAnswer (ReductionAddOrderings.Learnt κs a)
+reduction-add_orderings κs a r r' s s' = one-result
 
 pub reduction-new : (κs : _) (a : _) → OneAnswer (ReductionNew.Learnt κs a)
 reduction-new κs a r r' s s' = one-result
@@ -108,28 +108,28 @@ reduction-new κs a r r' s s' = one-result
 pub reduction-extend : (κs : _) (a : _) → OneAnswer (ReductionExtend.Learnt κs a)
 reduction-extend κs a r r' s s' = one-result
 
-pub reduction-reducing-remove-redundant-entries : (κs : _) (a : _) → OneAnswer (ReductionReducingRemoveRedundantEntries.Learnt κs a)
-reduction-reducing-remove-redundant-entries κs a r r' s s' = one-result
+pub reduction-reducing-remove_redundant_entries : (κs : _) (a : _) → OneAnswer (ReductionReducingRemoveRedundantEntries.Learnt κs a)
+reduction-reducing-remove_redundant_entries κs a r r' s s' = one-result
 
 -- ---- ordering_joins
 
-pub ordering-joins-joining-no-output : (κs : _) (a : _) → OneAnswer (OrderingJoinsJoiningNoOutput.Learnt κs a)
-ordering-joins-joining-no-output κs a r r' s s' = one-result
+pub ordering_joins-joining-no_output : (κs : _) (a : _) → OneAnswer (OrderingJoinsJoiningNoOutput.Learnt κs a)
+ordering_joins-joining-no_output κs a r r' s s' = one-result
 
-pub ordering-joins-joining-output-in : (κs : _) (a : _) → OneAnswer (OrderingJoinsJoiningOutputIn.Learnt κs a)
-ordering-joins-joining-output-in κs a r r' s s' = one-result
+pub ordering_joins-joining-output_in : (κs : _) (a : _) → OneAnswer (OrderingJoinsJoiningOutputIn.Learnt κs a)
+ordering_joins-joining-output_in κs a r r' s s' = one-result
 
-pub ordering-joins-joining-join-in : (κs : _) (a : _) → OneAnswer (OrderingJoinsJoiningJoinIn.Learnt κs a)
-ordering-joins-joining-join-in κs a r r' s s' = one-result
+pub ordering_joins-joining-join_in : (κs : _) (a : _) → OneAnswer (OrderingJoinsJoiningJoinIn.Learnt κs a)
+ordering_joins-joining-join_in κs a r r' s s' = one-result
 
-pub ordering-joins-add-offset : (κs : _) (a : _) → OneWith (λ s. s.0.now) (OrderingJoinsAddOffset.Learnt κs a)
-ordering-joins-add-offset κs a r r' s s' = one-result
+pub ordering_joins-add_offset : (κs : _) (a : _) → OneWith (λ s. s.0.now) (OrderingJoinsAddOffset.Learnt κs a)
+ordering_joins-add_offset κs a r r' s s' = one-result
 
-pub ordering-joins-output-ordering : (κs : _) (a : _) → OneAnswer (OrderingJoinsOutputOrdering.Learnt κs a)
-ordering-joins-output-ordering κs a r r' s s' = one-result
+pub ordering_joins-output_ordering : (κs : _) (a : _) → OneAnswer (OrderingJoinsOutputOrdering.Learnt κs a)
+ordering_joins-output_ordering κs a r r' s s' = one-result
 
-pub ordering-joins-join-suffix : (κs : _) (a : _) → OneAnswer (OrderingJoinsJoinSuffix.Learnt κs a)
-ordering-joins-join-suffix κs a r r' s s' = one-result
+pub ordering_joins-join_suffix : (κs : _) (a : _) → OneAnswer (OrderingJoinsJoinSuffix.Learnt κs a)
+ordering_joins-join_suffix κs a r r' s s' = one-result
 
-pub ordering-joins-offsetting-offset-in : (κs : _) (a : _) → OneWith (λ s. s.0.now) (OrderingJoinsOffsettingOffsetIn.Learnt κs a)
-ordering-joins-offsetting-offset-in κs a r r' s s' = one-result
+pub ordering_joins-offsetting-offset_in : (κs : _) (a : _) → OneWith (λ s. s.0.now) (OrderingJoinsOffsettingOffsetIn.Learnt κs a)
+ordering_joins-offsetting-offset_in κs a r r' s s' = one-result

@@ -6,7 +6,7 @@ use mathlib.Core.Path.{◌≡◌, refl}
 use native.Mathlib.Omega.{arith}
 use borrow.Author.Tests.{ltb-true, ltb-false}
 use lib.Dec.{ltb}
-use Rattle.laws.proofs.Booleans.{true-not-false}
+use Rattle.laws.proofs.Booleans.{true_not_false}
 use Rattle.laws.proofs.Determined.{one-result}
 use Rattle.enumeration.specs.Inner.{Opened}
 use Rattle.enumeration.specs.declared.Seen.{Seen}
@@ -36,7 +36,7 @@ put p q = both (p.past, p.is) (q.past, q.is)
 
 -- the first place that is not told: none is lower
 not_lower : {s : Seen} {from size r r' : ℕ} → Opened s from size r → Opened s from size r' → r < r' → ⊥
-not_lower {r = r} p q l = true-not-false (q.before r p.low l) (p.here (omega (arith, l, q.high)))
+not_lower {r = r} p q l = true_not_false (q.before r p.low l) (p.here (omega (arith, l, q.high)))
 
 opened : {s : Seen} {from size r r' : ℕ} → Opened s from size r → Opened s from size r' → r ≡ r'
 opened {r = r} {r' = r'} p q = by (ltb r r') refl (ltb r' r) refl
@@ -54,18 +54,18 @@ classes-refusing-refusal κs a r r' s s' p q =
 
 -- ---- enumeration
 
-pub enumeration-marking-next-open : (κs : _) (a : _) → OneAnswer (EnumerationMarkingNextOpen.Learnt κs a)
-enumeration-marking-next-open κs a r r' s s' = opened
+pub enumeration-marking-next_open : (κs : _) (a : _) → OneAnswer (EnumerationMarkingNextOpen.Learnt κs a)
+enumeration-marking-next_open κs a r r' s s' = opened
 
 -- ---- dependency_orderings
 
 -- what was gathered is of some map and some keys, as the caller has shown
-pub dependency-orderings-answering-answer-gathered : (κs : _) (a : _) → DependencyOrderingsAnsweringAnswerGathered.Asked κs a → OneWith (λ s. s.1.0.now) (DependencyOrderingsAnsweringAnswerGathered.Learnt κs a)
-dependency-orderings-answering-answer-gathered κs a asked r r' s s' p q =
+pub dependency_orderings-answering-answer_gathered : (κs : _) (a : _) → DependencyOrderingsAnsweringAnswerGathered.Asked κs a → OneWith (λ s. s.1.0.now) (DependencyOrderingsAnsweringAnswerGathered.Learnt κs a)
+dependency_orderings-answering-answer_gathered κs a asked r r' s s' p q =
     one-result (p asked.map asked.keys asked.gathers) (q asked.map asked.keys asked.gathers)
 
-pub dependency-orderings-writing-write-all : (κs : _) (a : _) → OneWith (λ s. s.0.now) (DependencyOrderingsWritingWriteAll.Learnt κs a)
-dependency-orderings-writing-write-all κs a r r' s s' p q = both (p.0, p.1) (q.0, q.1)
+pub dependency_orderings-writing-write_all : (κs : _) (a : _) → OneWith (λ s. s.0.now) (DependencyOrderingsWritingWriteAll.Learnt κs a)
+dependency_orderings-writing-write_all κs a r r' s s' p q = both (p.0, p.1) (q.0, q.1)
 
 -- ---- records
 
@@ -74,22 +74,22 @@ records-fields-index κs a r r' s s' p q = one-result p.0 q.0
 
 -- ---- lines
 
-pub lines-put-byte : (κs : _) (a : _) → OneWith (λ s. s.0.now) (LinesPutByte.Learnt κs a)
-lines-put-byte κs a r r' s s' = put
+pub lines-put_byte : (κs : _) (a : _) → OneWith (λ s. s.0.now) (LinesPutByte.Learnt κs a)
+lines-put_byte κs a r r' s s' = put
 
-pub lines-put-two : (κs : _) (a : _) → OneWith (λ s. s.0.now) (LinesPutTwo.Learnt κs a)
-lines-put-two κs a r r' s s' = put
+pub lines-put_two : (κs : _) (a : _) → OneWith (λ s. s.0.now) (LinesPutTwo.Learnt κs a)
+lines-put_two κs a r r' s s' = put
 
-pub lines-put-three : (κs : _) (a : _) → OneWith (λ s. s.0.now) (LinesPutThree.Learnt κs a)
-lines-put-three κs a r r' s s' = put
+pub lines-put_three : (κs : _) (a : _) → OneWith (λ s. s.0.now) (LinesPutThree.Learnt κs a)
+lines-put_three κs a r r' s s' = put
 
 -- ---- transcript
 
-pub transcript-text-put-refusal : (κs : _) (a : _) → OneWith (λ s. s.0.now) (TranscriptTextPutRefusal.Learnt κs a)
-transcript-text-put-refusal κs a r r' s s' = put
+pub transcript-text-put_refusal : (κs : _) (a : _) → OneWith (λ s. s.0.now) (TranscriptTextPutRefusal.Learnt κs a)
+transcript-text-put_refusal κs a r r' s s' = put
 
-pub transcript-text-put-end : (κs : _) (a : _) → OneWith (λ s. s.0.now) (TranscriptTextPutEnd.Learnt κs a)
-transcript-text-put-end κs a r r' s s' = put
+pub transcript-text-put_end : (κs : _) (a : _) → OneWith (λ s. s.0.now) (TranscriptTextPutEnd.Learnt κs a)
+transcript-text-put_end κs a r r' s s' = put
 
-pub transcript-text-put-said : (κs : _) (a : _) → OneWith (λ s. s.0.now) (TranscriptTextPutSaid.Learnt κs a)
-transcript-text-put-said κs a r r' s s' = put
+pub transcript-text-put_said : (κs : _) (a : _) → OneWith (λ s. s.0.now) (TranscriptTextPutSaid.Learnt κs a)
+transcript-text-put_said κs a r r' s s' = put

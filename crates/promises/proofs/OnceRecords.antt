@@ -24,54 +24,54 @@ use Rattle.transcript.proofs.session.Reads as TranscriptSession
 pub records-fields-field : (κs : _) (a : _) → OneAnswer (RecordsFieldsField.Learnt κs a)
 records-fields-field κs a r r' s s' = one-result
 
-pub records-fields-wide-field : (κs : _) (a : _) → OneAnswer (RecordsFieldsWideField.Learnt κs a)
-records-fields-wide-field κs a r r' s s' = one-result
+pub records-fields-wide_field : (κs : _) (a : _) → OneAnswer (RecordsFieldsWideField.Learnt κs a)
+records-fields-wide_field κs a r r' s s' = one-result
 
-pub records-kinds-body-length : (κs : _) (a : _) → OneAnswer (RecordsKindsBodyLength.Learnt κs a)
-records-kinds-body-length κs a r r' s s' = one-result
+pub records-kinds-body_length : (κs : _) (a : _) → OneAnswer (RecordsKindsBodyLength.Learnt κs a)
+records-kinds-body_length κs a r r' s s' = one-result
 
-pub records-kinds-record-size : (κs : _) (a : _) → OneAnswer (RecordsKindsRecordSize.Learnt κs a)
-records-kinds-record-size κs a r r' s s' = one-result
+pub records-kinds-record_size : (κs : _) (a : _) → OneAnswer (RecordsKindsRecordSize.Learnt κs a)
+records-kinds-record_size κs a r r' s s' = one-result
 
-pub records-kinds-is-whole : (κs : _) (a : _) → OneAnswer (RecordsKindsIsWhole.Learnt κs a)
-records-kinds-is-whole κs a r r' s s' = one-result
+pub records-kinds-is_whole : (κs : _) (a : _) → OneAnswer (RecordsKindsIsWhole.Learnt κs a)
+records-kinds-is_whole κs a r r' s s' = one-result
 
-pub records-kinds-body-of : (κs : _) (a : _) → OnePart (λ x. x.now) (RecordsKindsBodyOf.Learnt κs a)
-records-kinds-body-of κs a r r' s s' = one-result
+pub records-kinds-body_of : (κs : _) (a : _) → OnePart (λ x. x.now) (RecordsKindsBodyOf.Learnt κs a)
+records-kinds-body_of κs a r r' s s' = one-result
 
-pub records-kinds-read-body : (κs : _) (a : _) → OneAnswer (RecordsKindsReadBody.Learnt κs a)
-records-kinds-read-body κs a r r' s s' = one-result
+pub records-kinds-read_body : (κs : _) (a : _) → OneAnswer (RecordsKindsReadBody.Learnt κs a)
+records-kinds-read_body κs a r r' s s' = one-result
 
-pub records-kinds-is-group-record : (κs : _) (a : _) → OneAnswer (RecordsKindsIsGroupRecord.Learnt κs a)
-records-kinds-is-group-record κs a r r' s s' = one-result
+pub records-kinds-is_group_record : (κs : _) (a : _) → OneAnswer (RecordsKindsIsGroupRecord.Learnt κs a)
+records-kinds-is_group_record κs a r r' s s' = one-result
 
-pub records-kinds-group-part : (κs : _) (a : _) → OnePart (λ x. x.now) (RecordsKindsGroupPart.Learnt κs a)
-records-kinds-group-part κs a r r' s s' = one-result
+pub records-kinds-group_part : (κs : _) (a : _) → OnePart (λ x. x.now) (RecordsKindsGroupPart.Learnt κs a)
+records-kinds-group_part κs a r r' s s' = one-result
 
-pub records-kinds-group-number : (κs : _) (a : _) → OneAnswer (RecordsKindsGroupNumber.Learnt κs a)
-records-kinds-group-number κs a r r' s s' = one-result
+pub records-kinds-group_number : (κs : _) (a : _) → OneAnswer (RecordsKindsGroupNumber.Learnt κs a)
+records-kinds-group_number κs a r r' s s' = one-result
 
-pub records-read-record : (κs : _) (a : _) → OneAnswer (RecordsReadRecord.Learnt κs a)
-records-read-record κs a r r' s s' = one-result
+pub records-read_record : (κs : _) (a : _) → OneAnswer (RecordsReadRecord.Learnt κs a)
+records-read_record κs a r r' s s' = one-result
 
 pub records-chosen : (κs : _) (a : _) → OnePart (λ x. x.now) (RecordsChosen.Learnt κs a)
 records-chosen κs a r r' s s' = one-result
 
-pub records-chosen-number : (κs : _) (a : _) → OneAnswer (RecordsChosenNumber.Learnt κs a)
-records-chosen-number κs a r r' s s' = one-result
+pub records-chosen_number : (κs : _) (a : _) → OneAnswer (RecordsChosenNumber.Learnt κs a)
+records-chosen_number κs a r r' s s' = one-result
 
 -- ---- group_records
 
-pub group-records-group-read-group-in : (κs : _) (a : _) → OneAnswer (GroupRecordsGroupReadGroupIn.Learnt κs a)
-group-records-group-read-group-in κs a r r' s s' = one-result
+pub group_records-group-read_group_in : (κs : _) (a : _) → OneAnswer (GroupRecordsGroupReadGroupIn.Learnt κs a)
+group_records-group-read_group_in κs a r r' s s' = one-result
 
-pub group-records-read-group : (κs : _) (a : _) → OneAnswer (GroupRecordsReadGroup.Learnt κs a)
-group-records-read-group κs a r r' s s' = one-result
+pub group_records-read_group : (κs : _) (a : _) → OneAnswer (GroupRecordsReadGroup.Learnt κs a)
+group_records-read_group κs a r r' s s' = one-result
 
 -- ---- session_steps
 
-pub session-steps-holding-opened : (κs : _) (a : _) → OneAnswer (SessionStepsHoldingOpened.Learnt κs a)
-session-steps-holding-opened κs a r r' s s' = one-result
+pub session_steps-holding-opened : (κs : _) (a : _) → OneAnswer (SessionStepsHoldingOpened.Learnt κs a)
+session_steps-holding-opened κs a r r' s s' = one-result
 
 -- ---- transcript
 

@@ -41,11 +41,11 @@ use Rattle.unchecked.proofs.unchecked_generate_dependency_orderings.Reads as Unc
 
 -- ---- states
 
-pub states-maps-load-map : (κs : _) (a : _) → OneAnswer (StatesMapsLoadMap.Learnt κs a)
-states-maps-load-map κs a r r' s s' = one-result
+pub states-maps-load_map : (κs : _) (a : _) → OneAnswer (StatesMapsLoadMap.Learnt κs a)
+states-maps-load_map κs a r r' s s' = one-result
 
-pub states-maps-store-map : (κs : _) (a : _) → OneWith (λ s. s.1.0.now) (StatesMapsStoreMap.Learnt κs a)
-states-maps-store-map κs a r r' s s' = one-result
+pub states-maps-store_map : (κs : _) (a : _) → OneWith (λ s. s.1.0.now) (StatesMapsStoreMap.Learnt κs a)
+states-maps-store_map κs a r r' s s' = one-result
 
 pub states-numbers-widened : (κs : _) (a : _) → OneAnswer (StatesNumbersWidened.Learnt κs a)
 states-numbers-widened κs a r r' s s' = one-result
@@ -56,22 +56,22 @@ states-numbers-narrow κs a r r' s s' = one-result
 pub states-numbers-short : (κs : _) (a : _) → OneAnswer (StatesNumbersShort.Learnt κs a)
 states-numbers-short κs a r r' s s' = one-result
 
-pub states-orders-keys-from : (κs : _) (a : _) → OneAnswer (StatesOrdersKeysFrom.Learnt κs a)
-states-orders-keys-from κs a r r' s s' = one-result
+pub states-orders-keys_from : (κs : _) (a : _) → OneAnswer (StatesOrdersKeysFrom.Learnt κs a)
+states-orders-keys_from κs a r r' s s' = one-result
 
-pub states-orders-load-orderings : (κs : _) (a : _) → OneAnswer (StatesOrdersLoadOrderings.Learnt κs a)
-states-orders-load-orderings κs a r r' s s' = one-result
+pub states-orders-load_orderings : (κs : _) (a : _) → OneAnswer (StatesOrdersLoadOrderings.Learnt κs a)
+states-orders-load_orderings κs a r r' s s' = one-result
 
-pub states-orders-store-orderings : (κs : _) (a : _) → OneWith (λ s. s.1.0.now) (StatesOrdersStoreOrderings.Learnt κs a)
-states-orders-store-orderings κs a r r' s s' = one-result
+pub states-orders-store_orderings : (κs : _) (a : _) → OneWith (λ s. s.1.0.now) (StatesOrdersStoreOrderings.Learnt κs a)
+states-orders-store_orderings κs a r r' s s' = one-result
 
 -- ---- group_states
 
-pub group-states-groups-load-group : (κs : _) (a : _) → OneAnswer (GroupStatesGroupsLoadGroup.Learnt κs a)
-group-states-groups-load-group κs a r r' s s' = one-result
+pub group_states-groups-load_group : (κs : _) (a : _) → OneAnswer (GroupStatesGroupsLoadGroup.Learnt κs a)
+group_states-groups-load_group κs a r r' s s' = one-result
 
-pub group-states-groups-store-group : (κs : _) (a : _) → OneWith (λ s. s.1.0.now) (GroupStatesGroupsStoreGroup.Learnt κs a)
-group-states-groups-store-group κs a r r' s s' = one-result
+pub group_states-groups-store_group : (κs : _) (a : _) → OneWith (λ s. s.1.0.now) (GroupStatesGroupsStoreGroup.Learnt κs a)
+group_states-groups-store_group κs a r r' s s' = one-result
 
 -- ---- answers
 
@@ -81,81 +81,81 @@ answers-put-1 κs a r r' s s' = one-result
 pub answers-put-2 : (κs : _) (a : _) → OneLent (λ s. s.0.now) (AnswersPut2.Learnt κs a)
 answers-put-2 κs a r r' s s' = one-result
 
-pub answers-put-sizes : (κs : _) (a : _) → OneLent (λ s. s.0.now) (AnswersPutSizes.Learnt κs a)
-answers-put-sizes κs a r r' s s' = one-result
+pub answers-put_sizes : (κs : _) (a : _) → OneLent (λ s. s.0.now) (AnswersPutSizes.Learnt κs a)
+answers-put_sizes κs a r r' s s' = one-result
 
-pub answers-put-one : (κs : _) (a : _) → OneLent (λ s. s.1.0.now) (AnswersPutOne.Learnt κs a)
-answers-put-one κs a r r' s s' = one-result
+pub answers-put_one : (κs : _) (a : _) → OneLent (λ s. s.1.0.now) (AnswersPutOne.Learnt κs a)
+answers-put_one κs a r r' s s' = one-result
 
-pub answers-put-options : (κs : _) (a : _) → OneWith (λ s. s.1.0.now) (AnswersPutOptions.Learnt κs a)
-answers-put-options κs a r r' s s' = one-result
+pub answers-put_options : (κs : _) (a : _) → OneWith (λ s. s.1.0.now) (AnswersPutOptions.Learnt κs a)
+answers-put_options κs a r r' s s' = one-result
 
-pub answers-put-partial : (κs : _) (a : _) → OneWith (λ s. s.1.0.now) (AnswersPutPartial.Learnt κs a)
-answers-put-partial κs a r r' s s' = one-result
+pub answers-put_partial : (κs : _) (a : _) → OneWith (λ s. s.1.0.now) (AnswersPutPartial.Learnt κs a)
+answers-put_partial κs a r r' s s' = one-result
 
-pub answers-put-output : (κs : _) (a : _) → OneWith (λ s. s.1.0.now) (AnswersPutOutput.Learnt κs a)
-answers-put-output κs a r r' s s' = one-result
+pub answers-put_output : (κs : _) (a : _) → OneWith (λ s. s.1.0.now) (AnswersPutOutput.Learnt κs a)
+answers-put_output κs a r r' s s' = one-result
 
-pub answers-put-enumerated : (κs : _) (a : _) → OneWith (λ s. s.1.0.now) (AnswersPutEnumerated.Learnt κs a)
-answers-put-enumerated κs a r r' s s' = one-result
+pub answers-put_enumerated : (κs : _) (a : _) → OneWith (λ s. s.1.0.now) (AnswersPutEnumerated.Learnt κs a)
+answers-put_enumerated κs a r r' s s' = one-result
 
-pub answers-put-record : (κs : _) (a : _) → OneWith (λ s. s.1.0.now) (AnswersPutRecord.Learnt κs a)
-answers-put-record κs a r r' s s' = one-result
+pub answers-put_record : (κs : _) (a : _) → OneWith (λ s. s.1.0.now) (AnswersPutRecord.Learnt κs a)
+answers-put_record κs a r r' s s' = one-result
 
-pub answers-put-written : (κs : _) (a : _) → OneWith (λ s. s.1.0.now) (AnswersPutWritten.Learnt κs a)
-answers-put-written κs a r r' s s' = one-result
+pub answers-put_written : (κs : _) (a : _) → OneWith (λ s. s.1.0.now) (AnswersPutWritten.Learnt κs a)
+answers-put_written κs a r r' s s' = one-result
 
-pub answers-given-from : (κs : _) (a : _) → OneAnswer (AnswersGivenFrom.Learnt κs a)
-answers-given-from κs a r r' s s' = one-result
+pub answers-given_from : (κs : _) (a : _) → OneAnswer (AnswersGivenFrom.Learnt κs a)
+answers-given_from κs a r r' s s' = one-result
 
 -- ---- group_answers
 
-pub group-answers-put-added : (κs : _) (a : _) → OneWith (λ s. s.1.0.now) (GroupAnswersPutAdded.Learnt κs a)
-group-answers-put-added κs a r r' s s' = one-result
+pub group_answers-put_added : (κs : _) (a : _) → OneWith (λ s. s.1.0.now) (GroupAnswersPutAdded.Learnt κs a)
+group_answers-put_added κs a r r' s s' = one-result
 
-pub group-answers-put-read : (κs : _) (a : _) → OneWith (λ s. s.1.0.now) (GroupAnswersPutRead.Learnt κs a)
-group-answers-put-read κs a r r' s s' = one-result
+pub group_answers-put_read : (κs : _) (a : _) → OneWith (λ s. s.1.0.now) (GroupAnswersPutRead.Learnt κs a)
+group_answers-put_read κs a r r' s s' = one-result
 
-pub group-answers-put-child : (κs : _) (a : _) → OneWith (λ s. s.1.0.now) (GroupAnswersPutChild.Learnt κs a)
-group-answers-put-child κs a r r' s s' = one-result
+pub group_answers-put_child : (κs : _) (a : _) → OneWith (λ s. s.1.0.now) (GroupAnswersPutChild.Learnt κs a)
+group_answers-put_child κs a r r' s s' = one-result
 
-pub group-answers-put-class-is : (κs : _) (a : _) → OneWith (λ s. s.1.0.now) (GroupAnswersPutClassIs.Learnt κs a)
-group-answers-put-class-is κs a r r' s s' = one-result
+pub group_answers-put_class_is : (κs : _) (a : _) → OneWith (λ s. s.1.0.now) (GroupAnswersPutClassIs.Learnt κs a)
+group_answers-put_class_is κs a r r' s s' = one-result
 
-pub group-answers-put-changed : (κs : _) (a : _) → OneWithBoth (λ s. s.1.1.0.now) (λ s. s.1.0.now) (GroupAnswersPutChanged.Learnt κs a)
-group-answers-put-changed κs a r r' s s' = one-result
+pub group_answers-put_changed : (κs : _) (a : _) → OneWithBoth (λ s. s.1.1.0.now) (λ s. s.1.0.now) (GroupAnswersPutChanged.Learnt κs a)
+group_answers-put_changed κs a r r' s s' = one-result
 
-pub group-answers-put-answer : (κs : _) (a : _) → OneWith (λ s. s.1.0.now) (GroupAnswersPutAnswer.Learnt κs a)
-group-answers-put-answer κs a r r' s s' = one-result
+pub group_answers-put_answer : (κs : _) (a : _) → OneWith (λ s. s.1.0.now) (GroupAnswersPutAnswer.Learnt κs a)
+group_answers-put_answer κs a r r' s s' = one-result
 
-pub group-answers-put-constant : (κs : _) (a : _) → OneWith (λ s. s.1.0.now) (GroupAnswersPutConstant.Learnt κs a)
-group-answers-put-constant κs a r r' s s' = one-result
+pub group_answers-put_constant : (κs : _) (a : _) → OneWith (λ s. s.1.0.now) (GroupAnswersPutConstant.Learnt κs a)
+group_answers-put_constant κs a r r' s s' = one-result
 
-pub group-answers-put-key : (κs : _) (a : _) → OneWith (λ s. s.1.0.now) (GroupAnswersPutKey.Learnt κs a)
-group-answers-put-key κs a r r' s s' = one-result
+pub group_answers-put_key : (κs : _) (a : _) → OneWith (λ s. s.1.0.now) (GroupAnswersPutKey.Learnt κs a)
+group_answers-put_key κs a r r' s s' = one-result
 
-pub group-answers-put-sorted : (κs : _) (a : _) → OneWith (λ s. s.1.0.now) (GroupAnswersPutSorted.Learnt κs a)
-group-answers-put-sorted κs a r r' s s' = one-result
+pub group_answers-put_sorted : (κs : _) (a : _) → OneWith (λ s. s.1.0.now) (GroupAnswersPutSorted.Learnt κs a)
+group_answers-put_sorted κs a r r' s s' = one-result
 
-pub group-answers-put-projected : (κs : _) (a : _) → OneWith (λ s. s.1.0.now) (GroupAnswersPutProjected.Learnt κs a)
-group-answers-put-projected κs a r r' s s' = one-result
+pub group_answers-put_projected : (κs : _) (a : _) → OneWith (λ s. s.1.0.now) (GroupAnswersPutProjected.Learnt κs a)
+group_answers-put_projected κs a r r' s s' = one-result
 
 -- ---- unchecked
 
-pub unchecked-unchecked-add-equal-conditions : (κs : _) (a : _) → OneWith (λ s. s.1.0.now) (UncheckedUncheckedAddEqualConditions.Learnt κs a)
-unchecked-unchecked-add-equal-conditions κs a r r' s s' = one-result
+pub unchecked-unchecked_add_equal_conditions : (κs : _) (a : _) → OneWith (λ s. s.1.0.now) (UncheckedUncheckedAddEqualConditions.Learnt κs a)
+unchecked-unchecked_add_equal_conditions κs a r r' s s' = one-result
 
-pub unchecked-unchecked-exprs-equal : (κs : _) (a : _) → OneAnswer (UncheckedUncheckedExprsEqual.Learnt κs a)
-unchecked-unchecked-exprs-equal κs a r r' s s' = one-result
+pub unchecked-unchecked_exprs_equal : (κs : _) (a : _) → OneAnswer (UncheckedUncheckedExprsEqual.Learnt κs a)
+unchecked-unchecked_exprs_equal κs a r r' s s' = one-result
 
-pub unchecked-unchecked-normalize-expr : (κs : _) (a : _) → OneWithBoth (λ s. s.1.1.1.0.now) (λ s. s.0.now) (UncheckedUncheckedNormalizeExpr.Learnt κs a)
-unchecked-unchecked-normalize-expr κs a r r' s s' = one-result
+pub unchecked-unchecked_normalize_expr : (κs : _) (a : _) → OneWithBoth (λ s. s.1.1.1.0.now) (λ s. s.0.now) (UncheckedUncheckedNormalizeExpr.Learnt κs a)
+unchecked-unchecked_normalize_expr κs a r r' s s' = one-result
 
-pub unchecked-unchecked-new-group : (κs : _) (a : _) → OneWith (λ s. s.1.0.now) (UncheckedUncheckedNewGroup.Learnt κs a)
-unchecked-unchecked-new-group κs a r r' s s' = one-result
+pub unchecked-unchecked_new_group : (κs : _) (a : _) → OneWith (λ s. s.1.0.now) (UncheckedUncheckedNewGroup.Learnt κs a)
+unchecked-unchecked_new_group κs a r r' s s' = one-result
 
-pub unchecked-unchecked-add-orderings : (κs : _) (a : _) → OneWith (λ s. s.0.now) (UncheckedUncheckedAddOrderings.Learnt κs a)
-unchecked-unchecked-add-orderings κs a r r' s s' = one-result
+pub unchecked-unchecked_add_orderings : (κs : _) (a : _) → OneWith (λ s. s.0.now) (UncheckedUncheckedAddOrderings.Learnt κs a)
+unchecked-unchecked_add_orderings κs a r r' s s' = one-result
 
-pub unchecked-unchecked-generate-dependency-orderings : (κs : _) (a : _) → OneWithBoth (λ s. s.1.1.1.0.now) (λ s. s.1.1.0.now) (UncheckedUncheckedGenerateDependencyOrderings.Learnt κs a)
-unchecked-unchecked-generate-dependency-orderings κs a r r' s s' = one-result
+pub unchecked-unchecked_generate_dependency_orderings : (κs : _) (a : _) → OneWithBoth (λ s. s.1.1.1.0.now) (λ s. s.1.1.0.now) (UncheckedUncheckedGenerateDependencyOrderings.Learnt κs a)
+unchecked-unchecked_generate_dependency_orderings κs a r r' s s' = one-result

@@ -9,72 +9,72 @@ use Rattle.arena.specs.Layout.{decode as nodes}
 use Rattle.classes.specs.Class.{Class}
 use Rattle.classes.specs.Layout.{encode, decode}
 use Rattle.classes.specs.Steps.{Outcome}
-use Rattle.classes.specs.Calls.{groupNumber, changed, onGroup}
+use Rattle.classes.specs.Calls.{group_number, changed, on_group}
 use Rattle.classes.specs.declared.Group.{Group}
 use Rattle.classes.specs.declared.Changed.{Changed}
 use Rattle.classes.proofs.Codec.{decode-encode}
-use Rattle.conditions.specs.Steps.{addEqual, outcomes, after, accepted}
-use Rattle.demands.proofs.Valid.{valid-equal}
-use Rattle.promises.specs.Sequence.{equalCall, calls, groupAfter, acceptedPairs, seen}
+use Rattle.conditions.specs.Steps.{add_equal, outcomes, after, accepted}
+use Rattle.demands.proofs.Valid.{valid_equal}
+use Rattle.promises.specs.Sequence.{equal_call, calls, group_after, accepted_pairs, seen}
 
 module _ (cells : List ℕ) where
   -- the outcome of one pair, over the list of classes
-  abbrev pub outcomeOf : ℕ × ℕ → Group → Outcome
-  outcomeOf p g = addEqual g.limit (nodes cells) p.0 p.1 (decode g)
+  abbrev pub outcome_of : ℕ × ℕ → Group → Outcome
+  outcome_of p g = add_equal g.limit (nodes cells) p.0 p.1 (decode g)
 
   -- a call on a checked group comes to it
-  call-is : (p : ℕ × ℕ) (g : Group) → groupNumber cells g ≡ 0 → equalCall cells p g ≡ changed g.limit (outcomeOf p g)
-  unfolding onGroup
-  call-is p g z = ap (λ (k : ℕ). if eqb k 0 then changed g.limit (outcomeOf p g) else record { number = k; answer = false; group = g }) z
+  call-is : (p : ℕ × ℕ) (g : Group) → group_number cells g ≡ 0 → equal_call cells p g ≡ changed g.limit (outcome_of p g)
+  unfolding on_group
+  call-is p g z = ap (λ (k : ℕ). if eqb k 0 then changed g.limit (outcome_of p g) else record { number = k; answer = false; group = g }) z
 
   -- so what is seen of the call is the outcome
-  seen-is : (p : ℕ × ℕ) (g : Group) → groupNumber cells g ≡ 0 → seen (equalCall cells p g) ≡ outcomeOf p g
+  seen-is : (p : ℕ × ℕ) (g : Group) → group_number cells g ≡ 0 → seen (equal_call cells p g) ≡ outcome_of p g
   unfolding changed
   seen-is p g z =
       ap seen (call-is p g z)
-      ∙ ap {B = Outcome} (λ (cs : List Class). record { number = (outcomeOf p g).number; answer = (outcomeOf p g).answer; classes = cs }) (decode-encode g.limit (outcomeOf p g).classes)
+      ∙ ap {B = Outcome} (λ (cs : List Class). record { number = (outcome_of p g).number; answer = (outcome_of p g).answer; classes = cs }) (decode-encode g.limit (outcome_of p g).classes)
 
   -- and the limit stays
-  limit_is : (p : ℕ × ℕ) (g : Group) → groupNumber cells g ≡ 0 → (equalCall cells p g).group.limit ≡ g.limit
+  limit_is : (p : ℕ × ℕ) (g : Group) → group_number cells g ≡ 0 → (equal_call cells p g).group.limit ≡ g.limit
   unfolding changed encode
   limit_is p g z = ap (λ (c : Changed). c.group.limit) (call-is p g z)
 
   -- what follows a call follows its outcome
-  onward : {A : Type 0} (f : ℕ → List Class → A) (p : ℕ × ℕ) (g : Group) → groupNumber cells g ≡ 0
-      → f (equalCall cells p g).group.limit (decode (equalCall cells p g).group) ≡ f g.limit (outcomeOf p g).classes
+  onward : {A : Type 0} (f : ℕ → List Class → A) (p : ℕ × ℕ) (g : Group) → group_number cells g ≡ 0
+      → f (equal_call cells p g).group.limit (decode (equal_call cells p g).group) ≡ f g.limit (outcome_of p g).classes
   onward f p g z = ap₂ f (limit_is p g z) (ap (λ (o : Outcome). o.classes) (seen-is p g z))
 
   -- the classes afterwards
-  pub after_is : (ps : List (ℕ × ℕ)) (g : Group) → groupNumber cells g ≡ 0 → decode (groupAfter cells ps g) ≡ after g.limit (nodes cells) (decode g) ps
-  unfolding groupAfter after
+  pub after_is : (ps : List (ℕ × ℕ)) (g : Group) → group_number cells g ≡ 0 → decode (group_after cells ps g) ≡ after g.limit (nodes cells) (decode g) ps
+  unfolding group_after after
   after_is [] g z = refl
   after_is (p ∷ ps) g z =
-      after_is ps (equalCall cells p g).group (valid-equal cells g p.0 p.1 z) ∙ onward (λ l cs. after l (nodes cells) cs ps) p g z
+      after_is ps (equal_call cells p g).group (valid_equal cells g p.0 p.1 z) ∙ onward (λ l cs. after l (nodes cells) cs ps) p g z
 
   -- what each call answered
-  pub calls_are : (ps : List (ℕ × ℕ)) (g : Group) → groupNumber cells g ≡ 0 → map seen (calls cells ps g) ≡ outcomes g.limit (nodes cells) (decode g) ps
+  pub calls_are : (ps : List (ℕ × ℕ)) (g : Group) → group_number cells g ≡ 0 → map seen (calls cells ps g) ≡ outcomes g.limit (nodes cells) (decode g) ps
   unfolding calls outcomes
   calls_are [] g z = refl
   calls_are (p ∷ ps) g z =
       ap₂ (λ (o : Outcome) (os : List Outcome). o ∷ os) (seen-is p g z)
-      (calls_are ps (equalCall cells p g).group (valid-equal cells g p.0 p.1 z) ∙ onward (λ l cs. outcomes l (nodes cells) cs ps) p g z)
+      (calls_are ps (equal_call cells p g).group (valid_equal cells g p.0 p.1 z) ∙ onward (λ l cs. outcomes l (nodes cells) cs ps) p g z)
 
   -- the pairs that were accepted
-  pub accepted-are : (ps : List (ℕ × ℕ)) (g : Group) → groupNumber cells g ≡ 0 → acceptedPairs cells ps g ≡ accepted g.limit (nodes cells) (decode g) ps
-  unfolding acceptedPairs accepted
+  pub accepted-are : (ps : List (ℕ × ℕ)) (g : Group) → group_number cells g ≡ 0 → accepted_pairs cells ps g ≡ accepted g.limit (nodes cells) (decode g) ps
+  unfolding accepted_pairs accepted
   accepted-are [] g z = refl
   accepted-are (p ∷ ps) g z =
       ap₂ (λ (n : ℕ) (qs : List (ℕ × ℕ)). (if eqb n 0 then p ∷ [] else []) ++ qs) (ap (λ (o : Outcome). o.number) (seen-is p g z))
-      (accepted-are ps (equalCall cells p g).group (valid-equal cells g p.0 p.1 z) ∙ onward (λ l cs. accepted l (nodes cells) cs ps) p g z)
+      (accepted-are ps (equal_call cells p g).group (valid_equal cells g p.0 p.1 z) ∙ onward (λ l cs. accepted l (nodes cells) cs ps) p g z)
 
   -- the group stays one that passes the check
-  pub after-checked : (ps : List (ℕ × ℕ)) (g : Group) → groupNumber cells g ≡ 0 → groupNumber cells (groupAfter cells ps g) ≡ 0
-  unfolding groupAfter
+  pub after-checked : (ps : List (ℕ × ℕ)) (g : Group) → group_number cells g ≡ 0 → group_number cells (group_after cells ps g) ≡ 0
+  unfolding group_after
   after-checked [] g z = z
-  after-checked (p ∷ ps) g z = after-checked ps (equalCall cells p g).group (valid-equal cells g p.0 p.1 z)
+  after-checked (p ∷ ps) g z = after-checked ps (equal_call cells p g).group (valid_equal cells g p.0 p.1 z)
 
   -- and its limit is the one that it was opened with
-  pub after-limit : (ps : List (ℕ × ℕ)) (g : Group) → groupNumber cells g ≡ 0 → (groupAfter cells ps g).limit ≡ g.limit
-  unfolding groupAfter
+  pub after-limit : (ps : List (ℕ × ℕ)) (g : Group) → group_number cells g ≡ 0 → (group_after cells ps g).limit ≡ g.limit
+  unfolding group_after
   after-limit [] g z = refl
-  after-limit (p ∷ ps) g z = after-limit ps (equalCall cells p g).group (valid-equal cells g p.0 p.1 z) ∙ limit_is p g z
+  after-limit (p ∷ ps) g z = after-limit ps (equal_call cells p g).group (valid_equal cells g p.0 p.1 z) ∙ limit_is p g z

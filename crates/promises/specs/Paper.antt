@@ -2,27 +2,27 @@
 use Rattle.std.specs.Prelude.{ℕ, ◌+◌, ◌*◌, Bool, true, false, List, [], ◌∷◌}
 use Rattle.std.proofs.Math.Option.{some}
 use Rattle.arena.specs.Node.{Node, column, literal, operation}
-use Rattle.arena.specs.Expression.{Expression, col, op, ∅, ◌▹◌, expressionAt}
+use Rattle.arena.specs.Expression.{Expression, col, op, ∅, ◌▹◌, expression_at}
 use Rattle.arena.specs.declared.Added.{Added}
 use Rattle.arena.specs.declared.Added.TheVariants.{Number, Refused}
-use Rattle.classes.specs.Class.{Constant, noConstant, heterogeneous, unknown, Class}
+use Rattle.classes.specs.Class.{Constant, no_constant, heterogeneous, unknown, Class}
 use Rattle.classes.specs.Layout.{mark_of}
 use Rattle.classes.specs.Steps.{Outcome}
-use Rattle.conditions.specs.Steps.{addEqual, addConstant}
-use Rattle.questions.specs.Calls.{equalAnswer, constantAnswer}
+use Rattle.conditions.specs.Steps.{add_equal, add_constant}
+use Rattle.questions.specs.Calls.{equal_answer, constant_answer}
 use Rattle.questions.specs.declared.Answer.{Answer}
 use Rattle.questions.specs.declared.Answer.TheVariants.{Yes, No}
 use Rattle.questions.specs.declared.ConstantIs.{ConstantIs}
 use Rattle.questions.specs.declared.ConstantIs.TheVariants.{Is}
-use Rattle.normal.specs.Calls.{normalizeExpr}
+use Rattle.normal.specs.Calls.{normalize_expr}
 use Rattle.orderings.specs.Layout.{encode}
-use Rattle.orderings.specs.Lists.{joinSuffix}
+use Rattle.orderings.specs.Lists.{join_suffix}
 use Rattle.orderings.specs.Calls.{listed}
 use Rattle.orderings.specs.declared.Listed.{Listed}
-use Rattle.reduction.specs.Calls.{reducedList}
+use Rattle.reduction.specs.Calls.{reduced_list}
 use Rattle.dependencies.specs.Map.{Dependent, inserted}
-use Rattle.enumeration.specs.Walk.{prefixOrderings}
-use Rattle.dependency_orderings.specs.Calls.{walkAnswer}
+use Rattle.enumeration.specs.Walk.{prefix_orderings}
+use Rattle.dependency_orderings.specs.Calls.{walk_answer}
 use Rattle.dependency_orderings.specs.declared.Enumerated.{Enumerated}
 
 -- the expressions of the examples: the columns 0 to 5, which the paper calls a to f, and x and y; 6 is f(b); 7 and 8 are the labels 1 and 2 over (a,b); 9 and 10 the literals 1 and 2; 11 is f(literal)
@@ -32,7 +32,7 @@ nodes =
 
 -- a class without a constant
 abbrev pub those : List ℕ → Class
-those es = record { members = es; constant = noConstant }
+those es = record { members = es; constant = no_constant }
 
 -- an expression as a key, ascending
 abbrev pub ascending : ℕ → ℕ
@@ -44,9 +44,9 @@ descending e = e * 4 + 1
 
 -- what is asked of a call
 pub data Asked : Type 0 where
-  equalCondition : (left right : ℕ) → List Class → Asked
+  equal_condition : (left right : ℕ) → List Class → Asked
   constant : (expr : ℕ) → Constant → List Class → Asked
-  normalForm : (expr : ℕ) → List Class → Asked
+  normal_form : (expr : ℕ) → List Class → Asked
   equality : (left right : ℕ) → List Class → Asked
   constant_of : (expr : ℕ) → List Class → Asked
   reduction : List (List ℕ) → Asked
@@ -57,27 +57,27 @@ pub data Asked : Type 0 where
 pub data Told : Type 0 where
   outcome : Outcome → Told
   form : Expression → Told
-  noForm : (refusal : ℕ) → Told
+  no_form : (refusal : ℕ) → Told
   answer : Answer → Told
-  constantIs : ConstantIs → Told
+  constant_is : ConstantIs → Told
   list : Listed → Told
   output : Enumerated × List ℕ → Told
 
 -- the number of a normal form stands for this expression of the arena afterwards
-unfoldable pub formTold : Added × List Node → Told
-formTold (Number e, ns) = form (expressionAt ns e)
-formTold (Refused k, ns) = noForm k
+unfoldable pub form_told : Added × List Node → Told
+form_told (Number e, ns) = form (expression_at ns e)
+form_told (Refused k, ns) = no_form k
 
 -- what the definitions answer, for a group of limit 256
 unfoldable pub told : Asked → Told
-told (equalCondition left right cs) = outcome (addEqual 256 nodes left right cs)
-told (constant expr said cs) = outcome (addConstant true 256 nodes expr said cs)
-told (normalForm expr cs) = formTold (normalizeExpr expr nodes cs)
-told (equality left right cs) = answer (equalAnswer left right nodes cs)
-told (constant_of expr cs) = constantIs (constantAnswer expr nodes cs)
-told (reduction os) = list (reducedList (encode []) os)
-told (suffixed os by) = list (listed (encode os) (joinSuffix os by))
-told (prefixes key ds) = output (walkAnswer (prefixOrderings ds key) (9 ∷ 9 ∷ 9 ∷ 9 ∷ []))
+told (equal_condition left right cs) = outcome (add_equal 256 nodes left right cs)
+told (constant expr said cs) = outcome (add_constant true 256 nodes expr said cs)
+told (normal_form expr cs) = form_told (normalize_expr expr nodes cs)
+told (equality left right cs) = answer (equal_answer left right nodes cs)
+told (constant_of expr cs) = constant_is (constant_answer expr nodes cs)
+told (reduction os) = list (reduced_list (encode []) os)
+told (suffixed os by) = list (listed (encode os) (join_suffix os by))
+told (prefixes key ds) = output (walk_answer (prefix_orderings ds key) (9 ∷ 9 ∷ 9 ∷ 9 ∷ []))
 
 -- a call on a group is done, with this answer and these classes
 abbrev pub done : Bool → List Class → Told
@@ -91,14 +91,14 @@ orderings os = list (record { number = 0; list = encode os })
 abbrev pub paper : List (Asked × Told)
 paper =
     -- P1 (x,x) on empty: true, one class [x]
-    (equalCondition 0 0 [], done true (those (0 ∷ []) ∷ []))
+    (equal_condition 0 0 [], done true (those (0 ∷ []) ∷ []))
     -- P2 then (x,y): false, [x,y]
-    ∷ (equalCondition 0 1 (those (0 ∷ []) ∷ []), done false (those (0 ∷ 1 ∷ []) ∷ []))
+    ∷ (equal_condition 0 1 (those (0 ∷ []) ∷ []), done false (those (0 ∷ 1 ∷ []) ∷ []))
     -- P3 [a,b],[c,d],[e,f] and (d,a): false, [a,b,c,d],[e,f]
-    ∷ (equalCondition 3 0 (those (0 ∷ 1 ∷ []) ∷ those (2 ∷ 3 ∷ []) ∷ those (4 ∷ 5 ∷ []) ∷ []), done false (those (0 ∷ 1 ∷ 2 ∷ 3 ∷ []) ∷ those (4 ∷ 5 ∷ []) ∷ []))
+    ∷ (equal_condition 3 0 (those (0 ∷ 1 ∷ []) ∷ those (2 ∷ 3 ∷ []) ∷ those (4 ∷ 5 ∷ []) ∷ []), done false (those (0 ∷ 1 ∷ 2 ∷ 3 ∷ []) ∷ those (4 ∷ 5 ∷ []) ∷ []))
     -- P4 [a,b],[f(b),c]: normal form of c is f(b), of f(b) is f(a)
-    ∷ (normalForm 2 (those (0 ∷ 1 ∷ []) ∷ those (6 ∷ 2 ∷ []) ∷ []), form (op 7 (col 1 1 ▹ ∅)))
-    ∷ (normalForm 6 (those (0 ∷ 1 ∷ []) ∷ those (6 ∷ 2 ∷ []) ∷ []), form (op 7 (col 0 0 ▹ ∅)))
+    ∷ (normal_form 2 (those (0 ∷ 1 ∷ []) ∷ those (6 ∷ 2 ∷ []) ∷ []), form (op 7 (col 1 1 ▹ ∅)))
+    ∷ (normal_form 6 (those (0 ∷ 1 ∷ []) ∷ those (6 ∷ 2 ∷ []) ∷ []), form (op 7 (col 0 0 ▹ ∅)))
     -- P5 unknown uniform x, then y: one class [x,y]
     ∷ (constant 0 unknown [], done false (record { members = 0 ∷ []; constant = unknown } ∷ []))
     ∷ (constant 1 unknown (record { members = 0 ∷ []; constant = unknown } ∷ []), done false (record { members = 0 ∷ 1 ∷ []; constant = unknown } ∷ []))
@@ -107,7 +107,7 @@ paper =
     -- P7 literals 1 and 2 don't
     ∷ (equality 9 10 [], answer No)
     -- P8 f(literal) is heterogeneous
-    ∷ (constant_of 11 [], constantIs (Is (mark_of heterogeneous)))
+    ∷ (constant_of 11 [], constant_is (Is (mark_of heterogeneous)))
     -- P9 [a,b],[b,c] reduce to [a],[b,c]
     ∷ (reduction ((ascending 0 ∷ ascending 1 ∷ []) ∷ (ascending 1 ∷ ascending 2 ∷ []) ∷ []), orderings ((ascending 0 ∷ []) ∷ (ascending 1 ∷ ascending 2 ∷ []) ∷ []))
     -- P10 [a],[a,b] to [a,b]

@@ -10,179 +10,179 @@ use lib.Dec.{ltb}
 use lib.ListN.{length, get_or, set, replicate}
 use lib.Seq.{get_or-set_same, get_or-set_other}
 use Rattle.laws.specs.Tests.{if◌then◌else◌, each}
-use Rattle.laws.proofs.Each.{each_none, each_more, each-stops, each-ends, each-cong}
-use Rattle.arena.specs.Node.{Node, nodeAt, childNumbers}
+use Rattle.laws.proofs.Each.{each_none, each_more, each-stops, each-ends, each_cong}
+use Rattle.arena.specs.Node.{Node, node_at, child_numbers}
 use Rattle.arena.specs.Arena.{Sound}
-use Rattle.arena.specs.Layout.{count, cell_of, rowOf, node_of, decode as nodes}
+use Rattle.arena.specs.Layout.{count, cell_of, row_of, node_of, decode as nodes}
 use Rattle.arena.specs.Inner.{Known}
-use Rattle.arena.proofs.Layouts.{length-decode, node-decode, at-row-of}
+use Rattle.arena.proofs.Layouts.{length-decode, node-decode, at-row_of}
 use Rattle.arena.proofs.NodeCells.{node-column, node-literal, node-operation}
 use Rattle.arena.proofs.Children.{child-below, known-lower}
-use Rattle.classes.specs.Class.{Constant, noConstant, heterogeneous, unknown, known, Class, carried, isConstant}
+use Rattle.classes.specs.Class.{Constant, no_constant, heterogeneous, unknown, known, Class, carried, is_constant}
 use Rattle.classes.specs.Group.{class_at, class_of}
-use Rattle.classes.specs.Layout.{flavourOf, value_of}
+use Rattle.classes.specs.Layout.{flavour_of, value_of}
 use Rattle.classes.specs.Inner.{mark_of, place_of}
 use Rattle.classes.specs.declared.Mark.{Mark}
 use Rattle.classes.specs.declared.Place.TheVariants.{At, Nowhere}
 use Rattle.classes.proofs.Numbers.{zeros-at}
 use Rattle.classes.proofs.ClassPlaces.{place_at, place-nowhere}
-use Rattle.questions.specs.Questions.{classConstant, or_else, constant_by, exprConstant}
-use Rattle.questions.specs.Inner.{markedBy, Marked, ToldConstant, AskedConstant, AnsweredConstant, AskedConstants, AnsweredConstants}
-use Rattle.questions.proofs.Asking.{constant-by-is, child-under}
+use Rattle.questions.specs.Questions.{class_constant, or_else, constant_by, expr_constant}
+use Rattle.questions.specs.Inner.{marked_by, Marked, ToldConstant, AskedConstant, AnsweredConstant, AskedConstants, AnsweredConstants}
+use Rattle.questions.proofs.Asking.{constant_by-is, child-under}
 use Rattle.questions.proofs.Equality.{Children, known-inside}
 
 -- the first of two constants is one where either is
-or-constant : (c d : Constant) → isConstant (or_else c d) ≡ (isConstant c || isConstant d)
-unfolding isConstant or_else
-or-constant noConstant d = refl
+or-constant : (c d : Constant) → is_constant (or_else c d) ≡ (is_constant c || is_constant d)
+unfolding is_constant or_else
+or-constant no_constant d = refl
 or-constant heterogeneous d = refl
 or-constant unknown d = refl
 or-constant (known v) d = refl
 
 -- heterogeneous where a test passes
-tested : (t : Bool) → isConstant (if t then heterogeneous else noConstant) ≡ t
-unfolding isConstant
+tested : (t : Bool) → is_constant (if t then heterogeneous else no_constant) ≡ t
+unfolding is_constant
 tested true = refl
 tested false = refl
 
 module _ (ns : List Node) (s : Sound ns) where
   -- the expression is constant
   abbrev Flag : (ℕ → Constant) → ℕ → Bool
-  Flag own e = isConstant (constant_by ns own e)
+  Flag own e = is_constant (constant_by ns own e)
 
   -- it has children, and each is constant
   abbrev All : (ℕ → Constant) → ℕ → Bool
-  All own e = ltb 0 (length (childNumbers (nodeAt ns e))) && each (λ k. Flag own (get_or (childNumbers (nodeAt ns e)) k 0)) (length (childNumbers (nodeAt ns e)))
+  All own e = ltb 0 (length (child_numbers (node_at ns e))) && each (λ k. Flag own (get_or (child_numbers (node_at ns e)) k 0)) (length (child_numbers (node_at ns e)))
 
   -- a literal is constant, and a member of a class with a constant, and whatever has children that all are
-  flag_is : (own : ℕ → Constant) (e : ℕ) → e < length ns → Flag own e ≡ (isConstant (carried (nodeAt ns e)) || (isConstant (own e) || All own e))
+  flag_is : (own : ℕ → Constant) (e : ℕ) → e < length ns → Flag own e ≡ (is_constant (carried (node_at ns e)) || (is_constant (own e) || All own e))
   flag_is own e l =
-      ap isConstant (constant-by-is ns s own e l)
-      ∙ or-constant (carried (nodeAt ns e)) (or_else (own e) (if All own e then heterogeneous else noConstant))
-      ∙ ap (λ (t : Bool). isConstant (carried (nodeAt ns e)) || t) (or-constant (own e) (if All own e then heterogeneous else noConstant)
-      ∙ ap (λ (t : Bool). isConstant (own e) || t) (tested (All own e)))
+      ap is_constant (constant_by-is ns s own e l)
+      ∙ or-constant (carried (node_at ns e)) (or_else (own e) (if All own e then heterogeneous else no_constant))
+      ∙ ap (λ (t : Bool). is_constant (carried (node_at ns e)) || t) (or-constant (own e) (if All own e then heterogeneous else no_constant)
+      ∙ ap (λ (t : Bool). is_constant (own e) || t) (tested (All own e)))
 
   -- accounts of the classes' constants that agree on who has one give the same answers
-  flag-below : (own other : ℕ → Constant) → ((x : ℕ) → x < length ns → isConstant (own x) ≡ isConstant (other x)) → (m e : ℕ) → e < m → e < length ns → Flag own e ≡ Flag other e
+  flag-below : (own other : ℕ → Constant) → ((x : ℕ) → x < length ns → is_constant (own x) ≡ is_constant (other x)) → (m e : ℕ) → e < m → e < length ns → Flag own e ≡ Flag other e
   flag-below own other h zero e u l = absurd (omega arith)
   flag-below own other h (suc m) e u l = step (λ j v. flag-below own other h m j (omega arith) (omega arith))
     where
       js : List ℕ
-      js = childNumbers (nodeAt ns e)
+      js = child_numbers (node_at ns e)
 
       step : ((j : ℕ) → j < e → Flag own j ≡ Flag other j) → Flag own e ≡ Flag other e
       step lower =
           let c : each (λ k. Flag own (get_or js k 0)) (length js) ≡ each (λ k. Flag other (get_or js k 0)) (length js) =
-          each-cong (λ k. Flag own (get_or js k 0)) (λ k. Flag other (get_or js k 0)) (length js) (λ k v. lower (get_or js k 0) (child-under ns s e k l v)) in
+          each_cong (λ k. Flag own (get_or js k 0)) (λ k. Flag other (get_or js k 0)) (length js) (λ k v. lower (get_or js k 0) (child-under ns s e k l v)) in
           flag_is own e l ∙ rw (h e l, c) (sym (flag_is other e l))
 
-  pub flag-cong : (own other : ℕ → Constant) → ((x : ℕ) → x < length ns → isConstant (own x) ≡ isConstant (other x)) → (e : ℕ) → e < length ns → isConstant (constant_by ns own e) ≡ isConstant (constant_by ns other e)
-  flag-cong own other h e l = flag-below own other h (length ns) e l l
+  pub flag_cong : (own other : ℕ → Constant) → ((x : ℕ) → x < length ns → is_constant (own x) ≡ is_constant (other x)) → (e : ℕ) → e < length ns → is_constant (constant_by ns own e) ≡ is_constant (constant_by ns other e)
+  flag_cong own other h e l = flag-below own other h (length ns) e l l
 
   -- neither a literal nor in a class with a constant: heterogeneous where it is constant, else none
-  pub by_flag : (own : ℕ → Constant) (e : ℕ) → e < length ns → carried (nodeAt ns e) ≡ noConstant → own e ≡ noConstant
-      → constant_by ns own e ≡ (if isConstant (constant_by ns own e) then heterogeneous else noConstant)
+  pub by_flag : (own : ℕ → Constant) (e : ℕ) → e < length ns → carried (node_at ns e) ≡ no_constant → own e ≡ no_constant
+      → constant_by ns own e ≡ (if is_constant (constant_by ns own e) then heterogeneous else no_constant)
   unfolding or_else
   by_flag own e l p q =
-      let c : constant_by ns own e ≡ (if All own e then heterogeneous else noConstant) = constant-by-is ns s own e l ∙ rw (p, q) in
-      let t : isConstant (constant_by ns own e) ≡ All own e = ap isConstant c ∙ tested (All own e) in
-      c ∙ ap (λ (b : Bool). if b then heterogeneous else noConstant) (sym t)
+      let c : constant_by ns own e ≡ (if All own e then heterogeneous else no_constant) = constant_by-is ns s own e l ∙ rw (p, q) in
+      let t : is_constant (constant_by ns own e) ≡ All own e = ap is_constant c ∙ tested (All own e) in
+      c ∙ ap (λ (b : Bool). if b then heterogeneous else no_constant) (sym t)
 
   -- no literal, in a class with a constant
-  pub by-class : (own : ℕ → Constant) (e : ℕ) → e < length ns → carried (nodeAt ns e) ≡ noConstant → isConstant (own e) ≡ true → constant_by ns own e ≡ own e
-  unfolding or_else isConstant
-  by-class own e l p q = constant-by-is ns s own e l ∙ rw p (go (own e) q)
+  pub by-class : (own : ℕ → Constant) (e : ℕ) → e < length ns → carried (node_at ns e) ≡ no_constant → is_constant (own e) ≡ true → constant_by ns own e ≡ own e
+  unfolding or_else is_constant
+  by-class own e l p q = constant_by-is ns s own e l ∙ rw p (go (own e) q)
     where
-      go : (c : Constant) → isConstant c ≡ true → or_else c (if All own e then heterogeneous else noConstant) ≡ c
-      go noConstant h = absurd (let z : ◌≡◌ {A = ℕ} 0 1 = cc in omega arith)
+      go : (c : Constant) → is_constant c ≡ true → or_else c (if All own e then heterogeneous else no_constant) ≡ c
+      go no_constant h = absurd (let z : ◌≡◌ {A = ℕ} 0 1 = cc in omega arith)
       go heterogeneous h = refl
       go unknown h = refl
       go (known v) h = refl
 
 -- a flavour other than 0 is a constant's, and 0 is that of none
-flavour-some : (c : Constant) → (flavourOf c ≡ 0 → ⊥) → isConstant c ≡ true
-unfolding isConstant flavourOf
-flavour-some noConstant h = absurd (h refl)
+flavour-some : (c : Constant) → (flavour_of c ≡ 0 → ⊥) → is_constant c ≡ true
+unfolding is_constant flavour_of
+flavour-some no_constant h = absurd (h refl)
 flavour-some heterogeneous h = refl
 flavour-some unknown h = refl
 flavour-some (known v) h = refl
 
-flavour-none : (c : Constant) → flavourOf c ≡ 0 → c ≡ noConstant
-unfolding flavourOf
-flavour-none noConstant e = refl
+flavour-none : (c : Constant) → flavour_of c ≡ 0 → c ≡ no_constant
+unfolding flavour_of
+flavour-none no_constant e = refl
 flavour-none heterogeneous e = absurd (omega arith)
 flavour-none unknown e = absurd (omega arith)
 flavour-none (known v) e = absurd (omega arith)
 
 -- by the table of the arena's nodes a class has a constant if it has
-marked-same : (cs : List Class) (n : ℕ) (marks : List ℕ) → Marked cs n marks → (x : ℕ) → x < n → isConstant (markedBy marks x) ≡ isConstant (classConstant cs x)
-unfolding markedBy isConstant flavourOf
-marked-same cs n marks h x l = go (classConstant cs x) (h x l)
+marked-same : (cs : List Class) (n : ℕ) (marks : List ℕ) → Marked cs n marks → (x : ℕ) → x < n → is_constant (marked_by marks x) ≡ is_constant (class_constant cs x)
+unfolding marked_by is_constant flavour_of
+marked-same cs n marks h x l = go (class_constant cs x) (h x l)
   where
-    go : (c : Constant) → get_or marks x 0 ≡ flavourOf c → isConstant (markedBy marks x) ≡ isConstant c
-    go noConstant e = rw e
+    go : (c : Constant) → get_or marks x 0 ≡ flavour_of c → is_constant (marked_by marks x) ≡ is_constant c
+    go no_constant e = rw e
     go heterogeneous e = rw e
     go unknown e = rw e
     go (known v) e = rw e
 
 -- a node is a literal, or carries no constant
 module _ (s : List ℕ) (e : ℕ) (k : Known s e) where
-  node-is : nodeAt (nodes s) e ≡ node_of (rowOf s e)
+  node-is : node_at (nodes s) e ≡ node_of (row_of s e)
   node-is = node-decode s e k.below
 
-  pub literal-carries : cell_of s e 0 ≡ 2 → carried (nodeAt (nodes s) e) ≡ known (cell_of s e 1)
+  pub literal_carries : cell_of s e 0 ≡ 2 → carried (node_at (nodes s) e) ≡ known (cell_of s e 1)
   unfolding carried
-  literal-carries q = rw (node-is, node-literal (rowOf s e) (at-row-of s e 0 (omega arith) ∙ q), at-row-of s e 1 (omega arith))
+  literal_carries q = rw (node-is, node-literal (row_of s e) (at-row_of s e 0 (omega arith) ∙ q), at-row_of s e 1 (omega arith))
 
-  pub other-carries : (cell_of s e 0 ≡ 2 → ⊥) → carried (nodeAt (nodes s) e) ≡ noConstant
+  pub other_carries : (cell_of s e 0 ≡ 2 → ⊥) → carried (node_at (nodes s) e) ≡ no_constant
   unfolding carried
-  other-carries q = go (ℕ_discrete (get_or (rowOf s e) 0 0) 1)
+  other_carries q = go (ℕ_discrete (get_or (row_of s e) 0 0) 1)
     where
-      go : Dec (get_or (rowOf s e) 0 0 ≡ 1) → carried (nodeAt (nodes s) e) ≡ noConstant
-      go (yes y) = rw (node-is, node-column (rowOf s e) y)
-      go (no y) = rw (node-is, node-operation (rowOf s e) y (λ z. q (sym (at-row-of s e 0 (omega arith)) ∙ z)))
+      go : Dec (get_or (row_of s e) 0 0 ≡ 1) → carried (node_at (nodes s) e) ≡ no_constant
+      go (yes y) = rw (node-is, node-column (row_of s e) y)
+      go (no y) = rw (node-is, node-operation (row_of s e) y (λ z. q (sym (at-row_of s e 0 (omega arith)) ∙ z)))
 
 -- child k of e is constant
 abbrev pub Child : List ℕ → List ℕ → ℕ → ℕ → Bool
-Child s marks e k = isConstant (constant_by (nodes s) (markedBy marks) (get_or (Children s e) k 0))
+Child s marks e k = is_constant (constant_by (nodes s) (marked_by marks) (get_or (Children s e) k 0))
 
 module _ (s marks seen : List ℕ) (e : ℕ) (q : AskedConstant s marks seen e) where
   abbrev Here : Bool
-  Here = isConstant (constant_by (nodes s) (markedBy marks) e)
+  Here = is_constant (constant_by (nodes s) (marked_by marks) e)
 
   abbrev Each : Bool
   Each = ltb 0 (length (Children s e)) && each (Child s marks e) (length (Children s e))
 
-  rule : Here ≡ (isConstant (carried (nodeAt (nodes s) e)) || (isConstant (markedBy marks e) || Each))
-  rule = flag_is (nodes s) q.known.holds.sound (markedBy marks) e (known-inside s e q.known)
+  rule : Here ≡ (is_constant (carried (node_at (nodes s) e)) || (is_constant (marked_by marks e) || Each))
+  rule = flag_is (nodes s) q.known.holds.sound (marked_by marks) e (known-inside s e q.known)
 
   -- a literal
   pub literal-answered : cell_of s e 0 ≡ 2 → AnsweredConstant s marks seen e true
-  unfolding isConstant
-  literal-answered c = record { is = sym (rule ∙ rw (literal-carries s e q.known c)); told = q.told }
+  unfolding is_constant
+  literal-answered c = record { is = sym (rule ∙ rw (literal_carries s e q.known c)); told = q.told }
 
   -- in the table
   pub seen-answered : get_or seen e 0 ≡ 1 → AnsweredConstant s marks seen e true
   seen-answered c = record { is = sym (q.told e c); told = q.told }
 
   module _ (o : cell_of s e 0 ≡ 2 → ⊥) where
-    no-literal : Here ≡ (isConstant (markedBy marks e) || Each)
-    unfolding isConstant
-    no-literal = rule ∙ rw (other-carries s e q.known o)
+    no_literal : Here ≡ (is_constant (marked_by marks e) || Each)
+    unfolding is_constant
+    no_literal = rule ∙ rw (other_carries s e q.known o)
 
     -- in a class with a constant
     pub class-constant : (get_or marks e 0 ≡ 0 → ⊥) → AnsweredConstant s marks seen e true
-    unfolding isConstant markedBy
-    class-constant c = record { is = sym (no-literal ∙ rw (ne_eqb (get_or marks e 0) 0 c)); told = q.told }
+    unfolding is_constant marked_by
+    class-constant c = record { is = sym (no_literal ∙ rw (ne_eqb (get_or marks e 0) 0 c)); told = q.told }
 
     module _ (c : get_or marks e 0 ≡ 0) where
       by-children : Here ≡ Each
-      unfolding isConstant markedBy
-      by-children = no-literal ∙ rw c
+      unfolding is_constant marked_by
+      by-children = no_literal ∙ rw c
 
       -- no children
-      pub leaf-constant : length (Children s e) ≡ 0 → AnsweredConstant s marks seen e false
-      leaf-constant z = record { is = sym (by-children ∙ rw z); told = q.told }
+      pub leaf_constant : length (Children s e) ≡ 0 → AnsweredConstant s marks seen e false
+      leaf_constant z = record { is = sym (by-children ∙ rw z); told = q.told }
 
       module _ (n : ℕ) (m : n ≡ length (Children s e)) (z : n ≡ 0 → ⊥) where
         -- what the walk over the children asks
@@ -202,7 +202,7 @@ module _ (s marks seen : List ℕ) (e : ℕ) (q : AskedConstant s marks seen e) 
         pub constants-noted : (t : List ℕ) → AnsweredConstants s marks t e n true → AnsweredConstant s marks (set t e 1) e true
         constants-noted t w = record { is = w.is ∙ sym walked; told = λ x h. at x h (ℕ_discrete x e) }
           where
-            at : (x : ℕ) → get_or (set t e 1) x 0 ≡ 1 → Dec (x ≡ e) → isConstant (constant_by (nodes s) (markedBy marks) x) ≡ true
+            at : (x : ℕ) → get_or (set t e 1) x 0 ≡ 1 → Dec (x ≡ e) → is_constant (constant_by (nodes s) (marked_by marks) x) ≡ true
             at x h (yes y) = rw y (sym (w.is ∙ sym walked))
             at x h (no y) = w.told x (sym (get_or-set_other t e x 1 0 y) ∙ h)
 
@@ -248,53 +248,53 @@ pub fresh-constant : (ns : List Node) (marks : List ℕ) (n : ℕ) → ToldConst
 fresh-constant ns marks n e h = absurd (let z = zeros-at n e in omega arith)
 
 -- the constant of a class, by the answer of the search
-pub mark-at : (cs : List Class) (e i : ℕ) (m : Mark) → At i ≡ place_of (class_of cs e) → m ≡ mark_of (class_at cs i).constant → m ≡ mark_of (classConstant cs e)
-unfolding classConstant
+pub mark-at : (cs : List Class) (e i : ℕ) (m : Mark) → At i ≡ place_of (class_of cs e) → m ≡ mark_of (class_at cs i).constant → m ≡ mark_of (class_constant cs e)
+unfolding class_constant
 mark-at cs e i m p q = q ∙ rw (place_at (class_of cs e) i p)
 
-pub mark-nowhere : (cs : List Class) (e : ℕ) → Nowhere ≡ place_of (class_of cs e) → record { flavour = 0; value = 0 } ≡ mark_of (classConstant cs e)
-unfolding classConstant flavourOf value_of
+pub mark-nowhere : (cs : List Class) (e : ℕ) → Nowhere ≡ place_of (class_of cs e) → record { flavour = 0; value = 0 } ≡ mark_of (class_constant cs e)
+unfolding class_constant flavour_of value_of
 mark-nowhere cs e p = rw (place-nowhere (class_of cs e) p)
 
 -- a table of flavours that holds below e, and the answer for e written into it
-pub marked_more : (cs : List Class) (marks : List ℕ) (e : ℕ) (m : Mark) → e < length marks → Marked cs e marks → m ≡ mark_of (classConstant cs e) → Marked cs (e + 1) (set marks e m.flavour)
+pub marked_more : (cs : List Class) (marks : List ℕ) (e : ℕ) (m : Mark) → e < length marks → Marked cs e marks → m ≡ mark_of (class_constant cs e) → Marked cs (e + 1) (set marks e m.flavour)
 marked_more cs marks e m l h q j b = at (ℕ_discrete j e)
   where
-    at : Dec (j ≡ e) → get_or (set marks e m.flavour) j 0 ≡ flavourOf (classConstant cs j)
+    at : Dec (j ≡ e) → get_or (set marks e m.flavour) j 0 ≡ flavour_of (class_constant cs j)
     at (yes t) = rw t (get_or-set_same marks e m.flavour 0 l ∙ ap (λ (o : Mark). o.flavour) q)
     at (no t) = get_or-set_other marks e j m.flavour 0 t ∙ h j (omega arith)
 
 -- the answers of the constant question
 module _ (s : List ℕ) (cs : List Class) (e : ℕ) (k : Known s e) where
-  pub literal-mark : cell_of s e 0 ≡ 2 → record { flavour = 3; value = cell_of s e 1 } ≡ mark_of (exprConstant (nodes s) cs e)
-  unfolding or_else flavourOf value_of
+  pub literal-mark : cell_of s e 0 ≡ 2 → record { flavour = 3; value = cell_of s e 1 } ≡ mark_of (expr_constant (nodes s) cs e)
+  unfolding or_else flavour_of value_of
   literal-mark q =
-      let c : exprConstant (nodes s) cs e ≡ known (cell_of s e 1) =
-      constant-by-is (nodes s) k.holds.sound (classConstant cs) e (known-inside s e k) ∙ rw (literal-carries s e k q) in
+      let c : expr_constant (nodes s) cs e ≡ known (cell_of s e 1) =
+      constant_by-is (nodes s) k.holds.sound (class_constant cs) e (known-inside s e k) ∙ rw (literal_carries s e k q) in
       rw c
 
-  module _ (o : cell_of s e 0 ≡ 2 → ⊥) (own : Mark) (q : own ≡ mark_of (classConstant cs e)) where
-    flavour-is : own.flavour ≡ flavourOf (classConstant cs e)
+  module _ (o : cell_of s e 0 ≡ 2 → ⊥) (own : Mark) (q : own ≡ mark_of (class_constant cs e)) where
+    flavour-is : own.flavour ≡ flavour_of (class_constant cs e)
     flavour-is = ap (λ (m : Mark). m.flavour) q
 
-    pub class-mark : (own.flavour ≡ 0 → ⊥) → own ≡ mark_of (exprConstant (nodes s) cs e)
+    pub class-mark : (own.flavour ≡ 0 → ⊥) → own ≡ mark_of (expr_constant (nodes s) cs e)
     class-mark z =
         q
-        ∙ ap (λ (c : Constant). mark_of c) (sym (by-class (nodes s) k.holds.sound (classConstant cs) e (known-inside s e k) (other-carries s e k o)
-        (flavour-some (classConstant cs e) (λ f. z (flavour-is ∙ f)))))
+        ∙ ap (λ (c : Constant). mark_of c) (sym (by-class (nodes s) k.holds.sound (class_constant cs) e (known-inside s e k) (other_carries s e k o)
+        (flavour-some (class_constant cs e) (λ f. z (flavour-is ∙ f)))))
 
     module _ (z : own.flavour ≡ 0) (marks : List ℕ) (h : Marked cs (count s) marks) where
-      flagged : (r : Bool) → r ≡ isConstant (constant_by (nodes s) (markedBy marks) e) → exprConstant (nodes s) cs e ≡ (if r then heterogeneous else noConstant)
+      flagged : (r : Bool) → r ≡ is_constant (constant_by (nodes s) (marked_by marks) e) → expr_constant (nodes s) cs e ≡ (if r then heterogeneous else no_constant)
       flagged r a =
-          let t : r ≡ isConstant (exprConstant (nodes s) cs e) =
-          a ∙ flag-cong (nodes s) k.holds.sound (markedBy marks) (classConstant cs) (λ x l. marked-same cs (count s) marks h x (rw (length-decode s) at l)) e (known-inside s e k) in
-          by_flag (nodes s) k.holds.sound (classConstant cs) e (known-inside s e k) (other-carries s e k o) (flavour-none (classConstant cs e) (sym flavour-is ∙ z))
-          ∙ ap (λ (b : Bool). if b then heterogeneous else noConstant) (sym t)
+          let t : r ≡ is_constant (expr_constant (nodes s) cs e) =
+          a ∙ flag_cong (nodes s) k.holds.sound (marked_by marks) (class_constant cs) (λ x l. marked-same cs (count s) marks h x (rw (length-decode s) at l)) e (known-inside s e k) in
+          by_flag (nodes s) k.holds.sound (class_constant cs) e (known-inside s e k) (other_carries s e k o) (flavour-none (class_constant cs e) (sym flavour-is ∙ z))
+          ∙ ap (λ (b : Bool). if b then heterogeneous else no_constant) (sym t)
 
-      pub walk-yes : true ≡ isConstant (constant_by (nodes s) (markedBy marks) e) → record { flavour = 1; value = 0 } ≡ mark_of (exprConstant (nodes s) cs e)
-      unfolding flavourOf value_of
-      walk-yes a = rw (flagged true a)
+      pub walk_yes : true ≡ is_constant (constant_by (nodes s) (marked_by marks) e) → record { flavour = 1; value = 0 } ≡ mark_of (expr_constant (nodes s) cs e)
+      unfolding flavour_of value_of
+      walk_yes a = rw (flagged true a)
 
-      pub walk_no : false ≡ isConstant (constant_by (nodes s) (markedBy marks) e) → record { flavour = 0; value = 0 } ≡ mark_of (exprConstant (nodes s) cs e)
-      unfolding flavourOf value_of
+      pub walk_no : false ≡ is_constant (constant_by (nodes s) (marked_by marks) e) → record { flavour = 0; value = 0 } ≡ mark_of (expr_constant (nodes s) cs e)
+      unfolding flavour_of value_of
       walk_no a = rw (flagged false a)

@@ -9,18 +9,18 @@ use borrow.Author.Tests.{eq-eqb, ne_eqb, eqb-true}
 use lib.Dec.{eqb, ltb}
 use lib.ListN.{length, get_or, replicate}
 use Rattle.laws.specs.Tests.{each}
-use Rattle.laws.proofs.Booleans.{true-not-false, and_right}
+use Rattle.laws.proofs.Booleans.{true_not_false, and_right}
 use Rattle.laws.proofs.Each.{each_none, each_more, each-stops, each-ends}
-use Rattle.arena.specs.Node.{Node, nodeAt, childNumbers}
+use Rattle.arena.specs.Node.{Node, node_at, child_numbers}
 use Rattle.arena.specs.Layout.{count, decode as nodes}
 use Rattle.arena.specs.Inner.{Known}
 use Rattle.arena.proofs.Layouts.{length-decode}
 use Rattle.arena.proofs.Children.{child-below, known-lower}
 use Rattle.classes.specs.Class.{Class}
-use Rattle.classes.specs.Group.{sameClass}
-use Rattle.questions.specs.Questions.{equalBy, exprsEqual}
-use Rattle.questions.specs.Inner.{Placed, samePlace, toldPair, Told, Asked, Answered, AskedAll, AnsweredAll, pairUp}
-use Rattle.questions.proofs.Asking.{equal-by-is, equal-by-cong}
+use Rattle.classes.specs.Group.{same_class}
+use Rattle.questions.specs.Questions.{equal_by, exprs_equal}
+use Rattle.questions.specs.Inner.{Placed, same_place, told_pair, Told, Asked, Answered, AskedAll, AnsweredAll, pair_up}
+use Rattle.questions.proofs.Asking.{equal_by-is, equal_by_cong}
 use Rattle.questions.proofs.PlaceNumbers.{same-placed}
 use Rattle.questions.proofs.Pairs.{none_told}
 
@@ -33,11 +33,11 @@ known-place s e k = omega (arith, k.below, k.holds.few)
 
 -- the children of a node
 abbrev pub Children : List ℕ → ℕ → List ℕ
-Children s e = childNumbers (nodeAt (nodes s) e)
+Children s e = child_numbers (node_at (nodes s) e)
 
 -- child k of a and child k of b are equal
 abbrev pub Pair : List ℕ → List ℕ → ℕ → ℕ → ℕ → Bool
-Pair s places a b k = equalBy (nodes s) (samePlace places) (get_or (Children s a) k 0) (get_or (Children s b) k 0)
+Pair s places a b k = equal_by (nodes s) (same_place places) (get_or (Children s a) k 0) (get_or (Children s b) k 0)
 
 -- both have children, equally many, and each two are equal
 abbrev Both : List ℕ → List ℕ → ℕ → ℕ → Bool
@@ -58,42 +58,42 @@ and-stops false q r e = refl
 
 and_last : (p q r : Bool) → (p && q) ≡ true → (p && q && r) ≡ r
 and_last true q r e = rw e
-and_last false q r e = absurd (true-not-false e refl)
+and_last false q r e = absurd (true_not_false e refl)
 
 module _ (s places seen : List ℕ) (a b : ℕ) (q : Asked s places seen a b) where
-  rule : equalBy (nodes s) (samePlace places) a b ≡ (eqb a b || samePlace places a b || Both s places a b)
-  rule = equal-by-is (nodes s) q.left.holds.sound (samePlace places) a b (known-inside s a q.left)
+  rule : equal_by (nodes s) (same_place places) a b ≡ (eqb a b || same_place places a b || Both s places a b)
+  rule = equal_by-is (nodes s) q.left.holds.sound (same_place places) a b (known-inside s a q.left)
 
   -- the same number
   pub self-answered : a ≡ b → Answered s places seen a b true
   self-answered e = record { is = sym (rule ∙ rw (eq-eqb a b e)); told = q.told }
 
   -- one class
-  pub class-answered : samePlace places a b ≡ true → Answered s places seen a b true
-  class-answered e = record { is = sym (rule ∙ or-second (eqb a b) (samePlace places a b) (Both s places a b) e); told = q.told }
+  pub class-answered : same_place places a b ≡ true → Answered s places seen a b true
+  class-answered e = record { is = sym (rule ∙ or-second (eqb a b) (same_place places a b) (Both s places a b) e); told = q.told }
 
   -- the pair is in the table
-  pub pair-answered : toldPair seen a b ≡ true → Answered s places seen a b true
+  pub pair-answered : told_pair seen a b ≡ true → Answered s places seen a b true
   pair-answered e = record { is = sym (q.told a b (known-place s a q.left) (known-place s b q.right) e); told = q.told }
 
-  module _ (d : a ≡ b → ⊥) (p : samePlace places a b ≡ false) where
+  module _ (d : a ≡ b → ⊥) (p : same_place places a b ≡ false) where
     -- it hangs on the children
-    by-children : equalBy (nodes s) (samePlace places) a b ≡ Both s places a b
-    by-children = rule ∙ or-last (eqb a b) (samePlace places a b) (Both s places a b) (ne_eqb a b d) p
+    by-children : equal_by (nodes s) (same_place places) a b ≡ Both s places a b
+    by-children = rule ∙ or-last (eqb a b) (same_place places a b) (Both s places a b) (ne_eqb a b d) p
 
     -- no children, or another number of them
-    pub unpaired-answered : pairUp (Children s a) (Children s b) ≡ false → Answered s places seen a b false
-    unpaired-answered e = record { is = sym (by-children ∙ and-stops (ltb 0 (length (Children s a))) (eqb (length (Children s a)) (length (Children s b))) (each (Pair s places a b) (length (Children s a))) e); told = q.told }
+    pub unpaired_answered : pair_up (Children s a) (Children s b) ≡ false → Answered s places seen a b false
+    unpaired_answered e = record { is = sym (by-children ∙ and-stops (ltb 0 (length (Children s a))) (eqb (length (Children s a)) (length (Children s b))) (each (Pair s places a b) (length (Children s a))) e); told = q.told }
 
-    module _ (n : ℕ) (c : n ≡ length (Children s a)) (k : pairUp (Children s a) (Children s b) ≡ true) where
-      equally-many : length (Children s a) ≡ length (Children s b)
-      equally-many = eqb-true (length (Children s a)) (length (Children s b)) (and_right (ltb 0 (length (Children s a))) (eqb (length (Children s a)) (length (Children s b))) k)
+    module _ (n : ℕ) (c : n ≡ length (Children s a)) (k : pair_up (Children s a) (Children s b) ≡ true) where
+      equally_many : length (Children s a) ≡ length (Children s b)
+      equally_many = eqb-true (length (Children s a)) (length (Children s b)) (and_right (ltb 0 (length (Children s a))) (eqb (length (Children s a)) (length (Children s b))) k)
 
       -- what the walk over the children asks
       pub children-asked : AskedAll s places seen a b n
-      children-asked = record { asked = q; left = sym c; right = sym equally-many ∙ sym c }
+      children-asked = record { asked = q; left = sym c; right = sym equally_many ∙ sym c }
 
-      walked : equalBy (nodes s) (samePlace places) a b ≡ each (Pair s places a b) n
+      walked : equal_by (nodes s) (same_place places) a b ≡ each (Pair s places a b) n
       walked =
           by-children
           ∙ and_last (ltb 0 (length (Children s a))) (eqb (length (Children s a)) (length (Children s b))) (each (Pair s places a b) (length (Children s a))) k
@@ -105,14 +105,14 @@ module _ (s places seen : List ℕ) (a b : ℕ) (q : Asked s places seen a b) wh
 
       -- all are equal, and the pair was put into the table
       pub children-noted : (t u : List ℕ) → AnsweredAll s places t a b n true
-          → ((x y : ℕ) → x < 1024 → y < 1024 → toldPair u x y ≡ true → ((x ≡ a) × (y ≡ b) → ⊥) → toldPair t x y ≡ true)
+          → ((x y : ℕ) → x < 1024 → y < 1024 → told_pair u x y ≡ true → ((x ≡ a) × (y ≡ b) → ⊥) → told_pair t x y ≡ true)
           → Answered s places u a b true
       children-noted t u w h = record { is = yes'; told = λ x y lx ly m. at x y lx ly m (ℕ_discrete x a) (ℕ_discrete y b) }
         where
-          yes' : true ≡ equalBy (nodes s) (samePlace places) a b
+          yes' : true ≡ equal_by (nodes s) (same_place places) a b
           yes' = w.is ∙ sym walked
 
-          at : (x y : ℕ) → x < 1024 → y < 1024 → toldPair u x y ≡ true → Dec (x ≡ a) → Dec (y ≡ b) → equalBy (nodes s) (samePlace places) x y ≡ true
+          at : (x y : ℕ) → x < 1024 → y < 1024 → told_pair u x y ≡ true → Dec (x ≡ a) → Dec (y ≡ b) → equal_by (nodes s) (same_place places) x y ≡ true
           at x y lx ly m (yes e) (yes f) = rw (e, f) (sym yes')
           at x y lx ly m (yes e) (no f) = w.told x y lx ly (h x y lx ly m (λ v. f v.1))
           at x y lx ly m (no e) f = w.told x y lx ly (h x y lx ly m (λ v. e v.0))
@@ -168,11 +168,11 @@ module _ (s places seen₀ : List ℕ) (a b n : ℕ) (q : AskedAll s places seen
 
 -- the answer by a table of the classes' places is the group's
 pub by-places : (s places : List ℕ) (cs : List Class) (a b : ℕ) → Known s a → Known s b → Placed cs (count s) places
-    → equalBy (nodes s) (samePlace places) a b ≡ exprsEqual (nodes s) cs a b
+    → equal_by (nodes s) (same_place places) a b ≡ exprs_equal (nodes s) cs a b
 by-places s places cs a b j k h =
-    equal-by-cong (nodes s) j.holds.sound (samePlace places) (sameClass cs)
+    equal_by_cong (nodes s) j.holds.sound (same_place places) (same_class cs)
     (λ x y lx ly. same-placed cs (count s) places h x y (rw (length-decode s) at lx) (rw (length-decode s) at ly)) a b (known-inside s a j) (known-inside s b k)
 
 -- a fresh table says nothing
 pub fresh-told : (ns : List Node) (places : List ℕ) (n : ℕ) → Told ns places (replicate n 0)
-fresh-told ns places n a b la lb h = absurd (true-not-false h (none_told n a b))
+fresh-told ns places n a b la lb h = absurd (true_not_false h (none_told n a b))

@@ -12,7 +12,7 @@ use lib.ListN.{length, get_or, set, replicate}
 use lib.Pow.{pow-lt, pow-add, shl_exact, shl-shr}
 use lib.Seq.{set_out, get_or-set_same, get_or-set_other}
 use Rattle.classes.proofs.Numbers.{zeros-at}
-use Rattle.questions.specs.Inner.{toldPair}
+use Rattle.questions.specs.Inner.{told_pair}
 
 -- bit i of a power of two with another exponent is 0
 other-bit : (i j : ℕ) → (i ≡ j → ⊥) → 2 ^ j / 2 ^ i % 2 ≡ 0
@@ -38,9 +38,9 @@ module _ (seen : List ℕ) where
   -- a pair that is in the table after a, b was put in, and is another, was in it before
   pub pair-kept : (a b : ℕ) → b < 1024
       → (x y : ℕ) → y < 1024
-      → toldPair (set seen (a * 16 + b / 64) (bit_or (get_or seen (a * 16 + b / 64) 0) (1 * 2 ^ (b % 64) % 18446744073709551616))) x y ≡ true
-      → ((x ≡ a) × (y ≡ b) → ⊥) → toldPair seen x y ≡ true
-  unfolding toldPair
+      → told_pair (set seen (a * 16 + b / 64) (bit_or (get_or seen (a * 16 + b / 64) 0) (1 * 2 ^ (b % 64) % 18446744073709551616))) x y ≡ true
+      → ((x ≡ a) × (y ≡ b) → ⊥) → told_pair seen x y ≡ true
+  unfolding told_pair
   pair-kept a b lb x y ly h d = go (ℕ_discrete at to) (dec_lt to (length seen))
     where
       to : ℕ
@@ -70,6 +70,6 @@ module _ (seen : List ℕ) where
           ap (λ (k : ℕ). eqb k 1) (sym e) ∙ h
 
 -- a fresh table has no pair
-pub none_told : (n a b : ℕ) → toldPair (replicate n 0) a b ≡ false
-unfolding toldPair
+pub none_told : (n a b : ℕ) → told_pair (replicate n 0) a b ≡ false
+unfolding told_pair
 none_told n a b = rw (zeros-at n (a * 16 + b / 64), zero-div (2 ^ (b % 64)))

@@ -11,38 +11,38 @@ use lib.ListN.{length, get_or, set}
 use lib.Seq.{get_or-set_same, get_or-set_other}
 use Rattle.laws.proofs.Booleans.{same_test}
 use Rattle.classes.specs.Class.{Class}
-use Rattle.classes.specs.Group.{class_of, sameClass}
+use Rattle.classes.specs.Group.{class_of, same_class}
 use Rattle.classes.specs.Inner.{place_of}
 use Rattle.classes.specs.declared.Place.TheVariants.{At, Nowhere}
 use Rattle.classes.proofs.ClassPlaces.{place_at, place-nowhere}
-use Rattle.questions.specs.Inner.{placeNumber, Placed, samePlace}
+use Rattle.questions.specs.Inner.{place_number, Placed, same_place}
 
 -- as a number
-pub number_at : (o : Option ℕ) (i : ℕ) → At i ≡ place_of o → i + 1 ≡ placeNumber o
-unfolding placeNumber
+pub number_at : (o : Option ℕ) (i : ℕ) → At i ≡ place_of o → i + 1 ≡ place_number o
+unfolding place_number
 number_at o i e = rw (place_at o i e)
 
-pub number-nowhere : (o : Option ℕ) → Nowhere ≡ place_of o → 0 ≡ placeNumber o
-unfolding placeNumber
+pub number-nowhere : (o : Option ℕ) → Nowhere ≡ place_of o → 0 ≡ place_number o
+unfolding place_number
 number-nowhere o e = rw (place-nowhere o e)
 
 -- a table that holds below e, and the answer for e written into it
-pub placed-more : (cs : List Class) (places : List ℕ) (e v : ℕ) → e < length places → Placed cs e places → v ≡ placeNumber (class_of cs e) → Placed cs (e + 1) (set places e v)
+pub placed-more : (cs : List Class) (places : List ℕ) (e v : ℕ) → e < length places → Placed cs e places → v ≡ place_number (class_of cs e) → Placed cs (e + 1) (set places e v)
 placed-more cs places e v l h q j m = at (ℕ_discrete j e)
   where
-    at : Dec (j ≡ e) → get_or (set places e v) j 0 ≡ placeNumber (class_of cs j)
+    at : Dec (j ≡ e) → get_or (set places e v) j 0 ≡ place_number (class_of cs j)
     at (yes t) = rw t (get_or-set_same places e v 0 l ∙ q)
     at (no t) = get_or-set_other places e j v 0 t ∙ h j (omega arith)
 
 -- by the table of the arena's nodes two are in one class if they are
-pub same-placed : (cs : List Class) (n : ℕ) (places : List ℕ) → Placed cs n places → (x y : ℕ) → x < n → y < n → samePlace places x y ≡ sameClass cs x y
-unfolding samePlace sameClass placeNumber
+pub same-placed : (cs : List Class) (n : ℕ) (places : List ℕ) → Placed cs n places → (x y : ℕ) → x < n → y < n → same_place places x y ≡ same_class cs x y
+unfolding same_place same_class place_number
 same-placed cs n places h x y lx ly = go (class_of cs x) (class_of cs y) refl refl
   where
-    number : (e : ℕ) → e < n → (o : Option ℕ) → class_of cs e ≡ o → get_or places e 0 ≡ placeNumber o
-    number e l o q = h e l ∙ ap placeNumber q
+    number : (e : ℕ) → e < n → (o : Option ℕ) → class_of cs e ≡ o → get_or places e 0 ≡ place_number o
+    number e l o q = h e l ∙ ap place_number q
 
-    go : (o p : Option ℕ) → class_of cs x ≡ o → class_of cs y ≡ p → samePlace places x y ≡ sameClass cs x y
+    go : (o p : Option ℕ) → class_of cs x ≡ o → class_of cs y ≡ p → same_place places x y ≡ same_class cs x y
     go none none e f = rw (number x lx none e, e, f)
     go none (some j) e f = rw (number x lx none e, e, f)
     go (some i) none e f = rw (number x lx (some i) e, number y ly none f, e, f, ne_eqb (i + 1) 0 (λ z. omega arith))

@@ -7,8 +7,8 @@
 pub mod questions;
 
 ghost use Rattle.std.specs.Prelude.{◌≡◌};
-ghost use Rattle.classes.specs.Calls.{askGroup};
-ghost use Rattle.questions.specs.Calls.{equalAnswer, constantAnswer};
+ghost use Rattle.classes.specs.Calls.{ask_group};
+ghost use Rattle.questions.specs.Calls.{equal_answer, constant_answer};
 
 use arena::cells::{node_count, wide};
 use classes::{Group, Mark};
@@ -32,7 +32,7 @@ pub enum ConstantIs {
 
 // The equality question. Refusals: 12, 11, 1.
 pub fn exprs_equal(cells: &[u32; 11265], group: Group, left: u32, right: u32) -> Answer
-    ensures { result ≡ askGroup (λ k. Answer.Refused k) (equalAnswer left right) cells.now group }
+    ensures { result ≡ ask_group (λ k. Answer.Refused k) (equal_answer left right) cells.now group }
 {
     let number = check_group(cells, group);
     if number != 0 {
@@ -54,7 +54,7 @@ pub fn exprs_equal(cells: &[u32; 11265], group: Group, left: u32, right: u32) ->
 
 // The constant question. Refusals: 12, 11, 1.
 pub fn is_expr_constant(cells: &[u32; 11265], group: Group, expr: u32) -> ConstantIs
-    ensures { result ≡ askGroup (λ k. ConstantIs.Refused k) (constantAnswer expr) cells.now group }
+    ensures { result ≡ ask_group (λ k. ConstantIs.Refused k) (constant_answer expr) cells.now group }
 {
     let number = check_group(cells, group);
     if number != 0 {

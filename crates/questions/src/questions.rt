@@ -1,14 +1,14 @@
 // The two questions: walks by recursion on the node number, each with a table of what was answered yes. The
 // first no ends the walk, so a table holds nothing but yes.
 ghost use Rattle.std.specs.Prelude.{true, false, ◌≡◌, ℕ, ◌≤◌, ◌<◌, ◌+◌, ◌*◌};
-ghost use Rattle.arena.specs.Node.{nodeAt, childNumbers};
+ghost use Rattle.arena.specs.Node.{node_at, child_numbers};
 ghost use Rattle.arena.specs.Layout.{decode as nodes};
 ghost use Rattle.arena.specs.Inner.{Known};
 ghost use Rattle.classes.specs.Group.{class_of};
 ghost use Rattle.classes.specs.Layout.{decode};
 ghost use Rattle.classes.specs.Inner.{Coded, mark_of};
-ghost use Rattle.questions.specs.Questions.{exprsEqual, classConstant, exprConstant};
-ghost use Rattle.questions.specs.Inner.{Placed, Asked, Answered, AskedAll, AnsweredAll, pairUp, placeNumber, samePlace, toldPair, Marked, AskedConstant, AnsweredConstant, AskedConstants, AnsweredConstants};
+ghost use Rattle.questions.specs.Questions.{exprs_equal, class_constant, expr_constant};
+ghost use Rattle.questions.specs.Inner.{Placed, Asked, Answered, AskedAll, AnsweredAll, pair_up, place_number, same_place, told_pair, Marked, AskedConstant, AnsweredConstant, AskedConstants, AnsweredConstants};
 
 use arena::cells::{cell_of, narrow, node_count, wide};
 use arena::reading::{child_count, child_in};
@@ -19,7 +19,7 @@ use classes::{Group, Mark, Place};
 // The place of the class of an expression as a number: 0 where there is none.
 fn place_number(g: Group, e: u32) -> u32
     requires { Coded g }
-    ensures { result ≡ placeNumber (class_of (decode g) e) }
+    ensures { result ≡ place_number (class_of (decode g) e) }
 {
     match find_class(g, e) {
         Place::At(i) => narrow(i + 1),
@@ -45,7 +45,7 @@ pub fn class_places(g: Group, n: usize) -> [u32; 1024]
 // The table has the pair a, b.
 fn has_pair(seen: &[u64; 16384], a: usize, b: usize) -> bool
     requires { (a < 1024) × (b < 1024) }
-    ensures { result ≡ toldPair seen.now a b }
+    ensures { result ≡ told_pair seen.now a b }
 {
     (seen[a * 16 + b / 64] >> (b % 64)) % 2 == 1
 }
@@ -53,7 +53,7 @@ fn has_pair(seen: &[u64; 16384], a: usize, b: usize) -> bool
 // The table with the pair a, b.
 fn add_pair(seen: &mut [u64; 16384], a: usize, b: usize)
     requires { (a < 1024) × (b < 1024) }
-    ensures { (x y : ℕ) → x < 1024 → y < 1024 → toldPair seen.new x y ≡ true → ((x ≡ a) × (y ≡ b) → ⊥) → toldPair seen.old x y ≡ true }
+    ensures { (x y : ℕ) → x < 1024 → y < 1024 → told_pair seen.new x y ≡ true → ((x ≡ a) × (y ≡ b) → ⊥) → told_pair seen.old x y ≡ true }
 {
     let at = a * 16 + b / 64;
     seen[at] = seen[at] | (1u64 << (b % 64));
@@ -62,7 +62,7 @@ fn add_pair(seen: &mut [u64; 16384], a: usize, b: usize)
 // Two expressions are in one class, by the places of their classes.
 pub fn same_place(places: &[u32; 1024], a: usize, b: usize) -> bool
     requires { (a < 1024) × (b < 1024) }
-    ensures { result ≡ samePlace places.now a b }
+    ensures { result ≡ same_place places.now a b }
 {
     let i = places[a];
     if i == 0 {
@@ -74,7 +74,7 @@ pub fn same_place(places: &[u32; 1024], a: usize, b: usize) -> bool
 // Both have children, equally many.
 fn children_pair_up(cells: &[u32; 11265], x: usize, y: usize) -> bool
     requires { Known cells.now x × Known cells.now y }
-    ensures { result ≡ pairUp (childNumbers (nodeAt (nodes cells.now) x)) (childNumbers (nodeAt (nodes cells.now) y)) }
+    ensures { result ≡ pair_up (child_numbers (node_at (nodes cells.now) x)) (child_numbers (node_at (nodes cells.now) y)) }
 {
     if cell_of(cells, x, 2) == 0 {
         return false;
@@ -144,7 +144,7 @@ fn nodes_equal(
 // The equality question, on an arena and a group that are checked already.
 pub fn equal_in(cells: &[u32; 11265], g: Group, a: u32, b: u32) -> bool
     requires { (Known cells.now a × Known cells.now b) × Coded g }
-    ensures { result ≡ exprsEqual (nodes cells.now) (decode g) a b }
+    ensures { result ≡ exprs_equal (nodes cells.now) (decode g) a b }
 {
     let n = node_count(cells);
     let places = class_places(g, n);
@@ -155,7 +155,7 @@ pub fn equal_in(cells: &[u32; 11265], g: Group, a: u32, b: u32) -> bool
 // The constant of the class of an expression, none where it has no class.
 fn class_mark(g: Group, e: u32) -> Mark
     requires { Coded g }
-    ensures { result ≡ mark_of (classConstant (decode g) e) }
+    ensures { result ≡ mark_of (class_constant (decode g) e) }
 {
     match find_class(g, e) {
         Place::At(i) => mark_of(g, i),
@@ -235,7 +235,7 @@ fn node_constant(cells: &[u32; 11265], marks: &[u32; 1024], seen: &mut [u8; 1024
 // class's constant, else heterogeneous where its children are all constant.
 pub fn constant_in(cells: &[u32; 11265], g: Group, e: u32) -> Mark
     requires { Known cells.now e × Coded g }
-    ensures { result ≡ mark_of (exprConstant (nodes cells.now) (decode g) e) }
+    ensures { result ≡ mark_of (expr_constant (nodes cells.now) (decode g) e) }
 {
     let i = wide(e);
     if cell_of(cells, i, 0) == 2 {

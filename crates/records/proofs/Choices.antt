@@ -7,24 +7,24 @@ use mathlib.Core.Path.{◌≡◌, sym}
 use native.Mathlib.Omega.{arith}
 use borrow.Author.Tests.{lt-ltb, le-ltb}
 use lib.Dec.{eqb}
-use Rattle.laws.proofs.Booleans.{and_left, and-fails-left}
+use Rattle.laws.proofs.Booleans.{and_left, and_fails_left}
 use Rattle.records.specs.Fields.{field}
 use Rattle.records.specs.Record.{is_whole}
-use Rattle.records.specs.Chosen.{isGroupRecord, side_of}
+use Rattle.records.specs.Chosen.{is_group_record, side_of}
 
 module _ (bytes : List ℕ) where
   -- a group record is whole
-  pub group-whole : isGroupRecord bytes ≡ true → is_whole bytes ≡ true
-  unfolding isGroupRecord
+  pub group-whole : is_group_record bytes ≡ true → is_whole bytes ≡ true
+  unfolding is_group_record
   group-whole g = and_left (is_whole bytes) (eqb (field bytes 2) 16) g
 
-  pub not-whole-group : is_whole bytes ≡ false → false ≡ isGroupRecord bytes
-  unfolding isGroupRecord
-  not-whole-group w = sym (and-fails-left (is_whole bytes) (eqb (field bytes 2) 16) w)
+  pub not-whole-group : is_whole bytes ≡ false → false ≡ is_group_record bytes
+  unfolding is_group_record
+  not-whole-group w = sym (and_fails_left (is_whole bytes) (eqb (field bytes 2) 16) w)
 
   -- of a whole record its kind decides
-  pub group-test : (n : ℕ) → is_whole bytes ≡ true → n ≡ field bytes 2 → eqb n 16 ≡ isGroupRecord bytes
-  unfolding isGroupRecord
+  pub group-test : (n : ℕ) → is_whole bytes ≡ true → n ≡ field bytes 2 → eqb n 16 ≡ is_group_record bytes
+  unfolding is_group_record
   group-test n w e = rw (e, w)
 
 -- the side that a kind keeps

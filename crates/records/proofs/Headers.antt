@@ -8,9 +8,9 @@ use borrow.Author.Tests.{leb-true, le-leb, lt-leb}
 use lib.Dec.{leb}
 use lib.ListN.{length, get_or, drop, length-drop}
 use lib.Seq.{length-take-le}
-use Rattle.laws.proofs.Booleans.{and_left, and_right, and_both, and-fails-left, same_test}
+use Rattle.laws.proofs.Booleans.{and_left, and_right, and_both, and_fails_left, same_test}
 use Rattle.records.specs.Fields.{field}
-use Rattle.records.specs.Record.{is_whole, recordSize, bodyOf}
+use Rattle.records.specs.Record.{is_whole, record_size, body_of}
 
 -- a number of 16 bits, from bytes
 pub field_below : (bytes : List ℕ) (at : ℕ) → get_or bytes at 0 < 256 → get_or bytes (at + 1) 0 < 256 → field bytes at < 65536
@@ -21,7 +21,7 @@ module _ (bytes : List ℕ) where
   -- a cut header
   pub cut-header : length bytes < 4 → false ≡ is_whole bytes
   unfolding is_whole
-  cut-header l = sym (and-fails-left (leb 4 (length bytes)) (leb (4 + field bytes 0) (length bytes)) (lt-leb 4 (length bytes) l))
+  cut-header l = sym (and_fails_left (leb 4 (length bytes)) (leb (4 + field bytes 0) (length bytes)) (lt-leb 4 (length bytes) l))
 
   -- behind a whole header, one test of the body
   pub whole-test : (n : ℕ) → 4 ≤ length bytes → n ≡ field bytes 0 → leb n (length bytes - 4) ≡ is_whole bytes
@@ -42,20 +42,20 @@ module _ (bytes : List ℕ) where
     unfolding is_whole
     whole-header = leb-true 4 (length bytes) (and_left (leb 4 (length bytes)) (leb (4 + field bytes 0) (length bytes)) whole)
 
-    pub whole-body : 4 + field bytes 0 ≤ length bytes
+    pub whole_body : 4 + field bytes 0 ≤ length bytes
     unfolding is_whole
-    whole-body = leb-true (4 + field bytes 0) (length bytes) (and_right (leb 4 (length bytes)) (leb (4 + field bytes 0) (length bytes)) whole)
+    whole_body = leb-true (4 + field bytes 0) (length bytes) (and_right (leb 4 (length bytes)) (leb (4 + field bytes 0) (length bytes)) whole)
 
     -- the record lies in the bytes
-    pub size-within : recordSize bytes ≤ length bytes
-    unfolding recordSize
-    size-within = whole-body
+    pub size-within : record_size bytes ≤ length bytes
+    unfolding record_size
+    size-within = whole_body
 
     -- the body has the length that the header says
-    pub length-body : length (bodyOf bytes) ≡ field bytes 0
-    unfolding bodyOf
-    length-body = let w = whole-body in length-take-le (field bytes 0) (drop 4 bytes) (omega (arith, length-drop 4 bytes))
+    pub length_body : length (body_of bytes) ≡ field bytes 0
+    unfolding body_of
+    length_body = let w = whole_body in length-take-le (field bytes 0) (drop 4 bytes) (omega (arith, length-drop 4 bytes))
 
-    pub size_is : recordSize bytes ≡ 4 + length (bodyOf bytes)
-    unfolding recordSize
-    size_is = rw length-body
+    pub size_is : record_size bytes ≡ 4 + length (body_of bytes)
+    unfolding record_size
+    size_is = rw length_body

@@ -1,6 +1,6 @@
 // Numbers in bytes, little-endian.
 ghost use Rattle.std.specs.Prelude.{◌≡◌, ◌<◌, ◌+◌, ◌*◌, length};
-ghost use Rattle.records.specs.Fields.{field as field_of, wideField};
+ghost use Rattle.records.specs.Fields.{field as field_of, wide_field};
 
 // Two bytes as a number, the lower first.
 fn pair(low: u8, high: u8) -> u16
@@ -27,7 +27,7 @@ pub fn field(bytes: &[u8], at: usize) -> u16
 // The 32-bit number at a place.
 pub fn wide_field(bytes: &[u8], at: usize) -> u32
     requires { at + 3 < length bytes.now }
-    ensures { result ≡ wideField bytes.now at }
+    ensures { result ≡ wide_field bytes.now at }
 {
     wide_pair(field(bytes, at), field(bytes, at + 2))
 }

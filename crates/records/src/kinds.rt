@@ -1,8 +1,8 @@
 // The header of a record, and the body by its kind.
 ghost use Rattle.std.specs.Prelude.{true, ◌≡◌, ◌≤◌, length};
 ghost use Rattle.records.specs.Fields.{field as field_of};
-ghost use Rattle.records.specs.Record.{is_whole, recordSize, bodyOf, columnIn, literalIn, operationIn, equalPairIn, constantIn, normalFormIn, equalityIn, orderingIn, recordIn, item_of};
-ghost use Rattle.records.specs.Chosen.{isGroupRecord, groupPart, number_of};
+ghost use Rattle.records.specs.Record.{is_whole, record_size, body_of, column_in, literal_in, operation_in, equal_pair_in, constant_in, normal_form_in, equality_in, ordering_in, record_in, item_of};
+ghost use Rattle.records.specs.Chosen.{is_group_record, group_part, number_of};
 ghost use Rattle.std.proofs.Math.Option.{some};
 
 use crate::Item;
@@ -19,7 +19,7 @@ pub fn body_length(bytes: &[u8]) -> usize
 // How many bytes the record takes: 4 of the header, and the body.
 pub fn record_size(bytes: &[u8]) -> usize
     requires { 4 ≤ length bytes.now }
-    ensures { result ≡ recordSize bytes.now }
+    ensures { result ≡ record_size bytes.now }
 {
     4 + body_length(bytes)
 }
@@ -36,7 +36,7 @@ pub fn is_whole(bytes: &[u8]) -> bool
 
 // A column: name and index.
 fn column(body: &[u8]) -> Item
-    ensures { result ≡ item_of (columnIn body.now) }
+    ensures { result ≡ item_of (column_in body.now) }
 {
     if body.len() != 4 {
         return Item::Malformed;
@@ -46,7 +46,7 @@ fn column(body: &[u8]) -> Item
 
 // A literal: a 32-bit value.
 fn literal(body: &[u8]) -> Item
-    ensures { result ≡ item_of (literalIn body.now) }
+    ensures { result ≡ item_of (literal_in body.now) }
 {
     if body.len() != 4 {
         return Item::Malformed;
@@ -56,7 +56,7 @@ fn literal(body: &[u8]) -> Item
 
 // An operation: a 32-bit label, then two bytes a child.
 fn operation(body: &[u8]) -> Item
-    ensures { result ≡ item_of (operationIn body.now) }
+    ensures { result ≡ item_of (operation_in body.now) }
 {
     let n = body.len();
     if n < 4 {
@@ -70,7 +70,7 @@ fn operation(body: &[u8]) -> Item
 
 // An equal pair.
 fn equal_pair(body: &[u8]) -> Item
-    ensures { result ≡ item_of (equalPairIn body.now) }
+    ensures { result ≡ item_of (equal_pair_in body.now) }
 {
     if body.len() != 4 {
         return Item::Malformed;
@@ -80,7 +80,7 @@ fn equal_pair(body: &[u8]) -> Item
 
 // A constant: expression, flavour, a 32-bit value.
 fn constant(body: &[u8]) -> Item
-    ensures { result ≡ item_of (constantIn body.now) }
+    ensures { result ≡ item_of (constant_in body.now) }
 {
     if body.len() != 8 {
         return Item::Malformed;
@@ -90,7 +90,7 @@ fn constant(body: &[u8]) -> Item
 
 // The expression of a normal form.
 fn normal_form(body: &[u8]) -> Item
-    ensures { result ≡ item_of (normalFormIn body.now) }
+    ensures { result ≡ item_of (normal_form_in body.now) }
 {
     if body.len() != 2 {
         return Item::Malformed;
@@ -100,7 +100,7 @@ fn normal_form(body: &[u8]) -> Item
 
 // The two expressions of an equality question.
 fn equality(body: &[u8]) -> Item
-    ensures { result ≡ item_of (equalityIn body.now) }
+    ensures { result ≡ item_of (equality_in body.now) }
 {
     if body.len() != 4 {
         return Item::Malformed;
@@ -110,7 +110,7 @@ fn equality(body: &[u8]) -> Item
 
 // One ordering: 1 to 16 keys of four bytes.
 fn ordering(body: &[u8]) -> Item
-    ensures { result ≡ item_of (orderingIn body.now) }
+    ensures { result ≡ item_of (ordering_in body.now) }
 {
     let n = body.len();
     if n < 4 {
@@ -127,7 +127,7 @@ fn ordering(body: &[u8]) -> Item
 
 // A body by its kind: kinds 1 to 8, and no other.
 fn read_kind(kind: u16, body: &[u8]) -> Item
-    ensures { result ≡ item_of (recordIn kind body.now) }
+    ensures { result ≡ item_of (record_in kind body.now) }
 {
     match kind {
         1 => column(body),
@@ -145,7 +145,7 @@ fn read_kind(kind: u16, body: &[u8]) -> Item
 // The body of a whole record.
 pub fn body_of(bytes: &[u8]) -> &[u8]
     requires { is_whole bytes.now ≡ true }
-    ensures { result.now ≡ bodyOf bytes.now }
+    ensures { result.now ≡ body_of bytes.now }
 {
     let end = 4 + body_length(bytes);
     &bytes[4..end]
@@ -154,7 +154,7 @@ pub fn body_of(bytes: &[u8]) -> &[u8]
 // A whole record by its kind.
 pub fn read_body(bytes: &[u8]) -> Item
     requires { is_whole bytes.now ≡ true }
-    ensures { result ≡ item_of (recordIn (field_of bytes.now 2) (bodyOf bytes.now)) }
+    ensures { result ≡ item_of (record_in (field_of bytes.now 2) (body_of bytes.now)) }
 {
     let kind = field(bytes, 2);
     read_kind(kind, body_of(bytes))
@@ -162,7 +162,7 @@ pub fn read_body(bytes: &[u8]) -> Item
 
 // A group record by its header alone: whole, and of kind 16.
 pub fn is_group_record(bytes: &[u8]) -> bool
-    ensures { result ≡ isGroupRecord bytes.now }
+    ensures { result ≡ is_group_record bytes.now }
 {
     if !is_whole(bytes) {
         return false;
@@ -172,7 +172,7 @@ pub fn is_group_record(bytes: &[u8]) -> bool
 
 // The header and the body of a group record, nothing after; the empty part where it is none.
 pub fn group_part(bytes: &[u8]) -> &[u8]
-    ensures { result.now ≡ groupPart bytes.now }
+    ensures { result.now ≡ group_part bytes.now }
 {
     if !is_group_record(bytes) {
         return &bytes[..0];

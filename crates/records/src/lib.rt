@@ -6,8 +6,8 @@ pub mod fields;
 pub mod kinds;
 
 ghost use Rattle.std.specs.Prelude.{◌≡◌};
-ghost use Rattle.records.specs.Record.{readRecord, item_of};
-ghost use Rattle.records.specs.Chosen.{chosenPart, chosenNumber};
+ghost use Rattle.records.specs.Record.{read_record, item_of};
+ghost use Rattle.records.specs.Chosen.{chosen_part, chosen_number};
 
 use kinds::{body_length, is_whole, read_body};
 
@@ -30,7 +30,7 @@ pub enum Item {
 // Reads the record at the start of some bytes. A cut header or body, a length that its kind doesn't have and a kind
 // other than 1 to 8 are malformed: 9.
 pub fn read_record(bytes: &[u8]) -> Item
-    ensures { result ≡ item_of (readRecord bytes.now) }
+    ensures { result ≡ item_of (read_record bytes.now) }
 {
     if !is_whole(bytes) {
         return Item::Malformed;
@@ -41,7 +41,7 @@ pub fn read_record(bytes: &[u8]) -> Item
 // For join kinds 4 to 9: the record of the side that is kept, as a part of the caller's own bytes, header and body and
 // nothing after. The empty part stands for a refusal, and `chosen_number` tells which.
 pub fn chosen<'a>(kind: u16, left: &'a [u8], right: &'a [u8]) -> &'a [u8]
-    ensures { result.now ≡ chosenPart kind left.now right.now }
+    ensures { result.now ≡ chosen_part kind left.now right.now }
 {
     match kind {
         4..=6 => kinds::group_part(left),
@@ -53,7 +53,7 @@ pub fn chosen<'a>(kind: u16, left: &'a [u8], right: &'a [u8]) -> &'a [u8]
 // What an empty part of `chosen` stands for: 12, a kind under 4 or over 9; 9, a chosen record whose header is cut, whose
 // kind isn't 16 or whose length passes its bytes. 0 where there is a part.
 pub fn chosen_number(kind: u16, left: &[u8], right: &[u8]) -> u32
-    ensures { result ≡ chosenNumber kind left.now right.now }
+    ensures { result ≡ chosen_number kind left.now right.now }
 {
     match kind {
         4..=6 => kinds::group_number(left),

@@ -11,22 +11,22 @@ use lib.ListN.{length, length-append}
 use lib.Seq.{get_or_at, append_snoc}
 use Rattle.laws.specs.Tests.{each}
 use Rattle.laws.proofs.Booleans.{and_left, and_right}
-use Rattle.orderings.specs.Ordering.{sameKey, built}
-use Rattle.orderings.specs.Lists.{orderingAt, nonempty, builtAll}
+use Rattle.orderings.specs.Ordering.{same_key, built}
+use Rattle.orderings.specs.Lists.{ordering_at, nonempty, built_all}
 use Rattle.reduction.specs.Reduction.{reduced}
 use Rattle.orderings.specs.Good.{GoodOrdering, Good}
-use Rattle.reduction.specs.Lent.{keyCount, nextList, eachRest, each_next, eachList, optionsKnown, exprsInside, keysLent, listsRest, lists-end, lists-next, listsLent, orderingsLent}
+use Rattle.reduction.specs.Lent.{key_count, next_list, each_rest, each_next, each_list, options_known, exprs_inside, keys_lent, lists_rest, lists_end, lists-next, lists_lent, orderings_lent}
 use Rattle.orderings.specs.Layout.{row, encode, decode}
 use Rattle.orderings.specs.Calls.{fits, listed}
-use Rattle.reduction.specs.Calls.{reducedList}
-use Rattle.orderings.specs.Inner.{Held, Short, extendedOf, allShort}
-use Rattle.reduction.specs.Inner.{addedOne, reductionOf, KeysFit, LentFit}
+use Rattle.reduction.specs.Calls.{reduced_list}
+use Rattle.orderings.specs.Inner.{Held, Short, extended_of, all_short}
+use Rattle.reduction.specs.Inner.{added_one, reduction_of, KeysFit, LentFit}
 use Rattle.orderings.specs.declared.Orderings.{Orderings}
 use Rattle.orderings.specs.declared.Extended.{Extended}
 use Rattle.orderings.specs.declared.Listed.{Listed}
 use Rattle.reduction.specs.declared.Reduction.{Reduction}
 use Rattle.orderings.proofs.Codec.{decode-encode, length-decode, count-few, good-at}
-use Rattle.orderings.proofs.OneOrdering.{NoneTwice, built-none-twice, built-same}
+use Rattle.orderings.proofs.OneOrdering.{NoneTwice, built-none_twice, built-same}
 use Rattle.orderings.proofs.Extending.{fits-here, fits_not}
 use Rattle.orderings.proofs.Appending.{append-all, short-test, test_short, long-test, short-more, told, appended-is, short-encode, short-all, listed-made, listed-many, listed-long}
 use Rattle.reduction.proofs.LentLaws.{OptionsAt, ExprsAt, OrderingAt, lent-each, length-keys, keys-distinct, keys-fit}
@@ -43,50 +43,50 @@ nonempty-none [] os e = refl
 nonempty-none (k ∷ o) os e = absurd (omega arith)
 
 module _ (ks : List ℕ) (kss : List (List ℕ)) where
-  built-some : 0 < length (built ks) → builtAll (ks ∷ kss) ≡ built ks ∷ builtAll kss
-  unfolding builtAll
+  built-some : 0 < length (built ks) → built_all (ks ∷ kss) ≡ built ks ∷ built_all kss
+  unfolding built_all
   built-some l = nonempty-some (built ks) _ l
 
-  built-none : length (built ks) ≡ 0 → builtAll (ks ∷ kss) ≡ builtAll kss
-  unfolding builtAll
+  built-none : length (built ks) ≡ 0 → built_all (ks ∷ kss) ≡ built_all kss
+  unfolding built_all
   built-none e = nonempty-none (built ks) _ e
 
 -- lists of keys that are orderings are built as they are
-built-all-same : (kss : List (List ℕ)) → ((i : ℕ) → i < length kss → (0 < length (orderingAt kss i)) × NoneTwice (orderingAt kss i)) → builtAll kss ≡ kss
-unfolding builtAll nonempty
-built-all-same [] h = refl
-built-all-same (ks ∷ kss) h =
+built_all-same : (kss : List (List ℕ)) → ((i : ℕ) → i < length kss → (0 < length (ordering_at kss i)) × NoneTwice (ordering_at kss i)) → built_all kss ≡ kss
+unfolding built_all nonempty
+built_all-same [] h = refl
+built_all-same (ks ∷ kss) h =
     let e = built-same ks (h 0 (omega arith)).1 in
     built-some ks kss (omega (arith, ap (λ (o : List ℕ). length o) e, (h 0 (omega arith)).0))
-    ∙ ap (λ (o : List ℕ). o ∷ builtAll kss) e ∙ ap (λ (t : List (List ℕ)). ks ∷ t) (built-all-same kss (λ i l. h (suc i) (omega arith)))
+    ∙ ap (λ (o : List ℕ). o ∷ built_all kss) e ∙ ap (λ (t : List (List ℕ)). ks ∷ t) (built_all-same kss (λ i l. h (suc i) (omega arith)))
 
-pub built-lent : (numbers : List ℕ) → optionsKnown numbers ≡ true → orderingsLent numbers ≡ true → builtAll (listsLent numbers) ≡ listsLent numbers
-unfolding optionsKnown orderingsLent
+pub built-lent : (numbers : List ℕ) → options_known numbers ≡ true → orderings_lent numbers ≡ true → built_all (lists_lent numbers) ≡ lists_lent numbers
+unfolding options_known orderings_lent
 built-lent numbers o r =
-    built-all-same (listsLent numbers)
+    built_all-same (lists_lent numbers)
     (lent-each numbers (λ (ks : List ℕ). (0 < length ks) × NoneTwice ks) (OptionsAt numbers) (OrderingAt numbers)
-    (λ at h f. let b = ltb-true 0 (keyCount numbers at) (and_left (ltb 0 (keyCount numbers at)) _ f) in
-    (omega (arith, length-keys numbers at), keys-distinct numbers at h (and_right (ltb 0 (keyCount numbers at)) _ f)))
+    (λ at h f. let b = ltb-true 0 (key_count numbers at) (and_left (ltb 0 (key_count numbers at)) _ f) in
+    (omega (arith, length-keys numbers at), keys-distinct numbers at h (and_right (ltb 0 (key_count numbers at)) _ f)))
     o r)
 
 -- what holds of each built ordering holds of those that stay, and they have keys
-cons-each : (P : List ℕ → Type 0) (o : List ℕ) (os : List (List ℕ)) → P o → ((i : ℕ) → i < length os → P (orderingAt os i)) → (i : ℕ) → i < length (o ∷ os) → P (orderingAt (o ∷ os) i)
+cons-each : (P : List ℕ → Type 0) (o : List ℕ) (os : List (List ℕ)) → P o → ((i : ℕ) → i < length os → P (ordering_at os i)) → (i : ℕ) → i < length (o ∷ os) → P (ordering_at (o ∷ os) i)
 cons-each P o os h t zero l = h
 cons-each P o os h t (suc i) l = t i (omega arith)
 
-pub built-each : (P : List ℕ → Type 0) (kss : List (List ℕ)) → ((i : ℕ) → i < length kss → P (built (orderingAt kss i)))
-    → (i : ℕ) → i < length (builtAll kss) → (0 < length (orderingAt (builtAll kss) i)) × P (orderingAt (builtAll kss) i)
-unfolding builtAll nonempty
+pub built-each : (P : List ℕ → Type 0) (kss : List (List ℕ)) → ((i : ℕ) → i < length kss → P (built (ordering_at kss i)))
+    → (i : ℕ) → i < length (built_all kss) → (0 < length (ordering_at (built_all kss) i)) × P (ordering_at (built_all kss) i)
+unfolding built_all nonempty
 built-each P [] h i l = absurd (omega arith)
 built-each P (ks ∷ kss) h i l = at (dec_lt 0 (length (built ks))) (built-each P kss (λ j b. h (suc j) (omega arith)))
   where
-    at : Dec (0 < length (built ks)) → ((j : ℕ) → j < length (builtAll kss) → (0 < length (orderingAt (builtAll kss) j)) × P (orderingAt (builtAll kss) j))
-        → (0 < length (orderingAt (builtAll (ks ∷ kss)) i)) × P (orderingAt (builtAll (ks ∷ kss)) i)
+    at : Dec (0 < length (built ks)) → ((j : ℕ) → j < length (built_all kss) → (0 < length (ordering_at (built_all kss) j)) × P (ordering_at (built_all kss) j))
+        → (0 < length (ordering_at (built_all (ks ∷ kss)) i)) × P (ordering_at (built_all (ks ∷ kss)) i)
     at (yes b) r =
-        subst (λ (os : List (List ℕ)). (j : ℕ) → j < length os → (0 < length (orderingAt os j)) × P (orderingAt os j)) (sym (built-some ks kss b))
-        (cons-each (λ (o : List ℕ). (0 < length o) × P o) (built ks) (builtAll kss) (b, h 0 (omega arith)) r) i l
+        subst (λ (os : List (List ℕ)). (j : ℕ) → j < length os → (0 < length (ordering_at os j)) × P (ordering_at os j)) (sym (built-some ks kss b))
+        (cons-each (λ (o : List ℕ). (0 < length o) × P o) (built ks) (built_all kss) (b, h 0 (omega arith)) r) i l
     at (no b) r =
-        subst (λ (os : List (List ℕ)). (j : ℕ) → j < length os → (0 < length (orderingAt os j)) × P (orderingAt os j)) (sym (built-none ks kss (omega arith))) r i l
+        subst (λ (os : List (List ℕ)). (j : ℕ) → j < length os → (0 < length (ordering_at os j)) × P (ordering_at os j)) (sym (built-none ks kss (omega arith))) r i l
 
 -- one ordering more, if it has keys: what came of it
 pub data Added (list : Orderings) (ks : List ℕ) : Listed → Type 0 where
@@ -96,27 +96,27 @@ pub data Added (list : Orderings) (ks : List ℕ) : Listed → Type 0 where
   one : 0 < length ks → length ks ≤ 16 → list.count < 32 → Added list ks (told 0 (encode (decode list ++ (ks ∷ []))))
 
 module _ (list : Orderings) (ks : List ℕ) where
-  added-long : 16 < length ks → addedOne list (extendedOf ks) ≡ told 5 list
-  unfolding addedOne
-  added-long l = ap (addedOne list) (fits_not ks l)
+  added-long : 16 < length ks → added_one list (extended_of ks) ≡ told 5 list
+  unfolding added_one
+  added-long l = ap (added_one list) (fits_not ks l)
 
   module _ (l : length ks ≤ 16) where
-    added_none : length ks ≡ 0 → addedOne list (extendedOf ks) ≡ told 0 list
-    unfolding addedOne row
-    added_none e = ap (addedOne list) (fits-here ks l) ∙ rw (eq-eqb (length ks) 0 e)
+    added_none : length ks ≡ 0 → added_one list (extended_of ks) ≡ told 0 list
+    unfolding added_one row
+    added_none e = ap (added_one list) (fits-here ks l) ∙ rw (eq-eqb (length ks) 0 e)
 
-    added-many : 0 < length ks → 32 ≤ list.count → addedOne list (extendedOf ks) ≡ told 5 list
-    unfolding addedOne row
-    added-many b c = ap (addedOne list) (fits-here ks l) ∙ rw (ne_eqb (length ks) 0 (λ e. omega arith), le-leb 32 list.count c)
+    added-many : 0 < length ks → 32 ≤ list.count → added_one list (extended_of ks) ≡ told 5 list
+    unfolding added_one row
+    added-many b c = ap (added_one list) (fits-here ks l) ∙ rw (ne_eqb (length ks) 0 (λ e. omega arith), le-leb 32 list.count c)
 
-    added-one : 0 < length ks → list.count < 32 → Short list → addedOne list (extendedOf ks) ≡ told 0 (encode (decode list ++ (ks ∷ [])))
-    unfolding addedOne row
-    added-one b c s = ap (addedOne list) (fits-here ks l) ∙ rw (ne_eqb (length ks) 0 (λ e. omega arith), lt-leb 32 list.count c) (ap (told 0) (appended-is list ks s c))
+    added-one : 0 < length ks → list.count < 32 → Short list → added_one list (extended_of ks) ≡ told 0 (encode (decode list ++ (ks ∷ [])))
+    unfolding added_one row
+    added-one b c s = ap (added_one list) (fits-here ks l) ∙ rw (ne_eqb (length ks) 0 (λ e. omega arith), lt-leb 32 list.count c) (ap (told 0) (appended-is list ks s c))
 
-  pub added : Short list → (e : Extended) → e ≡ extendedOf ks → (r : Listed) → r ≡ addedOne list e → Added list ks r
-  added s e q r p = subst (λ (x : Listed). Added list ks x) (sym (p ∙ ap (addedOne list) q)) (go (dec_lt 16 (length ks)) (ℕ_discrete (length ks) 0) (dec_lt list.count 32))
+  pub added : Short list → (e : Extended) → e ≡ extended_of ks → (r : Listed) → r ≡ added_one list e → Added list ks r
+  added s e q r p = subst (λ (x : Listed). Added list ks x) (sym (p ∙ ap (added_one list) q)) (go (dec_lt 16 (length ks)) (ℕ_discrete (length ks) 0) (dec_lt list.count 32))
     where
-      go : Dec (16 < length ks) → Dec (length ks ≡ 0) → Dec (list.count < 32) → Added list ks (addedOne list (extendedOf ks))
+      go : Dec (16 < length ks) → Dec (length ks ≡ 0) → Dec (list.count < 32) → Added list ks (added_one list (extended_of ks))
       go (yes l) d f = subst (λ (x : Listed). Added list ks x) (sym (added-long l)) (long l)
       go (no l) (yes d) f = subst (λ (x : Listed). Added list ks x) (sym (added_none (omega arith) d)) (none d)
       go (no l) (no d) (yes f) = subst (λ (x : Listed). Added list ks x) (sym (added-one (omega arith) (omega arith) f s)) (one (omega arith) (omega arith) f)
@@ -124,14 +124,14 @@ module _ (list : Orderings) (ks : List ℕ) where
 
 -- the loop over all lists: those from a place on are still to be built and put at the end
 pub record Adding (g : Orderings) (numbers : List ℕ) (at : ℕ) (list : Orderings) : Type 0 where
-  pub exprs : eachRest (ExprsAt 1024 numbers) numbers at ≡ true
-  pub options : eachRest (OptionsAt numbers) numbers at ≡ true
+  pub exprs : each_rest (ExprsAt 1024 numbers) numbers at ≡ true
+  pub options : each_rest (OptionsAt numbers) numbers at ≡ true
   pub short : Short list
-  pub goes : decode g ++ builtAll (listsLent numbers) ≡ decode list ++ builtAll (listsRest numbers at)
+  pub goes : decode g ++ built_all (lists_lent numbers) ≡ decode list ++ built_all (lists_rest numbers at)
 
 module _ (g : Orderings) (numbers : List ℕ) where
   pub adding-begins : Held g → LentFit numbers → Adding g numbers 0 g
-  unfolding exprsInside optionsKnown eachList listsLent
+  unfolding exprs_inside options_known each_list lists_lent
   adding-begins h f = record {
     exprs = f.exprs;
     options = f.options;
@@ -145,24 +145,24 @@ module _ (g : Orderings) (numbers : List ℕ) where
 
     module _ (l : at < length numbers) where
       abbrev new : List ℕ
-      new = built (keysLent numbers at)
+      new = built (keys_lent numbers at)
 
       abbrev rest : List (List ℕ)
-      rest = builtAll (listsRest numbers (nextList numbers at))
+      rest = built_all (lists_rest numbers (next_list numbers at))
 
-      step : decode g ++ builtAll (listsLent numbers) ≡ decode list ++ builtAll (keysLent numbers at ∷ listsRest numbers (nextList numbers at))
-      step = x.goes ∙ ap (λ (t : List (List ℕ)). decode list ++ builtAll t) (lists-next numbers at l)
+      step : decode g ++ built_all (lists_lent numbers) ≡ decode list ++ built_all (keys_lent numbers at ∷ lists_rest numbers (next_list numbers at))
+      step = x.goes ∙ ap (λ (t : List (List ℕ)). decode list ++ built_all t) (lists-next numbers at l)
 
-      with-new : 0 < length new → decode g ++ builtAll (listsLent numbers) ≡ decode list ++ (new ∷ rest)
-      with-new b = step ∙ ap (λ (t : List (List ℕ)). decode list ++ t) (built-some (keysLent numbers at) (listsRest numbers (nextList numbers at)) b)
+      with-new : 0 < length new → decode g ++ built_all (lists_lent numbers) ≡ decode list ++ (new ∷ rest)
+      with-new b = step ∙ ap (λ (t : List (List ℕ)). decode list ++ t) (built-some (keys_lent numbers at) (lists_rest numbers (next_list numbers at)) b)
 
-      without : length new ≡ 0 → decode g ++ builtAll (listsLent numbers) ≡ decode list ++ rest
-      without e = step ∙ ap (λ (t : List (List ℕ)). decode list ++ t) (built-none (keysLent numbers at) (listsRest numbers (nextList numbers at)) e)
+      without : length new ≡ 0 → decode g ++ built_all (lists_lent numbers) ≡ decode list ++ rest
+      without e = step ∙ ap (λ (t : List (List ℕ)). decode list ++ t) (built-none (keys_lent numbers at) (lists_rest numbers (next_list numbers at)) e)
 
-      after : (p : ℕ → Bool) → eachRest p numbers at ≡ true → eachRest p numbers (nextList numbers at) ≡ true
-      after p h = and_right (p at) (eachRest p numbers (nextList numbers at)) (sym (each_next p numbers at l) ∙ h)
+      after : (p : ℕ → Bool) → each_rest p numbers at ≡ true → each_rest p numbers (next_list numbers at) ≡ true
+      after p h = and_right (p at) (each_rest p numbers (next_list numbers at)) (sym (each_next p numbers at l) ∙ h)
 
-      next : {r : Listed} → Added list new r → r.number ≡ 0 → Adding g numbers (nextList numbers at) r.list
+      next : {r : Listed} → Added list new r → r.number ≡ 0 → Adding g numbers (next_list numbers at) r.list
       next (long b) z = absurd (omega arith)
       next (many b c) z = absurd (omega arith)
       next (none e) z = record {
@@ -180,13 +180,13 @@ module _ (g : Orderings) (numbers : List ℕ) where
             goes = with-new b ∙ sym (append_snoc (decode list) new rest) ∙ ap (λ (t : List (List ℕ)). t ++ rest) (sym (decode-encode more));
           }
 
-      pub adding-on : (n : ℕ) → n ≡ keyCount numbers at → {r : Listed} → Added list new r → r.number ≡ 0 → Adding g numbers (at + (1 + 2 * n)) r.list
-      unfolding nextList
+      pub adding-on : (n : ℕ) → n ≡ key_count numbers at → {r : Listed} → Added list new r → r.number ≡ 0 → Adding g numbers (at + (1 + 2 * n)) r.list
+      unfolding next_list
       adding-on n e {r} w z =
-          let s : at + 1 + 2 * keyCount numbers at ≡ at + (1 + 2 * n) = omega arith in
+          let s : at + 1 + 2 * key_count numbers at ≡ at + (1 + 2 * n) = omega arith in
           subst (λ (k : ℕ). Adding g numbers k r.list) s (next w z)
 
-      pub adding-stops : {r : Listed} → Added list new r → (r.number ≡ 0 → ⊥) → told 5 g ≡ listed g (decode g ++ builtAll (listsLent numbers))
+      pub adding-stops : {r : Listed} → Added list new r → (r.number ≡ 0 → ⊥) → told 5 g ≡ listed g (decode g ++ built_all (lists_lent numbers))
       adding-stops (long b) z =
           let os : List (List ℕ) = decode list ++ (new ∷ rest) in
           let c = ap (λ (o : List ℕ). length o) (get_or_at (decode list) new rest [] (length (decode list)) refl) in
@@ -196,11 +196,11 @@ module _ (g : Orderings) (numbers : List ℕ) where
       adding-stops (none e) z = absurd (z refl)
       adding-stops (one b c f) z = absurd (z refl)
 
-    pub adding-ends : length numbers ≤ at → told 0 list ≡ listed g (decode g ++ builtAll (listsLent numbers))
-    unfolding builtAll nonempty
+    pub adding-ends : length numbers ≤ at → told 0 list ≡ listed g (decode g ++ built_all (lists_lent numbers))
+    unfolding built_all nonempty
     adding-ends l =
-        let e : decode g ++ builtAll (listsLent numbers) ≡ decode list =
-        x.goes ∙ ap (λ (t : List (List ℕ)). decode list ++ builtAll t) (lists-end numbers at l) ∙ append-nil (decode list) in
+        let e : decode g ++ built_all (lists_lent numbers) ≡ decode list =
+        x.goes ∙ ap (λ (t : List (List ℕ)). decode list ++ built_all t) (lists_end numbers at l) ∙ append-nil (decode list) in
         sym (ap (listed g) e ∙ listed-made g (decode list) (omega (arith, length-decode list, x.short.few)) (short-test (decode list) (short-all list x.short)) ∙ ap (told 0) x.short.coded)
 
 -- what fits
@@ -209,27 +209,27 @@ module _ (os : List (List ℕ)) (f : fits os ≡ true) where
   unfolding fits
   fits-few = leb-true (length os) 32 (and_left (leb (length os) 32) _ f)
 
-  pub fits-short : (i : ℕ) → i < length os → length (orderingAt os i) ≤ 16
-  unfolding fits allShort
+  pub fits-short : (i : ℕ) → i < length os → length (ordering_at os i) ≤ 16
+  unfolding fits all_short
   fits-short = test_short os (and_right (leb (length os) 32) _ f)
 
 -- a list with built orderings after it is good, if it fits
-pub added-good : (os kss : List (List ℕ)) → Good os → fits (os ++ builtAll kss) ≡ true → Good (os ++ builtAll kss)
+pub added-good : (os kss : List (List ℕ)) → Good os → fits (os ++ built_all kss) ≡ true → Good (os ++ built_all kss)
 added-good os kss g f = record {
-  few = fits-few (os ++ builtAll kss) f;
-  each = λ i l. append-all (λ (o : List ℕ). length o ≤ 16 → GoodOrdering o) os (builtAll kss) (λ j b c. g.each j b)
-      (λ j b c. let w = built-each NoneTwice kss (λ k d. built-none-twice (orderingAt kss k)) j b in record { filled = w.0; few = c; distinct = w.1 })
-      i l (fits-short (os ++ builtAll kss) f i l);
+  few = fits-few (os ++ built_all kss) f;
+  each = λ i l. append-all (λ (o : List ℕ). length o ≤ 16 → GoodOrdering o) os (built_all kss) (λ j b c. g.each j b)
+      (λ j b c. let w = built-each NoneTwice kss (λ k d. built-none_twice (ordering_at kss k)) j b in record { filled = w.0; few = c; distinct = w.1 })
+      i l (fits-short (os ++ built_all kss) f i l);
 }
 
 -- reduction after adding
 module _ (g : Orderings) (os : List (List ℕ)) where
-  pub reduced-fits : fits os ≡ true → reducedList g os ≡ told 0 (encode (reduced sameKey os).orderings)
-  unfolding reducedList
+  pub reduced-fits : fits os ≡ true → reduced_list g os ≡ told 0 (encode (reduced same_key os).orderings)
+  unfolding reduced_list
   reduced-fits f = rw f
 
-  pub reduced-not : fits os ≡ false → reducedList g os ≡ told 5 g
-  unfolding reducedList
+  pub reduced-not : fits os ≡ false → reduced_list g os ≡ told 5 g
+  unfolding reduced_list
   reduced-not f = rw f
 
   listed-fits : fits os ≡ true → listed g os ≡ told 0 (encode os)
@@ -241,10 +241,10 @@ module _ (g : Orderings) (os : List (List ℕ)) where
   listed-not f = rw f
 
   module _ (e : Listed) (q : e ≡ listed g os) where
-    pub listed-refused : (e.number ≡ 0 → ⊥) → e ≡ reducedList g os
+    pub listed-refused : (e.number ≡ 0 → ⊥) → e ≡ reduced_list g os
     listed-refused z = go (fits os) refl
       where
-        go : (b : Bool) → fits os ≡ b → e ≡ reducedList g os
+        go : (b : Bool) → fits os ≡ b → e ≡ reduced_list g os
         go true f = absurd (z (ap (λ (x : Listed). x.number) (q ∙ listed-fits f)))
         go false f = q ∙ listed-not f ∙ sym (reduced-not f)
 
@@ -255,9 +255,9 @@ module _ (g : Orderings) (os : List (List ℕ)) where
         go true f = (f, ap (λ (x : Listed). x.list) (q ∙ listed-fits f))
         go false f = let n = ap (λ (x : Listed). x.number) (q ∙ listed-not f) in absurd (omega arith)
 
-    pub reduced-done : e.number ≡ 0 → (r : Reduction) → r ≡ reductionOf (reduced sameKey (decode e.list)) → told 0 r.list ≡ reducedList g os
-    unfolding reductionOf
+    pub reduced-done : e.number ≡ 0 → (r : Reduction) → r ≡ reduction_of (reduced same_key (decode e.list)) → told 0 r.list ≡ reduced_list g os
+    unfolding reduction_of
     reduced-done z r p =
         let w = listed-done z in
-        ap (told 0) (ap (λ (x : Reduction). x.list) p ∙ ap (λ (t : List (List ℕ)). encode (reduced sameKey t).orderings) (ap decode w.1 ∙ decode-encode os))
+        ap (told 0) (ap (λ (x : Reduction). x.list) p ∙ ap (λ (t : List (List ℕ)). encode (reduced same_key t).orderings) (ap decode w.1 ∙ decode-encode os))
         ∙ sym (reduced-fits w.0)

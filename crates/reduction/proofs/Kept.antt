@@ -8,10 +8,10 @@ use native.Mathlib.Decide.{ℕ_discrete, dec_lt}
 use native.Mathlib.Omega.{arith}
 use lib.ListN.{length, take, set, length-set}
 use lib.Seq.{length-take-le, get_or-take, get_or-set_same, get_or-set_other}
-use Rattle.orderings.specs.Ordering.{exprOf}
-use Rattle.orderings.specs.Lists.{orderingAt}
-use Rattle.reduction.specs.Reduction.{overlap, removed, Resolved, apart, trimmed, emptied, resolve, Way, onward, again, anew, Compared, second, compared, Turn, roundRest, round-end, round-onward, round-again, round-anew, round, round-leaves, passRest, pass-end, pass-round, pass, pass-keys, keysIn, passesRest, passes-end, passes_on, reduced}
-use Rattle.reduction.specs.Fewer.{shortened, keys-set, length-shortened, keys-removed, Outcome, free, part, whole, outcome, comparedBy, compared-by, goes, Left, compared-left}
+use Rattle.orderings.specs.Ordering.{expr_of}
+use Rattle.orderings.specs.Lists.{ordering_at}
+use Rattle.reduction.specs.Reduction.{overlap, removed, Resolved, apart, trimmed, emptied, resolve, Way, onward, again, anew, Compared, second, compared, Turn, round_rest, round_end, round-onward, round-again, round-anew, round, round-leaves, pass_rest, pass_end, pass-round, pass, pass-keys, keys_in, passes_rest, passes_end, passes_on, reduced}
+use Rattle.reduction.specs.Fewer.{shortened, keys-set, length-shortened, keys-removed, Outcome, free, part, whole, outcome, compared_by, compared-by, goes, Left, compared-left}
 use Rattle.orderings.specs.Good.{GoodOrdering, Good}
 
 -- two orderings of a list, of which the first ends with n + 1 keys that begin the second
@@ -19,13 +19,13 @@ pub record Overlapping (m : ℕ → ℕ → Bool) (os : List (List ℕ)) (i j n 
   pub left : i < length os
   pub right : j < length os
   pub two : i ≡ j → ⊥
-  pub overlaps : overlap m (orderingAt os i) (orderingAt os j) ≡ some n
+  pub overlaps : overlap m (ordering_at os i) (ordering_at os j) ≡ some n
 
 -- from os to another list by a number of cuts
 pub data Cuts (m : ℕ → ℕ → Bool) (os : List (List ℕ)) : List (List ℕ) → ℕ → Type 0 where
   begun : Cuts m os os 0
-  cut : {ps : List (List ℕ)} {c : ℕ} → Cuts m os ps c → (i j n : ℕ) → Overlapping m ps i j n → n + 1 < length (orderingAt ps i) → Cuts m os (shortened ps i n) (c + 1)
-  gone : {ps : List (List ℕ)} {c : ℕ} → Cuts m os ps c → (i j n : ℕ) → Overlapping m ps i j n → n + 1 ≡ length (orderingAt ps i) → Cuts m os (removed ps i) (c + 1)
+  cut : {ps : List (List ℕ)} {c : ℕ} → Cuts m os ps c → (i j n : ℕ) → Overlapping m ps i j n → n + 1 < length (ordering_at ps i) → Cuts m os (shortened ps i n) (c + 1)
+  gone : {ps : List (List ℕ)} {c : ℕ} → Cuts m os ps c → (i j n : ℕ) → Overlapping m ps i j n → n + 1 ≡ length (ordering_at ps i) → Cuts m os (removed ps i) (c + 1)
 
 -- what is in a good list is kept by cutting and by removing
 pub good-take : (o : List ℕ) (n : ℕ) → GoodOrdering o → 0 < n → n ≤ length o → GoodOrdering (take n o)
@@ -38,7 +38,7 @@ good-take o n g l b =
           let t' : j < n = omega arith in
           let a = get_or-take n o i 0 (omega arith) in
           let z = get_or-take n o j 0 t' in
-          g.distinct i j s (omega arith) (ap exprOf (sym a) ∙ same ∙ ap exprOf z);
+          g.distinct i j s (omega arith) (ap expr_of (sym a) ∙ same ∙ ap expr_of z);
     }
 
 -- an ordering becomes another
@@ -46,7 +46,7 @@ module _ (os : List (List ℕ)) (i : ℕ) where
   pub good-set : (o : List ℕ) → Good os → GoodOrdering o → Good (set os i o)
   good-set o g h = record { few = omega (arith, length-set os i o, g.few); each = λ k l. at k (omega (arith, length-set os i o)) (ℕ_discrete k i) }
     where
-      at : (k : ℕ) → k < length os → Dec (k ≡ i) → GoodOrdering (orderingAt (set os i o) k)
+      at : (k : ℕ) → k < length os → Dec (k ≡ i) → GoodOrdering (ordering_at (set os i o) k)
       at k l (yes e) = rw (e, get_or-set_same os i o [] (omega arith)) h
       at k l (no e) = rw (get_or-set_other os i k o [] e) (g.each k l)
 
@@ -59,22 +59,22 @@ good-front os n l g =
 pub good-removed : (os : List (List ℕ)) (i : ℕ) → 0 < length os → Good os → Good (removed os i)
 unfolding removed
 good-removed os i l g =
-    good-set (take (length os - 1) os) i (orderingAt os (length os - 1)) (good-front os (length os - 1) (omega arith) g) (g.each (length os - 1) (omega arith))
+    good-set (take (length os - 1) os) i (ordering_at os (length os - 1)) (good-front os (length os - 1) (omega arith) g) (g.each (length os - 1) (omega arith))
 
 -- a trace: a good list stays good, and each cut takes at least one key
 pub cuts-good : {m : ℕ → ℕ → Bool} {os ps : List (List ℕ)} {c : ℕ} → Cuts m os ps c → Good os → Good ps
 cuts-good begun g = g
 cuts-good (cut {ps} t i j n o l) g =
     let h = cuts-good t g in
-    good-set ps i (take (length (orderingAt ps i) - (n + 1)) (orderingAt ps i)) h
-    (good-take (orderingAt ps i) (length (orderingAt ps i) - (n + 1)) (h.each i o.left) (omega arith) (omega arith))
+    good-set ps i (take (length (ordering_at ps i) - (n + 1)) (ordering_at ps i)) h
+    (good-take (ordering_at ps i) (length (ordering_at ps i) - (n + 1)) (h.each i o.left) (omega arith) (omega arith))
 cuts-good (gone {ps} t i j n o e) g = good-removed ps i (omega (arith, o.left)) (cuts-good t g)
 
-pub cuts-keys : {m : ℕ → ℕ → Bool} {os ps : List (List ℕ)} {c : ℕ} → Cuts m os ps c → keysIn ps + c ≤ keysIn os
+pub cuts-keys : {m : ℕ → ℕ → Bool} {os ps : List (List ℕ)} {c : ℕ} → Cuts m os ps c → keys_in ps + c ≤ keys_in os
 cuts-keys begun = omega arith
 cuts-keys (cut {ps} t i j n o l) =
-    let a = keys-set ps i (take (length (orderingAt ps i) - (n + 1)) (orderingAt ps i)) o.left in
-    let b = length-take-le (length (orderingAt ps i) - (n + 1)) (orderingAt ps i) (omega arith) in
+    let a = keys-set ps i (take (length (ordering_at ps i) - (n + 1)) (ordering_at ps i)) o.left in
+    let b = length-take-le (length (ordering_at ps i) - (n + 1)) (ordering_at ps i) (omega arith) in
     omega (arith, cuts-keys t)
 cuts-keys (gone {ps} t i j n o e) = omega (arith, cuts-keys t, keys-removed ps i o.left)
 
@@ -98,7 +98,7 @@ module _ (m : ℕ → ℕ → Bool) (o : List (List ℕ)) where
       rw s at (gone t j i k (record { left = b; right = a; two = n; overlaps = e }) l)
 
   pub compared-step : (os : List (List ℕ)) (i j c : ℕ) → Cuts m o os c → i < length os → j < length os → (i ≡ j → ⊥) → Cuts m o (compared m os i j).orderings (c + (compared m os i j).cuts)
-  unfolding comparedBy
+  unfolding compared_by
   compared-step os i j c t a b n = rw (compared-by m os i j) (go (resolve m os i j) (outcome m os i j))
     where
       back : j ≡ i → ⊥
@@ -107,7 +107,7 @@ module _ (m : ℕ → ℕ → Bool) (o : List (List ℕ)) where
       z : c ≡ c + 0
       z = omega arith
 
-      go : (r : Resolved) → Outcome m os i j r → Cuts m o (comparedBy m os i j r).orderings (c + (comparedBy m os i j r).cuts)
+      go : (r : Resolved) → Outcome m os i j r → Cuts m o (compared_by m os i j r).orderings (c + (compared_by m os i j r).cuts)
       go apart (free e) = second-step os i j c 0 (resolve m os j i) (rw z at t) a b back (outcome m os j i)
       go (trimmed ps) (part k e l) =
           let s = length-shortened os i k in
@@ -115,9 +115,9 @@ module _ (m : ℕ → ℕ → Bool) (o : List (List ℕ)) where
       go emptied (whole k e l) = gone t i j k (record { left = a; right = b; two = n; overlaps = e }) l
 
   -- and with what a round leaves
-  rest-trace : (n : ℕ) (os : List (List ℕ)) (i j c : ℕ) → length os - j ≡ n → Cuts m o os c → i < j → Cuts m o (roundRest m os i j c).orderings (roundRest m os i j c).cuts
+  rest-trace : (n : ℕ) (os : List (List ℕ)) (i j c : ℕ) → length os - j ≡ n → Cuts m o os c → i < j → Cuts m o (round_rest m os i j c).orderings (round_rest m os i j c).cuts
   unfolding goes
-  rest-trace zero os i j c e t a = rw (round-end m os i j c (omega arith)) t
+  rest-trace zero os i j c e t a = rw (round_end m os i j c (omega arith)) t
   rest-trace (suc n) os i j c e t a =
       go (compared m os i j).way refl (compared-left m os i j (omega arith) (omega arith))
       (compared-step os i j c t (omega arith) (omega arith) (λ e. absurd (omega arith))) (rest-trace n)
@@ -126,8 +126,8 @@ module _ (m : ℕ → ℕ → Bool) (o : List (List ℕ)) where
       d = compared m os i j
 
       go : (w : Way) → (compared m os i j).way ≡ w → Left os 0 (compared m os i j) → Cuts m o (compared m os i j).orderings (c + (compared m os i j).cuts)
-          → ((ps : List (List ℕ)) (i j c : ℕ) → length ps - j ≡ n → Cuts m o ps c → i < j → Cuts m o (roundRest m ps i j c).orderings (roundRest m ps i j c).cuts)
-          → Cuts m o (roundRest m os i j c).orderings (roundRest m os i j c).cuts
+          → ((ps : List (List ℕ)) (i j c : ℕ) → length ps - j ≡ n → Cuts m o ps c → i < j → Cuts m o (round_rest m ps i j c).orderings (round_rest m ps i j c).cuts)
+          → Cuts m o (round_rest m os i j c).orderings (round_rest m os i j c).cuts
       go onward q s u f =
           let b : length d.orderings + goes onward ≡ length os = rw q at s.fewer in
           rw (round-onward m os i j c a (omega arith) q) (f d.orderings i (j + 1) (c + d.cuts) (omega arith) u (omega arith))
@@ -141,18 +141,18 @@ module _ (m : ℕ → ℕ → Bool) (o : List (List ℕ)) where
   round-trace os i c t = rest-trace (length os - (i + 1)) os i (i + 1) c refl t (omega arith)
 
   -- and with what a pass leaves
-  pass-trace : (n : ℕ) (os : List (List ℕ)) (i c : ℕ) → length os ≤ n + i → Cuts m o os c → Cuts m o (passRest m os i c).orderings (passRest m os i c).cuts
-  pass-trace zero os i c l t = rw (pass-end m os i c (omega arith)) t
+  pass-trace : (n : ℕ) (os : List (List ℕ)) (i c : ℕ) → length os ≤ n + i → Cuts m o os c → Cuts m o (pass_rest m os i c).orderings (pass_rest m os i c).cuts
+  pass-trace zero os i c l t = rw (pass_end m os i c (omega arith)) t
   pass-trace (suc n) os i c l t = go (dec_lt i (length os)) (pass-trace n (round m os i c).orderings (round m os i c).next (round m os i c).cuts)
     where
       r : Turn
       r = round m os i c
 
       go : Dec (i < length os)
-          → (length r.orderings ≤ n + r.next → Cuts m o r.orderings r.cuts → Cuts m o (passRest m r.orderings r.next r.cuts).orderings (passRest m r.orderings r.next r.cuts).cuts)
-          → Cuts m o (passRest m os i c).orderings (passRest m os i c).cuts
+          → (length r.orderings ≤ n + r.next → Cuts m o r.orderings r.cuts → Cuts m o (pass_rest m r.orderings r.next r.cuts).orderings (pass_rest m r.orderings r.next r.cuts).cuts)
+          → Cuts m o (pass_rest m os i c).orderings (pass_rest m os i c).cuts
       go (yes a) f = rw (pass-round m os i c a) (f (omega (arith, (round-leaves m i os c a).ahead)) (round-trace os i c t))
-      go (no a) f = rw (pass-end m os i c (omega arith)) t
+      go (no a) f = rw (pass_end m os i c (omega arith)) t
 
 -- a pass is a trace
 pub pass-cuts : (m : ℕ → ℕ → Bool) (os : List (List ℕ)) → Cuts m os (pass m os).orderings (pass m os).cuts
@@ -160,7 +160,7 @@ unfolding pass
 pass-cuts m os = pass-trace m os (length os) os 0 0 (omega arith) begun
 
 module _ (m : ℕ → ℕ → Bool) (o : List (List ℕ)) where
-  passes-trace : (n : ℕ) (os : List (List ℕ)) (c p : ℕ) → keysIn os < n → Cuts m o os c → Cuts m o (passesRest m os c p).orderings (passesRest m os c p).cuts
+  passes-trace : (n : ℕ) (os : List (List ℕ)) (c p : ℕ) → keys_in os < n → Cuts m o os c → Cuts m o (passes_rest m os c p).orderings (passes_rest m os c p).cuts
   passes-trace zero os c p l t = absurd (omega arith)
   passes-trace (suc n) os c p l t = go (ℕ_discrete (pass m os).cuts 0) (passes-trace n (pass m os).orderings (c + (pass m os).cuts) (p + 1))
     where
@@ -171,21 +171,21 @@ module _ (m : ℕ → ℕ → Bool) (o : List (List ℕ)) where
       all = cuts-on t (pass-cuts m os)
 
       go : Dec ((pass m os).cuts ≡ 0)
-          → (keysIn r.orderings < n → Cuts m o r.orderings (c + r.cuts) → Cuts m o (passesRest m r.orderings (c + r.cuts) (p + 1)).orderings (passesRest m r.orderings (c + r.cuts) (p + 1)).cuts)
-          → Cuts m o (passesRest m os c p).orderings (passesRest m os c p).cuts
+          → (keys_in r.orderings < n → Cuts m o r.orderings (c + r.cuts) → Cuts m o (passes_rest m r.orderings (c + r.cuts) (p + 1)).orderings (passes_rest m r.orderings (c + r.cuts) (p + 1)).cuts)
+          → Cuts m o (passes_rest m os c p).orderings (passes_rest m os c p).cuts
       go (yes z) f =
           let s : c + r.cuts ≡ c = omega arith in
-          rw (passes-end m os c p z) (rw s at all)
+          rw (passes_end m os c p z) (rw s at all)
       go (no z) f = rw (passes_on m os c p z) (f (omega (arith, pass-keys m os)) all)
 
 -- reduction is a trace
 pub reduced-cuts : (m : ℕ → ℕ → Bool) (os : List (List ℕ)) → Cuts m os (reduced m os).orderings (reduced m os).cuts
 unfolding reduced
-reduced-cuts m os = passes-trace m os (keysIn os + 1) os 0 0 (omega arith) begun
+reduced-cuts m os = passes-trace m os (keys_in os + 1) os 0 0 (omega arith) begun
 
 -- a good list stays good, and reduction takes at least one key a cut
 pub reduced-good : (m : ℕ → ℕ → Bool) (os : List (List ℕ)) → Good os → Good (reduced m os).orderings
 reduced-good m os g = cuts-good (reduced-cuts m os) g
 
-pub reduced-keys : (m : ℕ → ℕ → Bool) (os : List (List ℕ)) → keysIn (reduced m os).orderings + (reduced m os).cuts ≤ keysIn os
+pub reduced-keys : (m : ℕ → ℕ → Bool) (os : List (List ℕ)) → keys_in (reduced m os).orderings + (reduced m os).cuts ≤ keys_in os
 reduced-keys m os = cuts-keys (reduced-cuts m os)

@@ -2,7 +2,7 @@
 use Rattle.std.specs.Prelude.{ℕ, ◌+◌, ◌-◌, min, Bool, List, [], ◌∷◌, eqb, length, get_or, take, set}
 use Rattle.std.proofs.Math.Option.{Option, none, some}
 use Rattle.laws.specs.Tests.{if◌then◌else◌, each, first}
-use Rattle.orderings.specs.Lists.{orderingAt}
+use Rattle.orderings.specs.Lists.{ordering_at}
 
 -- the last n keys of a are the first n keys of b
 unfoldable pub meets : (ℕ → ℕ → Bool) → List ℕ → List ℕ → ℕ → Bool
@@ -14,7 +14,7 @@ overlap m a b = first (λ n. meets m a b (n + 1)) (min (length a) (length b))
 
 -- where an ordering goes, the last moves into its gap
 unfoldable pub removed : List (List ℕ) → ℕ → List (List ℕ)
-removed os i = set (take (length os - 1) os) i (orderingAt os (length os - 1))
+removed os i = set (take (length os - 1) os) i (ordering_at os (length os - 1))
 
 -- what became of an ordering that was held against another (`resolve_overlap`): nothing, it lost its end, or it would lose all
 pub data Resolved : Type 0 where
@@ -23,15 +23,15 @@ pub data Resolved : Type 0 where
   emptied : Resolved
 
 -- by the overlap that was found
-unfoldable pub resolvedBy : List (List ℕ) → ℕ → Option ℕ → Resolved
-resolvedBy os i none = apart
-resolvedBy os i (some n) =
-    if eqb (n + 1) (length (orderingAt os i)) then emptied
-    else trimmed (set os i (take (length (orderingAt os i) - (n + 1)) (orderingAt os i)))
+unfoldable pub resolved_by : List (List ℕ) → ℕ → Option ℕ → Resolved
+resolved_by os i none = apart
+resolved_by os i (some n) =
+    if eqb (n + 1) (length (ordering_at os i)) then emptied
+    else trimmed (set os i (take (length (ordering_at os i) - (n + 1)) (ordering_at os i)))
 
 -- ordering i is held against ordering j
 unfoldable pub resolve : (ℕ → ℕ → Bool) → List (List ℕ) → ℕ → ℕ → Resolved
-resolve m os i j = resolvedBy os i (overlap m (orderingAt os i) (orderingAt os j))
+resolve m os i j = resolved_by os i (overlap m (ordering_at os i) (ordering_at os j))
 
 -- how the comparing goes on after orderings i and j: with the next j, with the same j since it was replaced, or from i anew since i was
 pub data Way : Type 0 where
@@ -61,6 +61,6 @@ compared m os i j =
     ]
 
 -- how many keys all orderings have
-unfoldable pub keysIn : List (List ℕ) → ℕ
-keysIn [] = 0
-keysIn (o ∷ os) = length o + keysIn os
+unfoldable pub keys_in : List (List ℕ) → ℕ
+keys_in [] = 0
+keys_in (o ∷ os) = length o + keys_in os

@@ -9,23 +9,23 @@ use Rattle.std.proofs.Math.ListN.{length-set}
 use Rattle.std.proofs.Math.Seq.{set_out}
 use Rattle.laws.specs.Tests.{if◌then◌else◌}
 use Rattle.laws.proofs.First.{first_some}
-use Rattle.orderings.specs.Lists.{orderingAt}
-use Rattle.reduction.specs.Comparing.{meets, overlap, removed, Resolved, apart, trimmed, emptied, resolvedBy, resolve, Way, onward, again, anew, Compared, second, compared, keysIn}
+use Rattle.orderings.specs.Lists.{ordering_at}
+use Rattle.reduction.specs.Comparing.{meets, overlap, removed, Resolved, apart, trimmed, emptied, resolved_by, resolve, Way, onward, again, anew, Compared, second, compared, keys_in}
 
 -- an ordering without its last n + 1 keys
 abbrev pub shortened : List (List ℕ) → ℕ → ℕ → List (List ℕ)
-shortened os i n = set os i (take (length (orderingAt os i) - (n + 1)) (orderingAt os i))
+shortened os i n = set os i (take (length (ordering_at os i) - (n + 1)) (ordering_at os i))
 
 -- one ordering becomes another
-pub keys-set : (os : List (List ℕ)) (i : ℕ) (o : List ℕ) → i < length os → keysIn (set os i o) + length (orderingAt os i) ≡ keysIn os + length o
-unfolding keysIn
+pub keys-set : (os : List (List ℕ)) (i : ℕ) (o : List ℕ) → i < length os → keys_in (set os i o) + length (ordering_at os i) ≡ keys_in os + length o
+unfolding keys_in
 keys-set [] i o l = absurd (omega arith)
 keys-set (p ∷ os) zero o l = omega arith
 keys-set (p ∷ os) (suc i) o l = omega (arith, keys-set os i o (omega arith))
 
 -- the last ordering goes
-keys-front : (os : List (List ℕ)) (n : ℕ) → length os ≡ suc n → keysIn (take n os) + length (orderingAt os n) ≡ keysIn os
-unfolding keysIn
+keys-front : (os : List (List ℕ)) (n : ℕ) → length os ≡ suc n → keys_in (take n os) + length (ordering_at os n) ≡ keys_in os
+unfolding keys_in
 keys-front [] n e = absurd (omega arith)
 keys-front (p ∷ []) zero e = omega arith
 keys-front (p ∷ q ∷ os) zero e = absurd (omega arith)
@@ -33,39 +33,39 @@ keys-front (p ∷ os) (suc n) e = omega (arith, keys-front os n (omega arith))
 
 module _ (os : List (List ℕ)) (i : ℕ) where
   pub length-shortened : (n : ℕ) → length (shortened os i n) ≡ length os
-  length-shortened n = length-set os i (take (length (orderingAt os i) - (n + 1)) (orderingAt os i))
+  length-shortened n = length-set os i (take (length (ordering_at os i) - (n + 1)) (ordering_at os i))
 
   length_front : length (take (length os - 1) os) ≡ length os - 1
   length_front = length-take-le (length os - 1) os (omega arith)
 
   pub length_removed : length (removed os i) ≡ length os - 1
   unfolding removed
-  length_removed = length-set (take (length os - 1) os) i (orderingAt os (length os - 1)) ∙ length_front
+  length_removed = length-set (take (length os - 1) os) i (ordering_at os (length os - 1)) ∙ length_front
 
 -- an ordering goes
-pub keys-removed : (os : List (List ℕ)) (i : ℕ) → i < length os → keysIn (removed os i) + length (orderingAt os i) ≡ keysIn os
+pub keys-removed : (os : List (List ℕ)) (i : ℕ) → i < length os → keys_in (removed os i) + length (ordering_at os i) ≡ keys_in os
 unfolding removed
 keys-removed os i l = at (ℕ_discrete i (length os - 1))
   where
     n : ℕ
     n = length os - 1
 
-    front : keysIn (take n os) + length (orderingAt os n) ≡ keysIn os
+    front : keys_in (take n os) + length (ordering_at os n) ≡ keys_in os
     front = keys-front os n (omega arith)
 
-    at : Dec (i ≡ length os - 1) → keysIn (set (take (length os - 1) os) i (orderingAt os (length os - 1))) + length (orderingAt os i) ≡ keysIn os
-    at (yes e) = rw (e, set_out (take (length os - 1) os) (length os - 1) (orderingAt os (length os - 1)) (omega (arith, length_front os i))) front
+    at : Dec (i ≡ length os - 1) → keys_in (set (take (length os - 1) os) i (ordering_at os (length os - 1))) + length (ordering_at os i) ≡ keys_in os
+    at (yes e) = rw (e, set_out (take (length os - 1) os) (length os - 1) (ordering_at os (length os - 1)) (omega (arith, length_front os i))) front
     at (no e) =
         let b : i < length os - 1 = omega arith in
-        let a = keys-set (take (length os - 1) os) i (orderingAt os (length os - 1)) (omega (arith, length_front os i)) in
-        let d : length (orderingAt (take (length os - 1) os) i) ≡ length (orderingAt os i) = ap length (get_or-take (length os - 1) os i [] b) in
+        let a = keys-set (take (length os - 1) os) i (ordering_at os (length os - 1)) (omega (arith, length_front os i)) in
+        let d : length (ordering_at (take (length os - 1) os) i) ≡ length (ordering_at os i) = ap length (get_or-take (length os - 1) os i [] b) in
         omega (arith, front)
 
 -- what became of ordering i, held against ordering j
 pub data Outcome (m : ℕ → ℕ → Bool) (os : List (List ℕ)) (i j : ℕ) : Resolved → Type 0 where
-  free : overlap m (orderingAt os i) (orderingAt os j) ≡ none → Outcome m os i j apart
-  part : (n : ℕ) → overlap m (orderingAt os i) (orderingAt os j) ≡ some n → n + 1 < length (orderingAt os i) → Outcome m os i j (trimmed (shortened os i n))
-  whole : (n : ℕ) → overlap m (orderingAt os i) (orderingAt os j) ≡ some n → n + 1 ≡ length (orderingAt os i) → Outcome m os i j emptied
+  free : overlap m (ordering_at os i) (ordering_at os j) ≡ none → Outcome m os i j apart
+  part : (n : ℕ) → overlap m (ordering_at os i) (ordering_at os j) ≡ some n → n + 1 < length (ordering_at os i) → Outcome m os i j (trimmed (shortened os i n))
+  whole : (n : ℕ) → overlap m (ordering_at os i) (ordering_at os j) ≡ some n → n + 1 ≡ length (ordering_at os i) → Outcome m os i j emptied
 
 -- an overlap is no longer than the two orderings
 pub overlap-below : (m : ℕ → ℕ → Bool) (a b : List ℕ) (n : ℕ) → overlap m a b ≡ some n → n < min (length a) (length b)
@@ -74,23 +74,23 @@ overlap-below m a b n e = (first_some (λ k. meets m a b (k + 1)) (min (length a
 
 -- it is one of the three
 pub outcome : (m : ℕ → ℕ → Bool) (os : List (List ℕ)) (i j : ℕ) → Outcome m os i j (resolve m os i j)
-unfolding resolve resolvedBy
-outcome m os i j = go (overlap m (orderingAt os i) (orderingAt os j)) refl
+unfolding resolve resolved_by
+outcome m os i j = go (overlap m (ordering_at os i) (ordering_at os j)) refl
   where
-    at : (n : ℕ) → overlap m (orderingAt os i) (orderingAt os j) ≡ some n → (b : Bool) → eqb (n + 1) (length (orderingAt os i)) ≡ b → Outcome m os i j (if b then emptied else trimmed (shortened os i n))
-    at n e true t = whole n e (eqb-true (n + 1) (length (orderingAt os i)) t)
+    at : (n : ℕ) → overlap m (ordering_at os i) (ordering_at os j) ≡ some n → (b : Bool) → eqb (n + 1) (length (ordering_at os i)) ≡ b → Outcome m os i j (if b then emptied else trimmed (shortened os i n))
+    at n e true t = whole n e (eqb-true (n + 1) (length (ordering_at os i)) t)
     at n e false t =
-        let l = overlap-below m (orderingAt os i) (orderingAt os j) n e in
-        let d = eqb-false (n + 1) (length (orderingAt os i)) t in
+        let l = overlap-below m (ordering_at os i) (ordering_at os j) n e in
+        let d = eqb-false (n + 1) (length (ordering_at os i)) t in
         part n e (omega arith)
 
-    go : (o : Option ℕ) → overlap m (orderingAt os i) (orderingAt os j) ≡ o → Outcome m os i j (resolvedBy os i o)
+    go : (o : Option ℕ) → overlap m (ordering_at os i) (ordering_at os j) ≡ o → Outcome m os i j (resolved_by os i o)
     go none e = free e
-    go (some n) e = at n e (eqb (n + 1) (length (orderingAt os i))) refl
+    go (some n) e = at n e (eqb (n + 1) (length (ordering_at os i))) refl
 
 -- i against j and then j against i, where it is known what became of i
-unfoldable pub comparedBy : (ℕ → ℕ → Bool) → List (List ℕ) → ℕ → ℕ → Resolved → Compared
-comparedBy m os i j r =
+unfoldable pub compared_by : (ℕ → ℕ → Bool) → List (List ℕ) → ℕ → ℕ → Resolved → Compared
+compared_by m os i j r =
     elim r [
       | apart ↦ second os j 0 (resolve m os j i)
       | trimmed ps ↦ second ps j 1 (resolve m ps j i)
@@ -98,8 +98,8 @@ comparedBy m os i j r =
     ]
 
 -- comparing is that
-pub compared-by : (m : ℕ → ℕ → Bool) (os : List (List ℕ)) (i j : ℕ) → compared m os i j ≡ comparedBy m os i j (resolve m os i j)
-unfolding compared comparedBy
+pub compared-by : (m : ℕ → ℕ → Bool) (os : List (List ℕ)) (i j : ℕ) → compared m os i j ≡ compared_by m os i j (resolve m os i j)
+unfolding compared compared_by
 compared-by m os i j = refl
 
 -- how many orderings go
@@ -111,13 +111,13 @@ goes anew = 1
 -- what comparing leaves, after c cuts
 pub record Left (os : List (List ℕ)) (c : ℕ) (r : Compared) : Type 0 where
   pub fewer : length r.orderings + goes r.way ≡ length os
-  pub keys : keysIn r.orderings + r.cuts ≤ keysIn os + c
+  pub keys : keys_in r.orderings + r.cuts ≤ keys_in os + c
 
 -- an ordering that loses its end loses a key
-keys-shortened : (os : List (List ℕ)) (i n : ℕ) → i < length os → n < length (orderingAt os i) → keysIn (shortened os i n) + 1 ≤ keysIn os
+keys-shortened : (os : List (List ℕ)) (i n : ℕ) → i < length os → n < length (ordering_at os i) → keys_in (shortened os i n) + 1 ≤ keys_in os
 keys-shortened os i n l b =
-    let a = keys-set os i (take (length (orderingAt os i) - (n + 1)) (orderingAt os i)) l in
-    let s = length-take-le (length (orderingAt os i) - (n + 1)) (orderingAt os i) (omega arith) in
+    let a = keys-set os i (take (length (ordering_at os i) - (n + 1)) (ordering_at os i)) l in
+    let s = length-take-le (length (ordering_at os i) - (n + 1)) (ordering_at os i) (omega arith) in
     omega arith
 
 module _ (m : ℕ → ℕ → Bool) where
@@ -128,10 +128,10 @@ module _ (m : ℕ → ℕ → Bool) where
   second-left os i j c emptied b (whole k e l) = record { fewer = omega (arith, length_removed os j); keys = omega (arith, keys-removed os j b) }
 
   pub compared-left : (os : List (List ℕ)) (i j : ℕ) → i < length os → j < length os → Left os 0 (compared m os i j)
-  unfolding comparedBy goes
+  unfolding compared_by goes
   compared-left os i j a b = rw (compared-by m os i j) (go (resolve m os i j) (outcome m os i j))
     where
-      go : (r : Resolved) → Outcome m os i j r → Left os 0 (comparedBy m os i j r)
+      go : (r : Resolved) → Outcome m os i j r → Left os 0 (compared_by m os i j r)
       go apart (free e) = second-left os i j 0 (resolve m os j i) b (outcome m os j i)
       go (trimmed ps) (part k e l) =
           let s = length-shortened os i k in

@@ -2,8 +2,8 @@
 use Rattle.std.specs.Prelude.{ℕ, ◌+◌, ◌<◌, ◌≤◌, true, List, ◌≡◌, eqb, leb, length}
 use Rattle.std.proofs.Math.Option.{Option, none, some}
 use Rattle.laws.specs.Tests.{if◌then◌else◌}
-use Rattle.reduction.specs.Lent.{keyCount, exprLent, optionsLent, exprsInside, optionsKnown}
-use Rattle.reduction.specs.Reduction.{Way, onward, again, anew, Compared, Turn, Reduced, keysIn}
+use Rattle.reduction.specs.Lent.{key_count, expr_lent, options_lent, exprs_inside, options_known}
+use Rattle.reduction.specs.Reduction.{Way, onward, again, anew, Compared, Turn, Reduced, keys_in}
 use Rattle.orderings.specs.Layout.{encode, decode}
 use Rattle.orderings.specs.declared.Orderings.{Orderings}
 use Rattle.orderings.specs.declared.Extended.{Extended}
@@ -14,47 +14,47 @@ use Rattle.reduction.specs.declared.Turned.{Turned}
 use Rattle.orderings.specs.Inner.{Held, appended}
 
 -- an overlap as a number of keys: 0 for none
-unfoldable pub overlapNumber : Option ℕ → ℕ
-overlapNumber none = 0
-overlapNumber (some n) = n + 1
+unfoldable pub overlap_number : Option ℕ → ℕ
+overlap_number none = 0
+overlap_number (some n) = n + 1
 
 -- how the comparing goes on, as a number
-unfoldable pub wayNumber : Way → ℕ
-wayNumber onward = 0
-wayNumber again = 1
-wayNumber anew = 2
+unfoldable pub way_number : Way → ℕ
+way_number onward = 0
+way_number again = 1
+way_number anew = 2
 
 -- what comparing came to, as its struct
-unfoldable pub contestOf : Compared → Contest
-contestOf c = record { way = wayNumber c.way; cuts = c.cuts; list = encode c.orderings }
+unfoldable pub contest_of : Compared → Contest
+contest_of c = record { way = way_number c.way; cuts = c.cuts; list = encode c.orderings }
 
 -- what a loop came to, as its struct
 unfoldable pub turn_of : Turn → Turned
 turn_of t = record { next = t.next; cuts = t.cuts; list = encode t.orderings }
 
 -- what reduction came to, as its struct
-unfoldable pub reductionOf : Reduced → Reduction
-reductionOf r = record { list = encode r.orderings; cuts = r.cuts; passes = r.passes }
+unfoldable pub reduction_of : Reduced → Reduction
+reduction_of r = record { list = encode r.orderings; cuts = r.cuts; passes = r.passes }
 
 -- a list may be compared further: it is held, and its keys and the cuts so far are within what a list can have
 pub record Paid (g : Orderings) (cuts : ℕ) : Type 0 where
   pub held : Held g
-  pub paid : keysIn (decode g) + cuts ≤ 512
+  pub paid : keys_in (decode g) + cuts ≤ 512
 
 -- the keys of the list at a place are expressions below 1,024 with options 0 to 3
 pub record KeysFit (numbers : List ℕ) (at : ℕ) : Type 0 where
   pub there : at < length numbers
-  pub exprs : (k : ℕ) → k < keyCount numbers at → exprLent numbers at k < 1024
-  pub options : (k : ℕ) → k < keyCount numbers at → optionsLent numbers at k ≤ 3
+  pub exprs : (k : ℕ) → k < key_count numbers at → expr_lent numbers at k < 1024
+  pub options : (k : ℕ) → k < key_count numbers at → options_lent numbers at k ≤ 3
 
 -- the same of all lists that are lent
 pub record LentFit (numbers : List ℕ) : Type 0 where
-  pub exprs : exprsInside 1024 numbers ≡ true
-  pub options : optionsKnown numbers ≡ true
+  pub exprs : exprs_inside 1024 numbers ≡ true
+  pub options : options_known numbers ≡ true
 
 -- a list with an ordering at its end, if that is not empty; 5 where it doesn't fit
-unfoldable pub addedOne : Orderings → Extended → Listed
-addedOne g one =
+unfoldable pub added_one : Orderings → Extended → Listed
+added_one g one =
     if one.fits then
     (if eqb one.ordering.size 0 then record { number = 0; list = g } else
     (if leb 32 g.count then record { number = 5; list = g } else record { number = 0; list = appended g one.ordering }))

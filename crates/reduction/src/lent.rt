@@ -2,13 +2,13 @@
 ghost use Rattle.std.specs.Prelude.{◌&&◌, ◌++◌, ◌≡◌, ◌<◌, ◌+◌, ◌*◌, ltb, leb, length, get_or};
 ghost use Rattle.laws.specs.Tests.{each};
 ghost use Rattle.orderings.specs.Ordering.{built};
-ghost use Rattle.orderings.specs.Lists.{builtAll};
-ghost use Rattle.reduction.specs.Lent.{keyCount, exprLent, optionsLent, optionsKnown, whole, exprsInside, keysLent, listsLent, freshLent, orderingsLent};
+ghost use Rattle.orderings.specs.Lists.{built_all};
+ghost use Rattle.reduction.specs.Lent.{key_count, expr_lent, options_lent, options_known, whole, exprs_inside, keys_lent, lists_lent, fresh_lent, orderings_lent};
 ghost use Rattle.orderings.specs.Layout.{decode};
-ghost use Rattle.reduction.specs.Calls.{lentNumber, extendNumber, reducedList};
+ghost use Rattle.reduction.specs.Calls.{lent_number, extend_number, reduced_list};
 ghost use Rattle.orderings.specs.Calls.{listed};
-ghost use Rattle.orderings.specs.Inner.{Held, Short, extendedOf};
-ghost use Rattle.reduction.specs.Inner.{KeysFit, LentFit, addedOne};
+ghost use Rattle.orderings.specs.Inner.{Held, Short, extended_of};
+ghost use Rattle.reduction.specs.Inner.{KeysFit, LentFit, added_one};
 
 use crate::reducing::remove_redundant_entries;
 use arena::cells::node_count;
@@ -39,7 +39,7 @@ fn number_at(numbers: &[u16], i: usize) -> usize
 // The options of the keys of the list at a place are 0 to 3.
 fn options_at(numbers: &[u16], at: usize) -> bool
     requires { at < length numbers.now }
-    ensures { result ≡ each (λ k. leb (optionsLent numbers.now at k) 3) (keyCount numbers.now at) }
+    ensures { result ≡ each (λ k. leb (options_lent numbers.now at k) 3) (key_count numbers.now at) }
 {
     let n = number_at(numbers, at);
     let mut k = 0;
@@ -54,7 +54,7 @@ fn options_at(numbers: &[u16], at: usize) -> bool
 
 // The options of all keys are 0 to 3.
 fn options_known(numbers: &[u16]) -> bool
-    ensures { result ≡ optionsKnown numbers.now }
+    ensures { result ≡ options_known numbers.now }
 {
     let n = numbers.len();
     let mut at = 0;
@@ -85,7 +85,7 @@ fn is_whole(numbers: &[u16]) -> bool
 // The expressions of the keys of the list at a place are below n.
 fn exprs_at(numbers: &[u16], at: usize, n: usize) -> bool
     requires { at < length numbers.now }
-    ensures { result ≡ each (λ k. ltb (exprLent numbers.now at k) n) (keyCount numbers.now at) }
+    ensures { result ≡ each (λ k. ltb (expr_lent numbers.now at k) n) (key_count numbers.now at) }
 {
     let m = number_at(numbers, at);
     let mut k = 0;
@@ -100,7 +100,7 @@ fn exprs_at(numbers: &[u16], at: usize, n: usize) -> bool
 
 // The expressions of all keys are below n.
 fn exprs_inside(numbers: &[u16], n: usize) -> bool
-    ensures { result ≡ exprsInside n numbers.now }
+    ensures { result ≡ exprs_inside n numbers.now }
 {
     let m = numbers.len();
     let mut at = 0;
@@ -115,7 +115,7 @@ fn exprs_inside(numbers: &[u16], n: usize) -> bool
 
 // The check of a list and of lists of keys that are lent with it.
 pub fn lent_number(cells: &[u32; 11265], g: Orderings, numbers: &[u16]) -> u32
-    ensures { result ≡ lentNumber cells.now g numbers.now }
+    ensures { result ≡ lent_number cells.now g numbers.now }
 {
     if !options_known(numbers) {
         return 12;
@@ -142,7 +142,7 @@ pub fn lent_number(cells: &[u32; 11265], g: Orderings, numbers: &[u16]) -> u32
 // The expression of key k of the list at a place does not stand before it.
 fn fresh_lent(numbers: &[u16], at: usize, k: usize) -> bool
     requires { (at < length numbers.now) × (k < 65536) }
-    ensures { result ≡ freshLent numbers.now at k }
+    ensures { result ≡ fresh_lent numbers.now at k }
 {
     let e = number_at(numbers, at + 1 + 2 * k);
     let mut i = 0;
@@ -158,7 +158,7 @@ fn fresh_lent(numbers: &[u16], at: usize, k: usize) -> bool
 // The list at a place repeats no expression.
 fn none_twice(numbers: &[u16], at: usize) -> bool
     requires { at < length numbers.now }
-    ensures { result ≡ each (λ k. freshLent numbers.now at k) (keyCount numbers.now at) }
+    ensures { result ≡ each (λ k. fresh_lent numbers.now at k) (key_count numbers.now at) }
 {
     let n = number_at(numbers, at);
     let mut k = 0;
@@ -174,7 +174,7 @@ fn none_twice(numbers: &[u16], at: usize) -> bool
 // The list at a place is an ordering: it has keys, and no expression twice.
 fn ordering_at(numbers: &[u16], at: usize) -> bool
     requires { at < length numbers.now }
-    ensures { result ≡ (ltb 0 (keyCount numbers.now at) && each (λ k. freshLent numbers.now at k) (keyCount numbers.now at)) }
+    ensures { result ≡ (ltb 0 (key_count numbers.now at) && each (λ k. fresh_lent numbers.now at k) (key_count numbers.now at)) }
 {
     if number_at(numbers, at) == 0 {
         return false;
@@ -184,7 +184,7 @@ fn ordering_at(numbers: &[u16], at: usize) -> bool
 
 // Each list is an ordering.
 fn orderings_lent(numbers: &[u16]) -> bool
-    ensures { result ≡ orderingsLent numbers.now }
+    ensures { result ≡ orderings_lent numbers.now }
 {
     let n = numbers.len();
     let mut at = 0;
@@ -199,7 +199,7 @@ fn orderings_lent(numbers: &[u16]) -> bool
 
 // The check of a list and of orderings that are lent with it.
 pub fn extend_number(cells: &[u32; 11265], g: Orderings, numbers: &[u16]) -> u32
-    ensures { result ≡ extendNumber cells.now g numbers.now }
+    ensures { result ≡ extend_number cells.now g numbers.now }
 {
     let number = lent_number(cells, g, numbers);
     if number == 12 {
@@ -217,7 +217,7 @@ pub fn extend_number(cells: &[u32; 11265], g: Orderings, numbers: &[u16]) -> u32
 // The ordering that is built from the list at a place; it doesn't fit where it has more than 16 keys.
 fn build(numbers: &[u16], at: usize) -> Extended
     requires { KeysFit numbers.now at }
-    ensures { result ≡ extendedOf (built (keysLent numbers.now at)) }
+    ensures { result ≡ extended_of (built (keys_lent numbers.now at)) }
 {
     let n = number_at(numbers, at);
     let mut out = nothing();
@@ -240,7 +240,7 @@ fn build(numbers: &[u16], at: usize) -> Extended
 // A list with an ordering at its end, if that is not empty. The number is 5 where it doesn't fit.
 fn add_one(g: Orderings, one: Extended) -> Listed
     requires { Short g }
-    ensures { result ≡ addedOne g one }
+    ensures { result ≡ added_one g one }
 {
     if !one.fits {
         return Listed { number: 5, list: g };
@@ -260,7 +260,7 @@ fn add_one(g: Orderings, one: Extended) -> Listed
 // A list with all orderings that are built from the lists of keys at its end. The number is 5 where they don't fit.
 fn add_all(g: Orderings, numbers: &[u16]) -> Listed
     requires { Held g × LentFit numbers.now }
-    ensures { result ≡ listed g (decode g ++ builtAll (listsLent numbers.now)) }
+    ensures { result ≡ listed g (decode g ++ built_all (lists_lent numbers.now)) }
 {
     let n = numbers.len();
     let mut list = g;
@@ -282,7 +282,7 @@ fn add_all(g: Orderings, numbers: &[u16]) -> Listed
 // Adds orderings that are built from lists of keys, and reduces.
 pub fn add_in(g: Orderings, numbers: &[u16]) -> Listed
     requires { Held g × LentFit numbers.now }
-    ensures { result ≡ reducedList g (decode g ++ builtAll (listsLent numbers.now)) }
+    ensures { result ≡ reduced_list g (decode g ++ built_all (lists_lent numbers.now)) }
 {
     let all = add_all(g, numbers);
     if all.number != 0 {

@@ -4,7 +4,7 @@ pub mod lent;
 pub mod reducing;
 
 ghost use Rattle.std.specs.Prelude.{◌≡◌};
-ghost use Rattle.reduction.specs.Calls.{addAnswer, newAnswer, extendAnswer};
+ghost use Rattle.reduction.specs.Calls.{add_answer, new_answer, extend_answer};
 
 use lent::{add_in, extend_number, lent_number};
 use orderings::making::{no_orderings, refusal};
@@ -37,7 +37,7 @@ pub struct Reduction {
 
 // Adds orderings that are built from lists of keys, lent as numbers, and reduces. Refusals: 12, 11, 1, 5.
 pub fn add_orderings(cells: &[u32; 11265], list: Orderings, numbers: &[u16]) -> Listed
-    ensures { result ≡ addAnswer cells.now list numbers.now }
+    ensures { result ≡ add_answer cells.now list numbers.now }
 {
     let number = lent_number(cells, list, numbers);
     if number != 0 {
@@ -49,14 +49,14 @@ pub fn add_orderings(cells: &[u32; 11265], list: Orderings, numbers: &[u16]) -> 
 // A new list of orderings that are built from lists of keys, lent as numbers, reduced. Refusals: 12, 11, 1, 5, with an
 // empty list.
 pub fn new(cells: &[u32; 11265], numbers: &[u16]) -> Listed
-    ensures { result ≡ newAnswer cells.now numbers.now }
+    ensures { result ≡ new_answer cells.now numbers.now }
 {
     add_orderings(cells, no_orderings(), numbers)
 }
 
 // Extends a list by orderings, lent as numbers, and reduces. Refusals: 12, 11, 1, 5.
 pub fn extend(cells: &[u32; 11265], list: Orderings, numbers: &[u16]) -> Listed
-    ensures { result ≡ extendAnswer cells.now list numbers.now }
+    ensures { result ≡ extend_answer cells.now list numbers.now }
 {
     let number = extend_number(cells, list, numbers);
     if number != 0 {

@@ -1,12 +1,12 @@
 // Reduction (`remove_redundant_entries`), over a list that is checked already.
 ghost use Rattle.std.specs.Prelude.{◌≡◌, ◌≤◌, ◌<◌, ◌+◌, ◌-◌, eqb, length, set, take};
 ghost use Rattle.laws.specs.Tests.{if◌then◌else◌};
-ghost use Rattle.orderings.specs.Ordering.{sameKey};
-ghost use Rattle.reduction.specs.Reduction.{meets as meetsBy, overlap as overlapBy, removed as removedAt, resolve, second as secondBy, compared, round as roundBy, pass as passBy, reduced as reducedBy};
-ghost use Rattle.orderings.specs.Lists.{orderingAt};
+ghost use Rattle.orderings.specs.Ordering.{same_key};
+ghost use Rattle.reduction.specs.Reduction.{meets as meets_by, overlap as overlap_by, removed as removed_at, resolve, second as second_by, compared, round as round_by, pass as pass_by, reduced as reduced_by};
+ghost use Rattle.orderings.specs.Lists.{ordering_at};
 ghost use Rattle.orderings.specs.Layout.{row, keys_of, encode, decode};
 ghost use Rattle.orderings.specs.Inner.{HeldOrdering, Held};
-ghost use Rattle.reduction.specs.Inner.{Paid, overlapNumber, contestOf, turn_of, reductionOf};
+ghost use Rattle.reduction.specs.Inner.{Paid, overlap_number, contest_of, turn_of, reduction_of};
 
 use crate::{Contest, Reduction, Turned};
 use orderings::making::nothing;
@@ -15,7 +15,7 @@ use orderings::{Ordering, Orderings};
 // The last n keys of a are the first n keys of b.
 fn meets(a: Ordering, b: Ordering, n: usize) -> bool
     requires { (HeldOrdering a × HeldOrdering b) × ((n ≤ a.size) × (n ≤ b.size)) }
-    ensures { result ≡ meetsBy sameKey (keys_of a) (keys_of b) n }
+    ensures { result ≡ meets_by same_key (keys_of a) (keys_of b) n }
 {
     let start = a.size - n;
     let mut k = 0;
@@ -31,7 +31,7 @@ fn meets(a: Ordering, b: Ordering, n: usize) -> bool
 // The least number of keys that end a and begin b; 0 where there is none.
 fn overlap(a: Ordering, b: Ordering) -> usize
     requires { HeldOrdering a × HeldOrdering b }
-    ensures { result ≡ overlapNumber (overlapBy sameKey (keys_of a) (keys_of b)) }
+    ensures { result ≡ overlap_number (overlap_by same_key (keys_of a) (keys_of b)) }
 {
     let most = if a.size < b.size { a.size } else { b.size };
     let mut n = 0;
@@ -64,7 +64,7 @@ fn truncate(o: Ordering, n: usize) -> Ordering
 // The list without ordering i: the last moves into its gap.
 fn remove(g: Orderings, i: usize) -> Orderings
     requires { Held g × (i < g.count) }
-    ensures { result ≡ encode (removedAt (decode g) i) }
+    ensures { result ≡ encode (removed_at (decode g) i) }
 {
     let last = g.count - 1;
     let mut out = g;
@@ -76,8 +76,8 @@ fn remove(g: Orderings, i: usize) -> Orderings
 
 // The list with the end of ordering i cut off, so that n keys stay.
 fn cut(g: Orderings, i: usize, n: usize) -> Orderings
-    requires { Held g × ((i < g.count) × (n ≤ length (orderingAt (decode g) i))) }
-    ensures { result ≡ encode (set (decode g) i (take n (orderingAt (decode g) i))) }
+    requires { Held g × ((i < g.count) × (n ≤ length (ordering_at (decode g) i))) }
+    ensures { result ≡ encode (set (decode g) i (take n (ordering_at (decode g) i))) }
 {
     let o = g.list[i];
     let mut out = g;
@@ -88,7 +88,7 @@ fn cut(g: Orderings, i: usize, n: usize) -> Orderings
 // Ordering j is held against ordering i, after c cuts.
 fn second(g: Orderings, i: usize, j: usize, c: usize) -> Contest
     requires { (Held g × (c ≤ 1)) × ((i < g.count) × (j < g.count)) }
-    ensures { result ≡ contestOf (secondBy (decode g) j c (resolve sameKey (decode g) j i)) }
+    ensures { result ≡ contest_of (second_by (decode g) j c (resolve same_key (decode g) j i)) }
 {
     let a = g.list[i];
     let b = g.list[j];
@@ -117,7 +117,7 @@ fn second(g: Orderings, i: usize, j: usize, c: usize) -> Contest
 // Ordering i is held against ordering j, and then j against i.
 fn contest(g: Orderings, i: usize, j: usize) -> Contest
     requires { Held g × ((i < g.count) × (j < g.count)) }
-    ensures { result ≡ contestOf (compared sameKey (decode g) i j) }
+    ensures { result ≡ contest_of (compared same_key (decode g) i j) }
 {
     let a = g.list[i];
     let b = g.list[j];
@@ -147,7 +147,7 @@ fn next_place(way: u32, j: usize) -> usize
 // Ordering i against all after it, after some cuts.
 fn round(g: Orderings, i: usize, cuts: usize) -> Turned
     requires { Paid g cuts × (i < g.count) }
-    ensures { result ≡ turn_of (roundBy sameKey (decode g) i cuts) }
+    ensures { result ≡ turn_of (round_by same_key (decode g) i cuts) }
 {
     let mut list = g;
     let mut done = cuts;
@@ -175,7 +175,7 @@ fn round(g: Orderings, i: usize, cuts: usize) -> Turned
 // One pass over all orderings.
 fn pass(g: Orderings) -> Turned
     requires { Held g }
-    ensures { result ≡ turn_of (passBy sameKey (decode g)) }
+    ensures { result ≡ turn_of (pass_by same_key (decode g)) }
 {
     let mut list = g;
     let mut cuts = 0;
@@ -196,7 +196,7 @@ fn pass(g: Orderings) -> Turned
 // Reduces a list: passes until one cuts nothing.
 pub fn remove_redundant_entries(g: Orderings) -> Reduction
     requires { Held g }
-    ensures { result ≡ reductionOf (reducedBy sameKey (decode g)) }
+    ensures { result ≡ reduction_of (reduced_by same_key (decode g)) }
 {
     let mut list = g;
     let mut cuts = 0;

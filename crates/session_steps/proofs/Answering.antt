@@ -5,8 +5,8 @@ use mathlib.Core.Option.{Option, none, some}
 use mathlib.Core.Path.{◌≡◌, refl, sym, ap, ap₂, ◌∙◌, subst}
 use native.Mathlib.Omega.{arith}
 use Rattle.arena.specs.Node.{Node}
-use Rattle.arena.specs.Layout.{encode as encodeNodes, decode as nodesIn}
-use Rattle.arena.specs.Calls.{inCells, addedNumber}
+use Rattle.arena.specs.Layout.{encode as encode_nodes, decode as nodes_in}
+use Rattle.arena.specs.Calls.{in_cells, added_number}
 use Rattle.arena.specs.declared.Added.{Added}
 use Rattle.arena.proofs.Layouts.{decode-encode, encode-holds}
 use Rattle.classes.specs.Class.{Class}
@@ -18,13 +18,13 @@ use Rattle.classes.specs.declared.Changed.{Changed}
 use Rattle.classes.proofs.Codec.{decode-encode as classes-back}
 use Rattle.group_checks.proofs.HeldLaws.{Fit as ClassesFit}
 use Rattle.orderings.specs.Good.{Good as GoodList}
-use Rattle.orderings.specs.Layout.{encode as encodeList}
+use Rattle.orderings.specs.Layout.{encode as encode_list}
 use Rattle.orderings.specs.declared.Listed.{Listed}
 use Rattle.orderings.proofs.Codec.{decode-encode as List-back}
 use Rattle.normal.proofs.NormalKept.{Kept}
-use Rattle.records.specs.Record.{Record, readRecord}
-use Rattle.session_steps.specs.State.{State, Reply, unless, with_nodes, withClasses, withOrderings, onNodes, onClasses, step}
-use Rattle.session_steps.specs.Inner.{Fit, Went, said_of, saidBy, listed_of, state_of}
+use Rattle.records.specs.Record.{Record, read_record}
+use Rattle.session_steps.specs.State.{State, Reply, unless, with_nodes, with_classes, with_orderings, on_nodes, on_classes, step}
+use Rattle.session_steps.specs.Inner.{Fit, Went, said_of, said_by, listed_of, state_of}
 use Rattle.session_steps.specs.declared.holding.Stepped.{Stepped}
 use Rattle.session_steps.specs.declared.holding.Holding.{Holding}
 use Rattle.session_steps.specs.declared.holding.Said.{Said}
@@ -32,36 +32,36 @@ use Rattle.session_steps.proofs.ClassesKept.{held-extended, fit-held}
 use Rattle.session_steps.proofs.OrderingsKept.{good-held}
 
 -- the record that was read is the only one
-abbrev recordOr : Record → Option Record → Record
-recordOr d none = d
-recordOr d (some x) = x
+abbrev record_or : Record → Option Record → Record
+record_or d none = d
+record_or d (some x) = x
 
-pub only : (bytes : List ℕ) (P : Record → Type 0) (y : Record) → readRecord bytes ≡ some y → P y → (x : Record) → readRecord bytes ≡ some x → P x
-only bytes P y e p x f = subst P (ap (recordOr y) (sym e ∙ f)) p
+pub only : (bytes : List ℕ) (P : Record → Type 0) (y : Record) → read_record bytes ≡ some y → P y → (x : Record) → read_record bytes ≡ some x → P x
+only bytes P y e p x f = subst P (ap (record_or y) (sym e ∙ f)) p
 
 -- where none was read, there is none
-abbrev isThere : Option Record → ℕ
-isThere none = 0
-isThere (some x) = 1
+abbrev is_there : Option Record → ℕ
+is_there none = 0
+is_there (some x) = 1
 
-pub none_read : (bytes : List ℕ) (P : Record → Type 0) → readRecord bytes ≡ none → (x : Record) → readRecord bytes ≡ some x → P x
-none_read bytes P e x f = let z : ◌≡◌ {A = ℕ} 0 1 = ap isThere (sym e ∙ f) in absurd (omega arith)
+pub none_read : (bytes : List ℕ) (P : Record → Type 0) → read_record bytes ≡ none → (x : Record) → read_record bytes ≡ some x → P x
+none_read bytes P e x f = let z : ◌≡◌ {A = ℕ} 0 1 = ap is_there (sym e ∙ f) in absurd (omega arith)
 
 -- what is said of an answer about nodes, beside the cells
-pub told_in : (reply : Added → Reply) (o : Added × List Node) (a : Added) (t : List ℕ) (said : Said) → ◌≡◌ {A = Added × List ℕ} (a, t) (inCells o) → said ≡ said_of (reply a)
-    → ◌≡◌ {A = Said × List ℕ} (said, t) (inCells (saidBy reply o))
-unfolding inCells saidBy
+pub told_in : (reply : Added → Reply) (o : Added × List Node) (a : Added) (t : List ℕ) (said : Said) → ◌≡◌ {A = Added × List ℕ} (a, t) (in_cells o) → said ≡ said_of (reply a)
+    → ◌≡◌ {A = Said × List ℕ} (said, t) (in_cells (said_by reply o))
+unfolding in_cells said_by
 told_in reply o a t said e q = ap₂ {C = Said × List ℕ} (λ s c. (s, c)) (q ∙ ap (λ (z : Added × List ℕ). said_of (reply z.0)) e) (ap (λ (z : Added × List ℕ). z.1) e)
 
 module _ (cells : List ℕ) (h : Holding) (x : Record) (fit : Fit cells h) where
   -- a call on the arena
-  pub nodes-went : (reply : Added → Reply) (o : Added × List Node) → Kept addedNumber (nodesIn cells) o → step x (state_of cells h) ≡ onNodes (state_of cells h) reply o
-      → (said : Said) (cells' : List ℕ) → ◌≡◌ {A = Said × List ℕ} (said, cells') (inCells (saidBy reply o)) → (r : Stepped) → r ≡ record { said = said; holding = h }
+  pub nodes-went : (reply : Added → Reply) (o : Added × List Node) → Kept added_number (nodes_in cells) o → step x (state_of cells h) ≡ on_nodes (state_of cells h) reply o
+      → (said : Said) (cells' : List ℕ) → ◌≡◌ {A = Said × List ℕ} (said, cells') (in_cells (said_by reply o)) → (r : Stepped) → r ≡ record { said = said; holding = h }
       → Went cells h x cells' r
-  unfolding inCells saidBy onNodes state_of with_nodes
+  unfolding in_cells said_by on_nodes state_of with_nodes
   nodes-went reply o k s said cells' q r p =
       let back = decode-encode o.1 k.sound in
-      let c : cells' ≡ encodeNodes o.1 = ap (λ (z : Said × List ℕ). z.1) q in
+      let c : cells' ≡ encode_nodes o.1 = ap (λ (z : Said × List ℕ). z.1) q in
       let g : r.holding ≡ h = ap (λ (z : Stepped). z.holding) p in
       record {
         fit = subst (λ (z : Holding). Fit cells' z) (sym g) (subst (λ (z : List ℕ). Fit z h) (sym c) (record {
@@ -85,33 +85,33 @@ module _ (cells : List ℕ) (h : Holding) (x : Record) (fit : Fit cells h) where
       }
 
   -- a call on the group
-  pub classes-went : (o : Outcome) → ClassesFit (nodesIn cells) 256 o.classes → step x (state_of cells h) ≡ onClasses (state_of cells h) o
+  pub classes-went : (o : Outcome) → ClassesFit (nodes_in cells) 256 o.classes → step x (state_of cells h) ≡ on_classes (state_of cells h) o
       → (change : Changed) → change ≡ changed 256 o
       → (r : Stepped) → r ≡ record { said = said_of (unless change.number); holding = record { group = change.group; list = h.list } }
       → Went cells h x cells r
-  unfolding changed onClasses state_of withClasses encode
+  unfolding changed on_classes state_of with_classes encode
   classes-went o f s change q r p =
       let made : Holding = record { group = encode 256 o.classes; list = h.list } in
       let g : r.holding ≡ made = ap (λ (z : Stepped). z.holding) p ∙ ap (λ (z : Changed). record { group = z.group; list = h.list }) q in
       record {
         fit = subst (λ (z : Holding). Fit cells z) (sym g) (record {
           arena = fit.arena;
-          group = fit-held (nodesIn cells) 256 o.classes f;
+          group = fit-held (nodes_in cells) 256 o.classes f;
           limit = refl;
           list = fit.list;
         });
         said-is = ap (λ (z : Stepped). z.said) p ∙ ap (λ (z : Changed). said_of (unless z.number)) q ∙ ap (λ (z : Reply × State). said_of z.0) (sym s);
-        state-is = ap (λ (z : Holding). state_of cells z) g ∙ ap (λ (cs : List Class). withClasses (state_of cells h) cs) (classes-back 256 o.classes) ∙ ap (λ (z : Reply × State). z.1) (sym s);
+        state-is = ap (λ (z : Holding). state_of cells z) g ∙ ap (λ (cs : List Class). with_classes (state_of cells h) cs) (classes-back 256 o.classes) ∙ ap (λ (z : Reply × State). z.1) (sym s);
       }
 
   -- a call on the orderings
-  pub orderings-went : (o : ℕ × List (List ℕ)) → GoodList o.1 → step x (state_of cells h) ≡ (unless o.0, withOrderings (state_of cells h) o.1)
+  pub orderings-went : (o : ℕ × List (List ℕ)) → GoodList o.1 → step x (state_of cells h) ≡ (unless o.0, with_orderings (state_of cells h) o.1)
       → (listed : Listed) → listed ≡ listed_of o
       → (r : Stepped) → r ≡ record { said = said_of (unless listed.number); holding = record { group = h.group; list = listed.list } }
       → Went cells h x cells r
-  unfolding listed_of state_of withOrderings
+  unfolding listed_of state_of with_orderings
   orderings-went o f s listed q r p =
-      let made : Holding = record { group = h.group; list = encodeList o.1 } in
+      let made : Holding = record { group = h.group; list = encode_list o.1 } in
       let g : r.holding ≡ made = ap (λ (z : Stepped). z.holding) p ∙ ap (λ (z : Listed). record { group = h.group; list = z.list }) q in
       record {
         fit = subst (λ (z : Holding). Fit cells z) (sym g) (record {
@@ -121,5 +121,5 @@ module _ (cells : List ℕ) (h : Holding) (x : Record) (fit : Fit cells h) where
           list = good-held o.1 f;
         });
         said-is = ap (λ (z : Stepped). z.said) p ∙ ap (λ (z : Listed). said_of (unless z.number)) q ∙ ap (λ (z : Reply × State). said_of z.0) (sym s);
-        state-is = ap (λ (z : Holding). state_of cells z) g ∙ ap (λ (os : List (List ℕ)). withOrderings (state_of cells h) os) (List-back o.1) ∙ ap (λ (z : Reply × State). z.1) (sym s);
+        state-is = ap (λ (z : Holding). state_of cells z) g ∙ ap (λ (os : List (List ℕ)). with_orderings (state_of cells h) os) (List-back o.1) ∙ ap (λ (z : Reply × State). z.1) (sym s);
       }

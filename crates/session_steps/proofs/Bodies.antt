@@ -7,19 +7,19 @@ use native.Mathlib.Numerals.{add-one}
 use native.Mathlib.Omega.{arith}
 use lib.ListN.{length, get_or, take, set, length-set}
 use lib.Seq.{take-suc-set, get_or-set_same, get_or-set_other}
-use Rattle.laws.proofs.Table.{getD-table}
+use Rattle.laws.proofs.Table.{get_or-table}
 use Rattle.laws.specs.Lists.{table}
 use Rattle.records.specs.Fields.{field, fields}
-use Rattle.records.specs.Record.{keysIn}
+use Rattle.records.specs.Record.{keys_in}
 use Rattle.records.proofs.Items.{length-keys}
-use Rattle.session_steps.specs.State.{keyExpr, keyOptions}
-use Rattle.session_steps.specs.Inner.{lentKeys, pairsOf}
+use Rattle.session_steps.specs.State.{key_expr, key_options}
+use Rattle.session_steps.specs.Inner.{lent_keys, pairs_of}
 use Rattle.session_steps.proofs.KeyNumbers.{pairs-are}
 
 -- child k of n
 pub at_fields : (body : List ℕ) (n k : ℕ) → k < n → get_or (fields body 4 n) k 0 ≡ field body (4 + 2 * k)
 unfolding fields
-at_fields body n k l = getD-table (λ k. field body (4 + 2 * k)) n k 0 l
+at_fields body n k l = get_or-table (λ k. field body (4 + 2 * k)) n k 0 l
 
 -- the first k children are copied: none, and one more
 pub fields-none : (body l : List ℕ) → take 0 l ≡ fields body 4 0
@@ -32,18 +32,18 @@ fields-more body l k v b e q = rw add-one (take-suc-set l k v b ∙ rw (e, q))
 
 module _ (body : List ℕ) (n : ℕ) (e : length body ≡ 4 * n) where
   -- how many keys there are
-  pub count-keys : length (keysIn body) ≡ n
+  pub count-keys : length (keys_in body) ≡ n
   count-keys = omega (arith, length-keys body)
 
-  at-keys : (k : ℕ) → k < n → get_or (keysIn body) k (0, 0) ≡ (field body (4 * k), field body (4 * k + 2))
-  unfolding keysIn
-  at-keys k l = getD-table (λ k. (field body (4 * k), field body (4 * k + 2))) (length body / 4) k (0, 0) (omega arith)
+  at-keys : (k : ℕ) → k < n → get_or (keys_in body) k (0, 0) ≡ (field body (4 * k), field body (4 * k + 2))
+  unfolding keys_in
+  at-keys k l = get_or-table (λ k. (field body (4 * k), field body (4 * k + 2))) (length body / 4) k (0, 0) (omega arith)
 
   -- key k of n
-  pub at-expr : (k : ℕ) → k < n → keyExpr (keysIn body) k ≡ field body (4 * k)
+  pub at-expr : (k : ℕ) → k < n → key_expr (keys_in body) k ≡ field body (4 * k)
   at-expr k l = ap (λ (p : ℕ × ℕ). p.0) (at-keys k l)
 
-  pub at-options : (k : ℕ) → k < n → keyOptions (keysIn body) k ≡ field body (4 * k + 2)
+  pub at-options : (k : ℕ) → k < n → key_options (keys_in body) k ≡ field body (4 * k + 2)
   at-options k l = ap (λ (p : ℕ × ℕ). p.1) (at-keys k l)
 
 -- the count and the first k keys are copied
@@ -79,16 +79,16 @@ module _ (body : List ℕ) (n : ℕ) where
             get_or-set_other m (2 + 2 * k) (2 + 2 * j) b 0 (λ q. omega arith) ∙ get_or-set_other l (1 + 2 * k) (2 + 2 * j) a 0 (λ q. omega arith) ∙ w.1,
           )
 
-  pub copied_all : (l : List ℕ) → length body ≡ 4 * n → n ≤ 16 → (k : ℕ) → k ≤ n → n ≤ k → Copied body n l k → take (1 + 2 * n) l ≡ lentKeys (keysIn body)
-  unfolding lentKeys
+  pub copied_all : (l : List ℕ) → length body ≡ 4 * n → n ≤ 16 → (k : ℕ) → k ≤ n → n ≤ k → Copied body n l k → take (1 + 2 * n) l ≡ lent_keys (keys_in body)
+  unfolding lent_keys
   copied_all [] e few k a b c = absurd (omega (arith, c.sized))
   copied_all (x ∷ l) e few k a b c =
       let m = count-keys body n e in
-      let rest : take (2 * length (keysIn body)) l ≡ pairsOf (keysIn body) = pairs-are (keysIn body) l (omega (arith, c.sized, m))
+      let rest : take (2 * length (keys_in body)) l ≡ pairs_of (keys_in body) = pairs-are (keys_in body) l (omega (arith, c.sized, m))
       (λ j r. let w = c.at j (omega (arith, m)) in let i : j < n = omega (arith, m) in
       let u : suc (2 * j) ≡ 1 + 2 * j = omega arith in
       let v : suc (1 + 2 * j) ≡ 2 + 2 * j = omega arith in
       (ap (λ (i : ℕ). get_or (x ∷ l) i 0) u ∙ w.0 ∙ sym (at-expr body n e j i), ap (λ (i : ℕ). get_or (x ∷ l) i 0) v ∙ w.1 ∙ sym (at-options body n e j i))) in
-      let t : 1 + 2 * n ≡ suc (2 * length (keysIn body)) = omega (arith, m) in
-      let head : x ≡ length (keysIn body) = c.counted ∙ sym m in
+      let t : 1 + 2 * n ≡ suc (2 * length (keys_in body)) = omega (arith, m) in
+      let head : x ≡ length (keys_in body) = c.counted ∙ sym m in
       ap (λ (i : ℕ). take i (x ∷ l)) t ∙ rw (head, rest)

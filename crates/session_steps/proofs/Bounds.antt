@@ -11,31 +11,31 @@ use lib.ListN.{length, get_or, take, length-append, length-set}
 use Rattle.laws.specs.Tests.{if◌then◌else◌, each, first}
 use Rattle.laws.proofs.Booleans.{and_left, and_right}
 use Rattle.laws.proofs.First.{first_some}
-use Rattle.arena.specs.Node.{Node, column, literal, operation, nodeAt, sameNode}
-use Rattle.arena.specs.Expression.{Expression, Expressions, col, lit, op, ∅, ◌▹◌, expressionAt}
-use Rattle.arena.specs.Arena.{Placed, placed, full, and_then, find, placed_at, add, addExpression, addExpressions}
-use Rattle.arena.specs.Calls.{answered, addColumn, addLiteral, addOperation}
+use Rattle.arena.specs.Node.{Node, column, literal, operation, node_at, same_node}
+use Rattle.arena.specs.Expression.{Expression, Expressions, col, lit, op, ∅, ◌▹◌, expression_at}
+use Rattle.arena.specs.Arena.{Placed, placed, full, and_then, find, placed_at, add, add_expression, add_expressions}
+use Rattle.arena.specs.Calls.{answered, add_column, add_literal, add_operation}
 use Rattle.arena.specs.declared.Added.{Added}
 use Rattle.arena.specs.declared.Added.TheVariants.{Number, Refused}
 use Rattle.classes.specs.Class.{Class}
-use Rattle.classes.specs.Group.{total, equalCondition, withConstant}
-use Rattle.questions.specs.Questions.{exprsEqual}
-use Rattle.classes.specs.Layout.{constantFrom}
+use Rattle.classes.specs.Group.{total, equal_condition, with_constant}
+use Rattle.questions.specs.Questions.{exprs_equal}
+use Rattle.classes.specs.Layout.{constant_from}
 use Rattle.classes.specs.Steps.{Outcome, refused, fits, judged}
-use Rattle.conditions.specs.Steps.{addEqual, addConstant}
+use Rattle.conditions.specs.Steps.{add_equal, add_constant}
 use Rattle.conditions.specs.Calls.{sayable}
-use Rattle.questions.specs.Calls.{equalAnswer}
+use Rattle.questions.specs.Calls.{equal_answer}
 use Rattle.questions.specs.declared.Answer.TheVariants.{Yes, No, Refused as Answer-Refused}
 use Rattle.normal.specs.Normal.{normal}
-use Rattle.normal.specs.Calls.{normalizeExpr}
-use Rattle.orderings.specs.Ordering.{sameKey}
-use Rattle.orderings.specs.Lists.{builtAll, orderingAt}
+use Rattle.normal.specs.Calls.{normalize_expr}
+use Rattle.orderings.specs.Ordering.{same_key}
+use Rattle.orderings.specs.Lists.{built_all, ordering_at}
 use Rattle.reduction.specs.Reduction.{reduced}
-use Rattle.orderings.specs.Calls.{fits as fitsList}
+use Rattle.orderings.specs.Calls.{fits as fits_list}
 use Rattle.reduction.specs.Fewer.{length_removed}
 use Rattle.reduction.proofs.Kept.{Cuts, begun, cut, gone, reduced-cuts}
-use Rattle.records.specs.Record.{Record, column as columnRecord, literal as literalRecord, operation as operationRecord, equalPair, constant, normalFormOf, equalityOf, oneOrdering}
-use Rattle.session_steps.specs.State.{State, start, Reply, quiet, normalForm, equality, refusal, unless, addedReply, normalReply, equalityReply, with_nodes, withClasses, withOrderings, onNodes, onClasses, sayConstant, keyExpr, keyOptions, keyNumber, addOrdering, step}
+use Rattle.records.specs.Record.{Record, column as column_record, literal as literal_record, operation as operation_record, equal_pair, constant, normal_form_of, equality_of, one_ordering}
+use Rattle.session_steps.specs.State.{State, start, Reply, quiet, normal_form, equality, refusal, unless, added_reply, normal_reply, equality_reply, with_nodes, with_classes, with_orderings, on_nodes, on_classes, say_constant, key_expr, key_options, key_number, add_ordering, step}
 
 -- a state within document 01's bounds
 pub record Small (s : State) : Type 0 where
@@ -59,14 +59,14 @@ PlacedFew full = Unit {0}
 
 add_small : (n : Node) (ns : List Node) → length ns ≤ 1024 → PlacedSmall (add n ns)
 unfolding add placed_at find PlacedSmall
-add_small n ns l = go (first (λ i. sameNode n (nodeAt ns i)) (length ns)) refl
+add_small n ns l = go (first (λ i. same_node n (node_at ns i)) (length ns)) refl
   where
     new : (b : Bool) → ltb (length ns) 1024 ≡ b → PlacedSmall (if b then placed (length ns) (ns ++ (n ∷ [])) else full)
     new true e = let a = ltb-true (length ns) 1024 e in (a, omega (arith, length-append ns (n ∷ [])))
     new false e = tt
 
-    go : (o : Option ℕ) → first (λ i. sameNode n (nodeAt ns i)) (length ns) ≡ o → PlacedSmall (placed_at o n ns)
-    go (some i) e = let b = (first_some (λ i. sameNode n (nodeAt ns i)) (length ns) i e).below in (omega arith, l)
+    go : (o : Option ℕ) → first (λ i. same_node n (node_at ns i)) (length ns) ≡ o → PlacedSmall (placed_at o n ns)
+    go (some i) e = let b = (first_some (λ i. same_node n (node_at ns i)) (length ns) i e).below in (omega arith, l)
     go none e = new (ltb (length ns) 1024) refl
 
 then-small : (p : Placed (List ℕ)) (f : List ℕ → List Node → Placed ℕ) → PlacedFew p → ((is : List ℕ) (ms : List Node) → length ms ≤ 1024 → PlacedSmall (f is ms)) → PlacedSmall (and_then p f)
@@ -85,20 +85,20 @@ one-few (placed i ms) f h g = g i ms h.1
 one-few full f h g = tt
 
 mutual
-  unfolding addExpression addExpressions PlacedFew
+  unfolding add_expression add_expressions PlacedFew
 
-  expression-small : (x : Expression) (ns : List Node) → length ns ≤ 1024 → PlacedSmall (addExpression x ns)
+  expression-small : (x : Expression) (ns : List Node) → length ns ≤ 1024 → PlacedSmall (add_expression x ns)
   expression-small (col name index) ns l = add_small (column name index) ns l
   expression-small (lit v) ns l = add_small (literal v) ns l
   expression-small (op label children) ns l =
-      then-small (addExpressions children ns) (λ ks ms. add (operation label ks) ms) (expressions-few children ns l)
+      then-small (add_expressions children ns) (λ ks ms. add (operation label ks) ms) (expressions-few children ns l)
       (λ ks ms m. add_small (operation label ks) ms m)
 
-  expressions-few : (es : Expressions) (ns : List Node) → length ns ≤ 1024 → PlacedFew (addExpressions es ns)
+  expressions-few : (es : Expressions) (ns : List Node) → length ns ≤ 1024 → PlacedFew (add_expressions es ns)
   expressions-few ∅ ns l = l
   expressions-few (e ▹ es) ns l =
-      one-few (addExpression e ns) (λ k ms. and_then (addExpressions es ms) (λ ks os. placed (k ∷ ks) os)) (expression-small e ns l)
-      (λ k ms m. then-few (addExpressions es ms) k (expressions-few es ms m))
+      one-few (add_expression e ns) (λ k ms. and_then (add_expressions es ms) (λ ks os. placed (k ∷ ks) os)) (expression-small e ns l)
+      (λ k ms m. then-few (add_expressions es ms) k (expressions-few es ms m))
 
 -- what a call on the arena comes to: a number of a node or a refusal below 10, and an arena within its bound
 unfoldable AddedSmall : Added → Type 0
@@ -113,16 +113,16 @@ unfolding answered PlacedSmall AddedSmall
 answered-small ns (placed i ms) l h = h
 answered-small ns full l h = (omega arith, l)
 
-column-small : (name index : ℕ) (ns : List Node) → length ns ≤ 1024 → NodesSmall (addColumn name index ns)
-unfolding addColumn
+column-small : (name index : ℕ) (ns : List Node) → length ns ≤ 1024 → NodesSmall (add_column name index ns)
+unfolding add_column
 column-small name index ns l = answered-small ns (add (column name index) ns) l (add_small (column name index) ns l)
 
-literal-small : (value : ℕ) (ns : List Node) → length ns ≤ 1024 → NodesSmall (addLiteral value ns)
-unfolding addLiteral
+literal-small : (value : ℕ) (ns : List Node) → length ns ≤ 1024 → NodesSmall (add_literal value ns)
+unfolding add_literal
 literal-small value ns l = answered-small ns (add (literal value) ns) l (add_small (literal value) ns l)
 
-operation-small : (label : ℕ) (children : List ℕ) (ns : List Node) → length ns ≤ 1024 → NodesSmall (addOperation label children ns)
-unfolding addOperation AddedSmall
+operation-small : (label : ℕ) (children : List ℕ) (ns : List Node) → length ns ≤ 1024 → NodesSmall (add_operation label children ns)
+unfolding add_operation AddedSmall
 operation-small label children ns l = go (each (λ k. ltb (get_or children k 0) (length ns)) (length children)) (leb (length children) 8)
   where
     go : (b c : Bool) → NodesSmall (if b then (if c then answered ns (add (operation label children) ns) else (Refused 2, ns)) else (Refused 1, ns))
@@ -135,19 +135,19 @@ unfoldable pub NormalSmall : ℕ → Added → Type 0
 NormalSmall e (Number i) = (e < 1024) × (i < 1024)
 NormalSmall e (Refused k) = k < 10
 
-normal-small : (e : ℕ) (ns : List Node) (cs : List Class) → length ns ≤ 1024 → NormalSmall e (normalizeExpr e ns cs).0 × (length (normalizeExpr e ns cs).1 ≤ 1024)
-unfolding normalizeExpr NormalSmall answered PlacedSmall
+normal-small : (e : ℕ) (ns : List Node) (cs : List Class) → length ns ≤ 1024 → NormalSmall e (normalize_expr e ns cs).0 × (length (normalize_expr e ns cs).1 ≤ 1024)
+unfolding normalize_expr NormalSmall answered PlacedSmall
 normal-small e ns cs l = go (ltb e (length ns)) refl
   where
     made : Placed ℕ
-    made = addExpression (normal ns cs (expressionAt ns e)) ns
+    made = add_expression (normal ns cs (expression_at ns e)) ns
 
     at : e < length ns → (p : Placed ℕ) → PlacedSmall p → NormalSmall e (answered ns p).0 × (length (answered ns p).1 ≤ 1024)
     at b (placed i ms) h = ((omega arith, h.0), h.1)
     at b full h = (omega arith, l)
 
     go : (b : Bool) → ltb e (length ns) ≡ b → NormalSmall e (if b then answered ns made else (Refused 1, ns)).0 × (length (if b then answered ns made else (Refused 1, ns)).1 ≤ 1024)
-    go true q = at (ltb-true e (length ns) q) made (expression-small (normal ns cs (expressionAt ns e)) ns l)
+    go true q = at (ltb-true e (length ns) q) made (expression-small (normal ns cs (expression_at ns e)) ns l)
     go false q = (omega arith, l)
 
 -- what a call on the group comes to
@@ -173,43 +173,43 @@ module _ (cs : List Class) (l : length cs ≤ 64) (m : total cs ≤ 256) where
       )
       go false q = refused-small 4 (omega arith)
 
-  equal-small : (ns : List Node) (a b : ℕ) → ClassesSmall (addEqual 256 ns a b cs)
-  unfolding addEqual
+  equal-small : (ns : List Node) (a b : ℕ) → ClassesSmall (add_equal 256 ns a b cs)
+  unfolding add_equal
   equal-small ns a b = go (ltb a (length ns) && ltb b (length ns))
     where
-      go : (t : Bool) → ClassesSmall (if t then judged 256 cs (equalCondition ns cs a b) else refused 1 cs)
-      go true = judged-small (equalCondition ns cs a b)
+      go : (t : Bool) → ClassesSmall (if t then judged 256 cs (equal_condition ns cs a b) else refused 1 cs)
+      go true = judged-small (equal_condition ns cs a b)
       go false = refused-small 1 (omega arith)
 
-  constant-small : (e flavour value : ℕ) (ns : List Node) → ClassesSmall (sayConstant e flavour value ns cs)
-  unfolding sayConstant addConstant
+  constant-small : (e flavour value : ℕ) (ns : List Node) → ClassesSmall (say_constant e flavour value ns cs)
+  unfolding say_constant add_constant
   constant-small e flavour value ns = go (sayable flavour value) (ltb e (length ns))
     where
-      go : (t b : Bool) → ClassesSmall (if t then (if b then judged 256 cs (false, withConstant true ns cs e (constantFrom (flavour + 1) value)) else refused 1 cs) else refused 12 cs)
-      go true true = judged-small (false, withConstant true ns cs e (constantFrom (flavour + 1) value))
+      go : (t b : Bool) → ClassesSmall (if t then (if b then judged 256 cs (false, with_constant true ns cs e (constant_from (flavour + 1) value)) else refused 1 cs) else refused 12 cs)
+      go true true = judged-small (false, with_constant true ns cs e (constant_from (flavour + 1) value))
       go true false = refused-small 1 (omega arith)
       go false b = refused-small 12 (omega arith)
 
 -- reduction makes no list longer
 cuts-fewer : {m : ℕ → ℕ → Bool} {os ps : List (List ℕ)} {c : ℕ} → Cuts m os ps c → length ps ≤ length os
 cuts-fewer begun = omega arith
-cuts-fewer (cut {ps} t i j n o b) = omega (arith, cuts-fewer t, length-set ps i (take (length (orderingAt ps i) - (n + 1)) (orderingAt ps i)))
+cuts-fewer (cut {ps} t i j n o b) = omega (arith, cuts-fewer t, length-set ps i (take (length (ordering_at ps i) - (n + 1)) (ordering_at ps i)))
 cuts-fewer (gone {ps} t i j n o b) = omega (arith, cuts-fewer t, length_removed ps i)
 
-ordering-small : (keys : List (ℕ × ℕ)) (ns : List Node) (os : List (List ℕ)) → length os ≤ 32 → ((addOrdering keys ns os).0 < 100) × (length (addOrdering keys ns os).1 ≤ 32)
-unfolding addOrdering fitsList
+ordering-small : (keys : List (ℕ × ℕ)) (ns : List Node) (os : List (List ℕ)) → length os ≤ 32 → ((add_ordering keys ns os).0 < 100) × (length (add_ordering keys ns os).1 ≤ 32)
+unfolding add_ordering fits_list
 ordering-small keys ns os l =
-    go (each (λ k. leb (keyOptions keys k) 3) (length keys)) (each (λ k. ltb (keyExpr keys k) (length ns)) (length keys)) (leb (length more) 32) refl
-    (each (λ i. leb (length (orderingAt more i)) 16) (length more))
+    go (each (λ k. leb (key_options keys k) 3) (length keys)) (each (λ k. ltb (key_expr keys k) (length ns)) (length keys)) (leb (length more) 32) refl
+    (each (λ i. leb (length (ordering_at more i)) 16) (length more))
   where
     more : List (List ℕ)
-    more = os ++ builtAll (map keyNumber keys ∷ [])
+    more = os ++ built_all (map key_number keys ∷ [])
 
     result : Bool → Bool → Bool → ℕ × List (List ℕ)
-    result a b c = if a then (if b then (if c then (0, (reduced sameKey more).orderings) else (5, os)) else (1, os)) else (12, os)
+    result a b c = if a then (if b then (if c then (0, (reduced same_key more).orderings) else (5, os)) else (1, os)) else (12, os)
 
     go : (a b c : Bool) → leb (length more) 32 ≡ c → (d : Bool) → ((result a b (c && d)).0 < 100) × (length (result a b (c && d)).1 ≤ 32)
-    go true true true q true = (omega arith, omega (arith, cuts-fewer (reduced-cuts sameKey more), leb-true (length more) 32 q))
+    go true true true q true = (omega arith, omega (arith, cuts-fewer (reduced-cuts same_key more), leb-true (length more) 32 q))
     go true true true q false = (omega arith, l)
     go true true false q d = (omega arith, l)
     go true false c q d = (omega arith, l)
@@ -218,7 +218,7 @@ ordering-small keys ns os l =
 -- the numbers of a reply
 unfoldable pub Tells : Reply → Type 0
 Tells quiet = Unit {0}
-Tells (normalForm e r) = (e < 1024) × (r < 1024)
+Tells (normal_form e r) = (e < 1024) × (r < 1024)
 Tells (equality a b v) = (a < 1024) × (b < 1024)
 Tells (refusal number) = number < 100
 
@@ -230,21 +230,21 @@ unless-tells n l = go (eqb n 0)
     go true = tt
     go false = l
 
-added-tells : (a : Added) → AddedSmall a → Tells (addedReply a)
-unfolding addedReply Tells AddedSmall
+added-tells : (a : Added) → AddedSmall a → Tells (added_reply a)
+unfolding added_reply Tells AddedSmall
 added-tells (Number i) h = tt
 added-tells (Refused k) h = omega arith
 
-normal-tells : (e : ℕ) (a : Added) → NormalSmall e a → Tells (normalReply e a)
-unfolding normalReply Tells NormalSmall
+normal-tells : (e : ℕ) (a : Added) → NormalSmall e a → Tells (normal_reply e a)
+unfolding normal_reply Tells NormalSmall
 normal-tells e (Number i) h = h
 normal-tells e (Refused k) h = omega arith
 
-equality-tells : (a b : ℕ) (ns : List Node) (cs : List Class) → length ns ≤ 1024 → Tells (equalityReply a b (equalAnswer a b ns cs))
-unfolding equalAnswer equalityReply Tells
-equality-tells a b ns cs l = go (ltb a (length ns)) refl (ltb b (length ns)) refl (exprsEqual ns cs a b)
+equality-tells : (a b : ℕ) (ns : List Node) (cs : List Class) → length ns ≤ 1024 → Tells (equality_reply a b (equal_answer a b ns cs))
+unfolding equal_answer equality_reply Tells
+equality-tells a b ns cs l = go (ltb a (length ns)) refl (ltb b (length ns)) refl (exprs_equal ns cs a b)
   where
-    go : (p : Bool) → ltb a (length ns) ≡ p → (q : Bool) → ltb b (length ns) ≡ q → (t : Bool) → Tells (equalityReply a b (if p && q then (if t then Yes else No) else Answer-Refused 1))
+    go : (p : Bool) → ltb a (length ns) ≡ p → (q : Bool) → ltb b (length ns) ≡ q → (t : Bool) → Tells (equality_reply a b (if p && q then (if t then Yes else No) else Answer-Refused 1))
     go true e true f true = let x = ltb-true a (length ns) e in let y = ltb-true b (length ns) f in (omega arith, omega arith)
     go true e true f false = let x = ltb-true a (length ns) e in let y = ltb-true b (length ns) f in (omega arith, omega arith)
     go true e false f t = omega arith
@@ -255,37 +255,37 @@ pub record Answered (o : Reply × State) : Type 0 where
   pub tells : Tells o.0
   pub small : Small o.1
 
-nodes-answered : (s : State) (reply : Added → Reply) (o : Added × List Node) → Small s → Tells (reply o.0) → length o.1 ≤ 1024 → Answered (onNodes s reply o)
-unfolding onNodes with_nodes
+nodes-answered : (s : State) (reply : Added → Reply) (o : Added × List Node) → Small s → Tells (reply o.0) → length o.1 ≤ 1024 → Answered (on_nodes s reply o)
+unfolding on_nodes with_nodes
 nodes-answered s reply o h t l = record { tells = t; small = record { nodes = l; classes = h.classes; members = h.members; orderings = h.orderings } }
 
-classes-answered : (s : State) (o : Outcome) → Small s → ClassesSmall o → Answered (onClasses s o)
-unfolding onClasses withClasses ClassesSmall
+classes-answered : (s : State) (o : Outcome) → Small s → ClassesSmall o → Answered (on_classes s o)
+unfolding on_classes with_classes ClassesSmall
 classes-answered s o h c = record { tells = unless-tells o.number c.0; small = record { nodes = h.nodes; classes = c.1.0; members = c.1.1; orderings = h.orderings } }
 
 pub step-answered : (x : Record) (s : State) → Small s → Answered (step x s)
-unfolding step withOrderings
-step-answered (columnRecord name index) s h =
-    let a = column-small name index s.nodes h.nodes in nodes-answered s addedReply (addColumn name index s.nodes) h (added-tells (addColumn name index s.nodes).0 a.0) a.1
-step-answered (literalRecord value) s h =
-    let a = literal-small value s.nodes h.nodes in nodes-answered s addedReply (addLiteral value s.nodes) h (added-tells (addLiteral value s.nodes).0 a.0) a.1
-step-answered (operationRecord label children) s h =
+unfolding step with_orderings
+step-answered (column_record name index) s h =
+    let a = column-small name index s.nodes h.nodes in nodes-answered s added_reply (add_column name index s.nodes) h (added-tells (add_column name index s.nodes).0 a.0) a.1
+step-answered (literal_record value) s h =
+    let a = literal-small value s.nodes h.nodes in nodes-answered s added_reply (add_literal value s.nodes) h (added-tells (add_literal value s.nodes).0 a.0) a.1
+step-answered (operation_record label children) s h =
     let a = operation-small label children s.nodes h.nodes in
-    nodes-answered s addedReply (addOperation label children s.nodes) h (added-tells (addOperation label children s.nodes).0 a.0) a.1
-step-answered (equalPair a b) s h = classes-answered s (addEqual 256 s.nodes a b s.classes) h (equal-small s.classes h.classes h.members s.nodes a b)
+    nodes-answered s added_reply (add_operation label children s.nodes) h (added-tells (add_operation label children s.nodes).0 a.0) a.1
+step-answered (equal_pair a b) s h = classes-answered s (add_equal 256 s.nodes a b s.classes) h (equal-small s.classes h.classes h.members s.nodes a b)
 step-answered (constant e flavour value) s h =
-    classes-answered s (sayConstant e flavour value s.nodes s.classes) h (constant-small s.classes h.classes h.members e flavour value s.nodes)
-step-answered (normalFormOf e) s h =
+    classes-answered s (say_constant e flavour value s.nodes s.classes) h (constant-small s.classes h.classes h.members e flavour value s.nodes)
+step-answered (normal_form_of e) s h =
     let a = normal-small e s.nodes s.classes h.nodes in
-    nodes-answered s (normalReply e) (normalizeExpr e s.nodes s.classes) h (normal-tells e (normalizeExpr e s.nodes s.classes).0 a.0) a.1
-step-answered (equalityOf a b) s h = record { tells = equality-tells a b s.nodes s.classes h.nodes; small = h }
-step-answered (oneOrdering keys) s h =
+    nodes-answered s (normal_reply e) (normalize_expr e s.nodes s.classes) h (normal-tells e (normalize_expr e s.nodes s.classes).0 a.0) a.1
+step-answered (equality_of a b) s h = record { tells = equality-tells a b s.nodes s.classes h.nodes; small = h }
+step-answered (one_ordering keys) s h =
     let o = ordering-small keys s.nodes s.orderings h.orderings in
     record {
-      tells = unless-tells (addOrdering keys s.nodes s.orderings).0 o.0;
+      tells = unless-tells (add_ordering keys s.nodes s.orderings).0 o.0;
       small = record { nodes = h.nodes; classes = h.classes; members = h.members; orderings = o.1 };
     }
 
 -- the answer to the question for a normal form is one, or a refusal below 10
-pub normal-answered : (e : ℕ) (s : State) → Small s → NormalSmall e (normalizeExpr e s.nodes s.classes).0
+pub normal-answered : (e : ℕ) (s : State) → Small s → NormalSmall e (normalize_expr e s.nodes s.classes).0
 normal-answered e s h = (normal-small e s.nodes s.classes h.nodes).0

@@ -15,17 +15,17 @@ use Rattle.classes.specs.Class.{Class}
 use Rattle.classes.specs.Group.{total}
 use Rattle.classes.specs.Good.{Good}
 use Rattle.classes.specs.Steps.{refused, fits}
-use Rattle.conditions.specs.Steps.{addEqual, addConstant}
-use Rattle.classes.specs.Layout.{encode, decode, constantFrom}
+use Rattle.conditions.specs.Steps.{add_equal, add_constant}
+use Rattle.classes.specs.Layout.{encode, decode, constant_from}
 use Rattle.conditions.specs.Calls.{sayable}
 use Rattle.classes.specs.Inner.{Held}
 use Rattle.classes.specs.declared.Group.{Group}
-use Rattle.demands.proofs.Answers.{addEqual-holds, addConstant-holds}
+use Rattle.demands.proofs.Answers.{add_equal-holds, add_constant-holds}
 use Rattle.classes.proofs.Codec.{decode-encode, coded-encode}
-use Rattle.demands.proofs.GoodKept.{addEqual-good, addConstant-good}
+use Rattle.demands.proofs.GoodKept.{add_equal-good, add_constant-good}
 use Rattle.group_checks.proofs.HeldLaws.{Fit}
 use Rattle.normal.proofs.NormalValue.{good-extended}
-use Rattle.session_steps.specs.State.{sayConstant}
+use Rattle.session_steps.specs.State.{say_constant}
 
 -- a group that is held over an arena is held over every arena that extends it
 pub held-extended : {ns ms : List Node} (g : Group) → Extends ns ms → Held ns g → Held ms g
@@ -72,18 +72,18 @@ within l cs q =
     (leb-true (total cs) l (and_left (leb (total cs) l) (leb (length cs) 64) q), leb-true (length cs) 64 (and_right (leb (total cs) l) (leb (length cs) 64) q))
 
 -- an equal condition
-pub equal-fit : (ns : List Node) (l a b : ℕ) (cs : List Class) → Fit ns l cs → Fit ns l (addEqual l ns a b cs).classes
+pub equal-fit : (ns : List Node) (l a b : ℕ) (cs : List Class) → Fit ns l cs → Fit ns l (add_equal l ns a b cs).classes
 equal-fit ns l a b cs f =
-    let w = addEqual-holds (Within l) l cs (f.within, f.few) ns a b (λ la lb q. within l _ q) in
-    record { low = f.low; high = f.high; few = w.1; within = w.0; good = addEqual-good l ns a b cs f.good }
+    let w = add_equal-holds (Within l) l cs (f.within, f.few) ns a b (λ la lb q. within l _ q) in
+    record { low = f.low; high = f.high; few = w.1; within = w.0; good = add_equal-good l ns a b cs f.good }
 
 -- a constant
-pub constant-fit : (ns : List Node) (e flavour value : ℕ) (cs : List Class) → Fit ns 256 cs → Fit ns 256 (sayConstant e flavour value ns cs).classes
-unfolding sayConstant refused
+pub constant-fit : (ns : List Node) (e flavour value : ℕ) (cs : List Class) → Fit ns 256 cs → Fit ns 256 (say_constant e flavour value ns cs).classes
+unfolding say_constant refused
 constant-fit ns e flavour value cs f = go (sayable flavour value)
   where
-    go : (b : Bool) → Fit ns 256 (if b then addConstant true 256 ns e (constantFrom (flavour + 1) value) cs else refused 12 cs).classes
+    go : (b : Bool) → Fit ns 256 (if b then add_constant true 256 ns e (constant_from (flavour + 1) value) cs else refused 12 cs).classes
     go true =
-        let w = addConstant-holds (Within 256) 256 cs (f.within, f.few) true ns e (constantFrom (flavour + 1) value) (λ l q. within 256 _ q) in
-        record { low = f.low; high = f.high; few = w.1; within = w.0; good = addConstant-good true 256 ns e (constantFrom (flavour + 1) value) cs f.good }
+        let w = add_constant-holds (Within 256) 256 cs (f.within, f.few) true ns e (constant_from (flavour + 1) value) (λ l q. within 256 _ q) in
+        record { low = f.low; high = f.high; few = w.1; within = w.0; good = add_constant-good true 256 ns e (constant_from (flavour + 1) value) cs f.good }
     go false = f

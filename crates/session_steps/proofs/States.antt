@@ -8,32 +8,32 @@ use lib.Dec.{ltb, leb}
 use lib.ListN.{length, get_or}
 use Rattle.laws.specs.Tests.{if◌then◌else◌, each}
 use Rattle.arena.specs.Node.{Node, operation}
-use Rattle.arena.specs.Expression.{expressionAt}
-use Rattle.arena.specs.Arena.{Sound, Placed, placed, full, add, addExpression}
-use Rattle.arena.specs.Calls.{answered, addColumn, addLiteral, addOperation, addedNumber}
+use Rattle.arena.specs.Expression.{expression_at}
+use Rattle.arena.specs.Arena.{Sound, Placed, placed, full, add, add_expression}
+use Rattle.arena.specs.Calls.{answered, add_column, add_literal, add_operation, added_number}
 use Rattle.arena.specs.declared.Added.{Added}
 use Rattle.arena.specs.declared.Added.TheVariants.{Number, Refused}
 use Rattle.classes.specs.Class.{Constant, Class}
 use Rattle.classes.specs.Group.{total}
 use Rattle.classes.specs.Good.{Good}
 use Rattle.classes.specs.Steps.{Outcome as GroupOutcome, refused}
-use Rattle.conditions.specs.Steps.{addEqual, addConstant}
-use Rattle.classes.specs.Layout.{constantFrom}
+use Rattle.conditions.specs.Steps.{add_equal, add_constant}
+use Rattle.classes.specs.Layout.{constant_from}
 use Rattle.conditions.specs.Calls.{sayable}
-use Rattle.demands.proofs.Answers.{addEqual-keeps, addConstant-keeps}
+use Rattle.demands.proofs.Answers.{add_equal-keeps, add_constant-keeps}
 use Rattle.demands.proofs.GoodKept.{empty-good}
 use Rattle.group_checks.proofs.HeldLaws.{Fit}
 use Rattle.normal.specs.Normal.{normal}
-use Rattle.normal.specs.Calls.{normalizeExpr}
+use Rattle.normal.specs.Calls.{normalize_expr}
 use Rattle.normal.proofs.NormalKept.{Kept, form-kept}
 use Rattle.normal.proofs.NormalValue.{good-extended}
-use Rattle.orderings.specs.Ordering.{sameKey}
-use Rattle.orderings.specs.Lists.{builtAll}
+use Rattle.orderings.specs.Ordering.{same_key}
+use Rattle.orderings.specs.Lists.{built_all}
 use Rattle.reduction.specs.Reduction.{reduced}
 use Rattle.orderings.specs.Good.{Good as GoodList}
-use Rattle.orderings.specs.Calls.{fits as listFits}
-use Rattle.records.specs.Record.{Record, column, literal, operation as operationRecord, equalPair, constant, normalFormOf, equalityOf, oneOrdering, WellFormed}
-use Rattle.session_steps.specs.State.{State, start, Reply, quiet, normalForm, equality, refusal, unless, addedReply, normalReply, with_nodes, withClasses, withOrderings, onNodes, onClasses, sayConstant, keyExpr, keyOptions, keyNumber, addOrdering, step, after}
+use Rattle.orderings.specs.Calls.{fits as list_fits}
+use Rattle.records.specs.Record.{Record, column, literal, operation as operation_record, equal_pair, constant, normal_form_of, equality_of, one_ordering, WellFormed}
+use Rattle.session_steps.specs.State.{State, start, Reply, quiet, normal_form, equality, refusal, unless, added_reply, normal_reply, with_nodes, with_classes, with_orderings, on_nodes, on_classes, say_constant, key_expr, key_options, key_number, add_ordering, step, after}
 use Rattle.session_steps.proofs.NodesKept.{column-kept, literal-kept, operation-kept}
 use Rattle.session_steps.proofs.ClassesKept.{equal-fit, constant-fit}
 use Rattle.session_steps.proofs.OrderingsKept.{ordering-good}
@@ -60,8 +60,8 @@ start-good =
 
 module _ (s : State) (g : GoodState s) where
   -- a call on the arena
-  nodes-good : (reply : Added → Reply) (o : Added × List Node) → Kept addedNumber s.nodes o → GoodState (onNodes s reply o).1
-  unfolding onNodes with_nodes
+  nodes-good : (reply : Added → Reply) (o : Added × List Node) → Kept added_number s.nodes o → GoodState (on_nodes s reply o).1
+  unfolding on_nodes with_nodes
   nodes-good reply o k =
       record {
         arena = k.sound;
@@ -76,27 +76,27 @@ module _ (s : State) (g : GoodState s) where
   group-fit = record { low = omega arith; high = omega arith; few = g.classes-few; within = g.members; good = g.group }
 
   -- a call on the group
-  classes-good : (o : GroupOutcome) → Fit s.nodes 256 o.classes → GoodState (onClasses s o).1
-  unfolding onClasses withClasses
+  classes-good : (o : GroupOutcome) → Fit s.nodes 256 o.classes → GoodState (on_classes s o).1
+  unfolding on_classes with_classes
   classes-good o f = record { arena = g.arena; group = f.good; members = f.within; classes-few = f.few; list = g.list }
 
   -- a call on the orderings
-  orderings-good : (os : List (List ℕ)) → GoodList os → GoodState (withOrderings s os)
-  unfolding withOrderings
+  orderings-good : (os : List (List ℕ)) → GoodList os → GoodState (with_orderings s os)
+  unfolding with_orderings
   orderings-good os l = record { arena = g.arena; group = g.group; members = g.members; classes-few = g.classes-few; list = l }
 
 -- every record leaves a good state good
 pub step-good : (x : Record) (s : State) → WellFormed x → GoodState s → GoodState (step x s).1
 unfolding step WellFormed
-step-good (column name index) s w g = nodes-good s g addedReply (addColumn name index s.nodes) (column-kept name index s.nodes g.arena w.1)
-step-good (literal value) s w g = nodes-good s g addedReply (addLiteral value s.nodes) (literal-kept value s.nodes g.arena)
-step-good (operationRecord label children) s w g = nodes-good s g addedReply (addOperation label children s.nodes) (operation-kept label children s.nodes g.arena)
-step-good (equalPair a b) s w g = classes-good s g (addEqual 256 s.nodes a b s.classes) (equal-fit s.nodes 256 a b s.classes (group-fit s g))
+step-good (column name index) s w g = nodes-good s g added_reply (add_column name index s.nodes) (column-kept name index s.nodes g.arena w.1)
+step-good (literal value) s w g = nodes-good s g added_reply (add_literal value s.nodes) (literal-kept value s.nodes g.arena)
+step-good (operation_record label children) s w g = nodes-good s g added_reply (add_operation label children s.nodes) (operation-kept label children s.nodes g.arena)
+step-good (equal_pair a b) s w g = classes-good s g (add_equal 256 s.nodes a b s.classes) (equal-fit s.nodes 256 a b s.classes (group-fit s g))
 step-good (constant e flavour value) s w g =
-    classes-good s g (sayConstant e flavour value s.nodes s.classes) (constant-fit s.nodes e flavour value s.classes (group-fit s g))
-step-good (normalFormOf e) s w g = nodes-good s g (normalReply e) (normalizeExpr e s.nodes s.classes) (form-kept e s.nodes s.classes g.arena g.group)
-step-good (equalityOf a b) s w g = g
-step-good (oneOrdering keys) s w g = orderings-good s g (addOrdering keys s.nodes s.orderings).1 (ordering-good keys s.nodes s.orderings g.list)
+    classes-good s g (say_constant e flavour value s.nodes s.classes) (constant-fit s.nodes e flavour value s.classes (group-fit s g))
+step-good (normal_form_of e) s w g = nodes-good s g (normal_reply e) (normalize_expr e s.nodes s.classes) (form-kept e s.nodes s.classes g.arena g.group)
+step-good (equality_of a b) s w g = g
+step-good (one_ordering keys) s w g = orderings-good s g (add_ordering keys s.nodes s.orderings).1 (ordering-good keys s.nodes s.orderings g.list)
 
 -- so do all records of a session
 pub after-good : (s : State) (xs : List Record) → ((k : ℕ) → k < length xs → WellFormed (get_or xs k (literal 0))) → GoodState s → GoodState (after s xs)
@@ -107,7 +107,7 @@ after-good s (x ∷ xs) w g = after-good (step x s).1 xs (λ k l. w (suc k) (ome
 -- a reply that is a refusal
 abbrev refusing : Reply → ℕ
 refusing quiet = 0
-refusing (normalForm e r) = 0
+refusing (normal_form e r) = 0
 refusing (equality a b v) = 0
 refusing (refusal n) = 1
 
@@ -124,8 +124,8 @@ unfolding answered
 answered-leaves ns (placed i ms) k q = let z : ◌≡◌ {A = ℕ} 0 1 = ap is_refused q in absurd (omega arith)
 answered-leaves ns full k q = refl
 
-operation-leaves : (label : ℕ) (children : List ℕ) (ns : List Node) → Leaves ns (addOperation label children ns)
-unfolding addOperation
+operation-leaves : (label : ℕ) (children : List ℕ) (ns : List Node) → Leaves ns (add_operation label children ns)
+unfolding add_operation
 operation-leaves label children ns = go (each (λ k. ltb (get_or children k 0) (length ns)) (length children)) (leb (length children) 8)
   where
     out : Bool → Bool → Added × List Node
@@ -136,22 +136,22 @@ operation-leaves label children ns = go (each (λ k. ltb (get_or children k 0) (
     go true false = λ k q. refl
     go false b = λ k q. refl
 
-normal-leaves : (e : ℕ) (ns : List Node) (cs : List Class) → Leaves ns (normalizeExpr e ns cs)
-unfolding normalizeExpr
+normal-leaves : (e : ℕ) (ns : List Node) (cs : List Class) → Leaves ns (normalize_expr e ns cs)
+unfolding normalize_expr
 normal-leaves e ns cs = go (ltb e (length ns))
   where
     out : Bool → Added × List Node
-    out a = if a then answered ns (addExpression (normal ns cs (expressionAt ns e)) ns) else (Refused 1, ns)
+    out a = if a then answered ns (add_expression (normal ns cs (expression_at ns e)) ns) else (Refused 1, ns)
 
     go : (a : Bool) → Leaves ns (out a)
-    go true = answered-leaves ns (addExpression (normal ns cs (expressionAt ns e)) ns)
+    go true = answered-leaves ns (add_expression (normal ns cs (expression_at ns e)) ns)
     go false = λ k q. refl
 
 -- a refusal of such a call leaves the state
-nodes-leave : (s : State) (reply : Added → Reply) (o : Added × List Node) → Leaves s.nodes o → ((i : ℕ) → refusing (reply (Number i)) ≡ 0)
-    → (n : ℕ) → (onNodes s reply o).0 ≡ refusal n → (onNodes s reply o).1 ≡ s
-unfolding onNodes with_nodes
-nodes-leave s reply o l h n q = ap (λ (ns : List Node). with_nodes s ns) (go o.0 refl)
+nodes_leave : (s : State) (reply : Added → Reply) (o : Added × List Node) → Leaves s.nodes o → ((i : ℕ) → refusing (reply (Number i)) ≡ 0)
+    → (n : ℕ) → (on_nodes s reply o).0 ≡ refusal n → (on_nodes s reply o).1 ≡ s
+unfolding on_nodes with_nodes
+nodes_leave s reply o l h n q = ap (λ (ns : List Node). with_nodes s ns) (go o.0 refl)
   where
     go : (a : Added) → o.0 ≡ a → o.1 ≡ s.nodes
     go (Number i) e = let z : ◌≡◌ {A = ℕ} (refusing (reply o.0)) 1 = ap refusing q in let w : refusing (reply o.0) ≡ refusing (reply (Number i)) = ap (λ (a : Added). refusing (reply a)) e in absurd (omega (arith, h i))
@@ -166,32 +166,32 @@ told-not-zero number n q z = let w : ◌≡◌ {A = ℕ} 0 1 = ap refusing (rw z
 abbrev Keeps : List Class → GroupOutcome → Type 0
 Keeps cs o = (o.number ≡ 0 → ⊥) → o.classes ≡ cs
 
-constant-keeps : (e flavour value : ℕ) (ns : List Node) (cs : List Class) → Keeps cs (sayConstant e flavour value ns cs)
-unfolding sayConstant refused
+constant-keeps : (e flavour value : ℕ) (ns : List Node) (cs : List Class) → Keeps cs (say_constant e flavour value ns cs)
+unfolding say_constant refused
 constant-keeps e flavour value ns cs = go (sayable flavour value)
   where
     said : Constant
-    said = constantFrom (flavour + 1) value
+    said = constant_from (flavour + 1) value
 
-    go : (b : Bool) → Keeps cs (if b then addConstant true 256 ns e said cs else refused 12 cs)
-    go true = addConstant-keeps true 256 ns e said cs
+    go : (b : Bool) → Keeps cs (if b then add_constant true 256 ns e said cs else refused 12 cs)
+    go true = add_constant-keeps true 256 ns e said cs
     go false = λ h. refl
 
-classes-leave : (s : State) (o : GroupOutcome) → Keeps s.classes o → (n : ℕ) → (onClasses s o).0 ≡ refusal n → (onClasses s o).1 ≡ s
-unfolding onClasses withClasses
-classes-leave s o k n q = ap (λ (cs : List Class). withClasses s cs) (k (told-not-zero o.number n q))
+classes_leave : (s : State) (o : GroupOutcome) → Keeps s.classes o → (n : ℕ) → (on_classes s o).0 ≡ refusal n → (on_classes s o).1 ≡ s
+unfolding on_classes with_classes
+classes_leave s o k n q = ap (λ (cs : List Class). with_classes s cs) (k (told-not-zero o.number n q))
 
 -- an ordering that is refused leaves the list
-ordering-keeps : (keys : List (ℕ × ℕ)) (ns : List Node) (os : List (List ℕ)) → ((addOrdering keys ns os).0 ≡ 0 → ⊥) → (addOrdering keys ns os).1 ≡ os
-unfolding addOrdering
+ordering-keeps : (keys : List (ℕ × ℕ)) (ns : List Node) (os : List (List ℕ)) → ((add_ordering keys ns os).0 ≡ 0 → ⊥) → (add_ordering keys ns os).1 ≡ os
+unfolding add_ordering
 ordering-keeps keys ns os =
-    go (each (λ k. leb (keyOptions keys k) 3) (length keys)) (each (λ k. ltb (keyExpr keys k) (length ns)) (length keys)) (listFits more)
+    go (each (λ k. leb (key_options keys k) 3) (length keys)) (each (λ k. ltb (key_expr keys k) (length ns)) (length keys)) (list_fits more)
   where
     more : List (List ℕ)
-    more = os ++ builtAll (map keyNumber keys ∷ [])
+    more = os ++ built_all (map key_number keys ∷ [])
 
     out : Bool → Bool → Bool → ℕ × List (List ℕ)
-    out a b c = if a then (if b then (if c then (0, (reduced sameKey more).orderings) else (5, os)) else (1, os)) else (12, os)
+    out a b c = if a then (if b then (if c then (0, (reduced same_key more).orderings) else (5, os)) else (1, os)) else (12, os)
 
     go : (a b c : Bool) → ((out a b c).0 ≡ 0 → ⊥) → (out a b c).1 ≡ os
     go true true true = λ h. absurd (h refl)
@@ -201,16 +201,16 @@ ordering-keeps keys ns os =
 
 -- a record that is refused leaves the state as it was, whatever the state and the record
 pub refused-leaves : (x : Record) (s : State) (n : ℕ) → (step x s).0 ≡ refusal n → (step x s).1 ≡ s
-unfolding step addColumn addLiteral addedReply normalReply withOrderings
-refused-leaves (column name index) s n q = nodes-leave s addedReply (addColumn name index s.nodes) (answered-leaves s.nodes _) (λ i. refl) n q
-refused-leaves (literal value) s n q = nodes-leave s addedReply (addLiteral value s.nodes) (answered-leaves s.nodes _) (λ i. refl) n q
-refused-leaves (operationRecord label children) s n q =
-    nodes-leave s addedReply (addOperation label children s.nodes) (operation-leaves label children s.nodes) (λ i. refl) n q
-refused-leaves (equalPair a b) s n q = classes-leave s (addEqual 256 s.nodes a b s.classes) (addEqual-keeps 256 s.nodes a b s.classes) n q
+unfolding step add_column add_literal added_reply normal_reply with_orderings
+refused-leaves (column name index) s n q = nodes_leave s added_reply (add_column name index s.nodes) (answered-leaves s.nodes _) (λ i. refl) n q
+refused-leaves (literal value) s n q = nodes_leave s added_reply (add_literal value s.nodes) (answered-leaves s.nodes _) (λ i. refl) n q
+refused-leaves (operation_record label children) s n q =
+    nodes_leave s added_reply (add_operation label children s.nodes) (operation-leaves label children s.nodes) (λ i. refl) n q
+refused-leaves (equal_pair a b) s n q = classes_leave s (add_equal 256 s.nodes a b s.classes) (add_equal-keeps 256 s.nodes a b s.classes) n q
 refused-leaves (constant e flavour value) s n q =
-    classes-leave s (sayConstant e flavour value s.nodes s.classes) (constant-keeps e flavour value s.nodes s.classes) n q
-refused-leaves (normalFormOf e) s n q =
-    nodes-leave s (normalReply e) (normalizeExpr e s.nodes s.classes) (normal-leaves e s.nodes s.classes) (λ i. refl) n q
-refused-leaves (equalityOf a b) s n q = refl
-refused-leaves (oneOrdering keys) s n q =
-    ap (λ (os : List (List ℕ)). withOrderings s os) (ordering-keeps keys s.nodes s.orderings (told-not-zero (addOrdering keys s.nodes s.orderings).0 n q))
+    classes_leave s (say_constant e flavour value s.nodes s.classes) (constant-keeps e flavour value s.nodes s.classes) n q
+refused-leaves (normal_form_of e) s n q =
+    nodes_leave s (normal_reply e) (normalize_expr e s.nodes s.classes) (normal-leaves e s.nodes s.classes) (λ i. refl) n q
+refused-leaves (equality_of a b) s n q = refl
+refused-leaves (one_ordering keys) s n q =
+    ap (λ (os : List (List ℕ)). with_orderings s os) (ordering-keeps keys s.nodes s.orderings (told-not-zero (add_ordering keys s.nodes s.orderings).0 n q))

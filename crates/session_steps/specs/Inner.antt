@@ -1,16 +1,16 @@
 -- What the inner functions ask and promise each other, and what a step promises to the loop over the records.
 use Rattle.std.specs.Prelude.{ℕ, List, [], ◌∷◌, ◌≡◌, length}
 use Rattle.arena.specs.Node.{Node}
-use Rattle.arena.specs.Layout.{decode as nodesIn}
+use Rattle.arena.specs.Layout.{decode as nodes_in}
 use Rattle.arena.specs.declared.Added.{Added}
 use Rattle.arena.specs.Inner.{Holds}
 use Rattle.classes.specs.Layout.{decode}
 use Rattle.classes.specs.Inner.{Held}
-use Rattle.orderings.specs.Layout.{encode as encodeList, decode as orderingsIn}
+use Rattle.orderings.specs.Layout.{encode as encode_list, decode as orderings_in}
 use Rattle.orderings.specs.Inner.{Held as HeldList}
 use Rattle.orderings.specs.declared.Listed.{Listed}
 use Rattle.records.specs.Record.{Record}
-use Rattle.session_steps.specs.State.{State, Reply, quiet, normalForm, equality, refusal, step}
+use Rattle.session_steps.specs.State.{State, Reply, quiet, normal_form, equality, refusal, step}
 use Rattle.session_steps.specs.declared.holding.Stepped.{Stepped}
 use Rattle.session_steps.specs.declared.holding.Holding.{Holding}
 use Rattle.session_steps.specs.declared.holding.Said.{Said}
@@ -19,37 +19,37 @@ use Rattle.session_steps.specs.declared.holding.Said.TheVariants.{Quiet, NormalF
 -- a reply as the enum that the functions hand on
 unfoldable pub said_of : Reply → Said
 said_of quiet = Quiet
-said_of (normalForm e r) = NormalForm e r
+said_of (normal_form e r) = NormalForm e r
 said_of (equality a b v) = Equality a b v
 said_of (refusal number) = Refused number
 
 -- an answer about nodes as what is said of it
-unfoldable pub saidBy : (Added → Reply) → Added × List Node → Said × List Node
-saidBy reply o = (said_of (reply o.0), o.1)
+unfoldable pub said_by : (Added → Reply) → Added × List Node → Said × List Node
+said_by reply o = (said_of (reply o.0), o.1)
 
 -- a number and a list of orderings as the struct that is handed back
 unfoldable pub listed_of : ℕ × List (List ℕ) → Listed
-listed_of o = record { number = o.0; list = encodeList o.1 }
+listed_of o = record { number = o.0; list = encode_list o.1 }
 
 -- expression and options of each key, one after the other
-unfoldable pub pairsOf : List (ℕ × ℕ) → List ℕ
-pairsOf [] = []
-pairsOf (p ∷ ps) = p.0 ∷ p.1 ∷ pairsOf ps
+unfoldable pub pairs_of : List (ℕ × ℕ) → List ℕ
+pairs_of [] = []
+pairs_of (p ∷ ps) = p.0 ∷ p.1 ∷ pairs_of ps
 
 -- keys as a list that is lent: their count first
-unfoldable pub lentKeys : List (ℕ × ℕ) → List ℕ
-lentKeys keys = length keys ∷ pairsOf keys
+unfoldable pub lent_keys : List (ℕ × ℕ) → List ℕ
+lent_keys keys = length keys ∷ pairs_of keys
 
 -- the cells and the struct hold a session's state: each part is checked, and the group's limit is 256
 pub record Fit (cells : List ℕ) (h : Holding) : Type 0 where
   pub arena : Holds cells
-  pub group : Held (nodesIn cells) h.group
+  pub group : Held (nodes_in cells) h.group
   pub limit : h.group.limit ≡ 256
   pub list : HeldList h.list
 
 -- the state that they hold
 unfoldable pub state_of : List ℕ → Holding → State
-state_of cells h = record { nodes = nodesIn cells; classes = decode h.group; orderings = orderingsIn h.list }
+state_of cells h = record { nodes = nodes_in cells; classes = decode h.group; orderings = orderings_in h.list }
 
 -- what a step promises: the answer is the definition's, and so is the state afterwards, which is fit again
 pub record Went (cells : List ℕ) (h : Holding) (x : Record) (cells' : List ℕ) (r : Stepped) : Type 0 where

@@ -1,7 +1,7 @@
 // What a session holds beside its arena, and what a record is answered with.
 ghost use Rattle.std.specs.Prelude.{[], ◌≡◌};
 ghost use Rattle.classes.specs.Layout.{encode};
-ghost use Rattle.orderings.specs.Layout.{encode as encodeList};
+ghost use Rattle.orderings.specs.Layout.{encode as encode_list};
 
 use classes::Group;
 use classes::building::empty;
@@ -33,7 +33,7 @@ pub struct Stepped {
 
 // An empty group of limit 256 and no orderings.
 pub fn opened() -> Holding
-    ensures { result ≡ record { group = encode 256 []; list = encodeList [] } }
+    ensures { result ≡ record { group = encode 256 []; list = encode_list [] } }
 {
     Holding {
         group: empty(256),

@@ -3,20 +3,20 @@ ghost use Rattle.std.specs.Prelude.{◌∷◌, [], ◌≡◌, ℕ, ◌≤◌, �
 ghost use Rattle.std.proofs.Math.Option.{some};
 ghost use Rattle.laws.specs.Tests.{each};
 ghost use Rattle.arena.specs.Layout.{decode as nodes};
-ghost use Rattle.arena.specs.Calls.{inCells, addColumn, addLiteral, addOperation};
+ghost use Rattle.arena.specs.Calls.{in_cells, add_column, add_literal, add_operation};
 ghost use Rattle.arena.specs.Inner.{Holds};
-ghost use Rattle.conditions.specs.Steps.{addEqual};
+ghost use Rattle.conditions.specs.Steps.{add_equal};
 ghost use Rattle.classes.specs.Layout.{decode};
 ghost use Rattle.classes.specs.Calls.{changed};
-ghost use Rattle.questions.specs.Calls.{equalAnswer};
+ghost use Rattle.questions.specs.Calls.{equal_answer};
 ghost use Rattle.classes.specs.Inner.{Held};
-ghost use Rattle.normal.specs.Calls.{normalizeExpr};
-ghost use Rattle.orderings.specs.Layout.{decode as orderingsIn};
+ghost use Rattle.normal.specs.Calls.{normalize_expr};
+ghost use Rattle.orderings.specs.Layout.{decode as orderings_in};
 ghost use Rattle.orderings.specs.Inner.{Held as HeldList};
 ghost use Rattle.records.specs.Fields.{fields};
-ghost use Rattle.records.specs.Record.{Record, readRecord, item_of, keysIn};
-ghost use Rattle.session_steps.specs.State.{addedReply, normalReply, equalityReply, sayConstant, keyExpr, keyOptions, addOrdering, unless};
-ghost use Rattle.session_steps.specs.Inner.{Fit, Went, said_of, saidBy, listed_of, lentKeys};
+ghost use Rattle.records.specs.Record.{Record, read_record, item_of, keys_in};
+ghost use Rattle.session_steps.specs.State.{added_reply, normal_reply, equality_reply, say_constant, key_expr, key_options, add_ordering, unless};
+ghost use Rattle.session_steps.specs.Inner.{Fit, Went, said_of, said_by, listed_of, lent_keys};
 
 use crate::holding::{Holding, Said, Stepped};
 use arena::Added;
@@ -36,7 +36,7 @@ use reduction::lent::add_in;
 
 // An answer about nodes: a number is not told.
 fn said_added(answer: Added) -> Said
-    ensures { result ≡ said_of (addedReply answer) }
+    ensures { result ≡ said_of (added_reply answer) }
 {
     match answer {
         Added::Number(_) => Said::Quiet,
@@ -47,7 +47,7 @@ fn said_added(answer: Added) -> Said
 // Adds a column.
 fn add_column_in(cells: &mut [u32; 11265], name: u16, index: u16) -> Said
     requires { Holds cells.old }
-    ensures { (result, cells.new) ≡ inCells (saidBy addedReply (addColumn name index (nodes cells.old))) }
+    ensures { (result, cells.new) ≡ in_cells (said_by added_reply (add_column name index (nodes cells.old))) }
 {
     let row = column_row(name, index);
     said_added(place(cells, &row))
@@ -56,7 +56,7 @@ fn add_column_in(cells: &mut [u32; 11265], name: u16, index: u16) -> Said
 // Adds a literal.
 fn add_literal_in(cells: &mut [u32; 11265], value: u32) -> Said
     requires { Holds cells.old }
-    ensures { (result, cells.new) ≡ inCells (saidBy addedReply (addLiteral value (nodes cells.old))) }
+    ensures { (result, cells.new) ≡ in_cells (said_by added_reply (add_literal value (nodes cells.old))) }
 {
     let row = literal_row(value);
     said_added(place(cells, &row))
@@ -94,7 +94,7 @@ fn children_of(body: &[u8], n: usize) -> [u32; 8]
 // Adds an operation over the n children in a body: 1 where one is unknown, 2 where there are more than 8.
 fn add_operation_in(cells: &mut [u32; 11265], label: u32, body: &[u8], n: usize) -> Said
     requires { Holds cells.old × (length body.now ≡ 4 + 2 * n) }
-    ensures { (result, cells.new) ≡ inCells (saidBy addedReply (addOperation label (fields body.now 4 n) (nodes cells.old))) }
+    ensures { (result, cells.new) ≡ in_cells (said_by added_reply (add_operation label (fields body.now 4 n) (nodes cells.old))) }
 {
     let count = node_count(cells);
     if !children_below(body, n, count) {
@@ -111,7 +111,7 @@ fn add_operation_in(cells: &mut [u32; 11265], label: u32, body: &[u8], n: usize)
 // An equal condition: 1 where an expression is unknown.
 fn equal_pair_in(cells: &[u32; 11265], g: Group, a: u16, b: u16) -> Changed
     requires { Holds cells.now × Held (nodes cells.now) g }
-    ensures { result ≡ changed g.limit (addEqual g.limit (nodes cells.now) a b (decode g)) }
+    ensures { result ≡ changed g.limit (add_equal g.limit (nodes cells.now) a b (decode g)) }
 {
     let n = node_count(cells);
     if n <= index(a) {
@@ -126,7 +126,7 @@ fn equal_pair_in(cells: &[u32; 11265], g: Group, a: u16, b: u16) -> Changed
 // A constant: 12 where it can't be said, 1 where the expression is unknown.
 fn say_constant_in(cells: &[u32; 11265], g: Group, e: u16, flavour: u16, value: u32) -> Changed
     requires { (Holds cells.now × Held (nodes cells.now) g) × (g.limit ≡ 256) }
-    ensures { result ≡ changed g.limit (sayConstant e flavour value (nodes cells.now) (decode g)) }
+    ensures { result ≡ changed g.limit (say_constant e flavour value (nodes cells.now) (decode g)) }
 {
     if !can_say(flavour as u32, value) {
         return refusal(12, g);
@@ -144,7 +144,7 @@ fn say_constant_in(cells: &[u32; 11265], g: Group, e: u16, flavour: u16, value: 
 
 // The answer of a normal form.
 fn said_normal(e: u32, answer: Added) -> Said
-    ensures { result ≡ said_of (normalReply e answer) }
+    ensures { result ≡ said_of (normal_reply e answer) }
 {
     match answer {
         Added::Number(i) => Said::NormalForm(e, i),
@@ -155,7 +155,7 @@ fn said_normal(e: u32, answer: Added) -> Said
 // The normal form of an expression: 1 where it is unknown.
 fn normal_form_in(cells: &mut [u32; 11265], g: Group, e: u16) -> Said
     requires { Holds cells.old × Held (nodes cells.old) g }
-    ensures { (result, cells.new) ≡ inCells (saidBy (normalReply e) (normalizeExpr e (nodes cells.old) (decode g))) }
+    ensures { (result, cells.new) ≡ in_cells (said_by (normal_reply e) (normalize_expr e (nodes cells.old) (decode g))) }
 {
     let n = node_count(cells);
     if n <= index(e) {
@@ -168,7 +168,7 @@ fn normal_form_in(cells: &mut [u32; 11265], g: Group, e: u16) -> Said
 // The equality question: 1 where an expression is unknown.
 fn equality_in(cells: &[u32; 11265], g: Group, a: u16, b: u16) -> Said
     requires { Holds cells.now × Held (nodes cells.now) g }
-    ensures { result ≡ said_of (equalityReply a b (equalAnswer a b (nodes cells.now) (decode g))) }
+    ensures { result ≡ said_of (equality_reply a b (equal_answer a b (nodes cells.now) (decode g))) }
 {
     let n = node_count(cells);
     if n <= index(a) {
@@ -185,7 +185,7 @@ fn equality_in(cells: &[u32; 11265], g: Group, a: u16, b: u16) -> Said
 // The options of the n keys in a body are 0 to 3.
 fn options_known(body: &[u8], n: usize) -> bool
     requires { length body.now ≡ 4 * n }
-    ensures { result ≡ each (λ k. leb (keyOptions (keysIn body.now) k) 3) n }
+    ensures { result ≡ each (λ k. leb (key_options (keys_in body.now) k) 3) n }
 {
     let mut k = 0;
     while k < n {
@@ -200,7 +200,7 @@ fn options_known(body: &[u8], n: usize) -> bool
 // The expressions of the n keys in a body are below a count.
 fn exprs_below(body: &[u8], n: usize, count: usize) -> bool
     requires { length body.now ≡ 4 * n }
-    ensures { result ≡ each (λ k. ltb (keyExpr (keysIn body.now) k) count) n }
+    ensures { result ≡ each (λ k. ltb (key_expr (keys_in body.now) k) count) n }
 {
     let mut k = 0;
     while k < n {
@@ -215,7 +215,7 @@ fn exprs_below(body: &[u8], n: usize, count: usize) -> bool
 // The n keys in a body as a list of keys that is lent: their count, then expression and options of each.
 fn lent_keys(body: &[u8], n: usize) -> [u16; 33]
     requires { (length body.now ≡ 4 * n) × (n ≤ 16) }
-    ensures { (length result ≡ 33) × (take (1 + 2 * n) result ≡ lentKeys (keysIn body.now)) }
+    ensures { (length result ≡ 33) × (take (1 + 2 * n) result ≡ lent_keys (keys_in body.now)) }
 {
     let mut numbers = [0u16; 33];
     numbers[0] = n as u16;
@@ -231,7 +231,7 @@ fn lent_keys(body: &[u8], n: usize) -> [u16; 33]
 // Adds the ordering of the n keys in a body and reduces: 12, 1, 5.
 fn add_ordering_in(cells: &[u32; 11265], list: Orderings, body: &[u8], n: usize) -> Listed
     requires { (Holds cells.now × HeldList list) × ((length body.now ≡ 4 * n) × (n ≤ 16)) }
-    ensures { result ≡ listed_of (addOrdering (keysIn body.now) (nodes cells.now) (orderingsIn list)) }
+    ensures { result ≡ listed_of (add_ordering (keys_in body.now) (nodes cells.now) (orderings_in list)) }
 {
     if !options_known(body, n) {
         return Listed {
@@ -303,8 +303,8 @@ fn with_list(h: Holding, listed: Listed) -> Stepped
 
 // One record: what is answered, and what is held afterwards.
 pub fn step(cells: &mut [u32; 11265], h: Holding, bytes: &[u8], item: Item) -> Stepped
-    requires { Fit cells.old h × (item ≡ item_of (readRecord bytes.now)) }
-    ensures { (x : Record) → readRecord bytes.now ≡ some x → Went cells.old h x cells.new result }
+    requires { Fit cells.old h × (item ≡ item_of (read_record bytes.now)) }
+    ensures { (x : Record) → read_record bytes.now ≡ some x → Went cells.old h x cells.new result }
 {
     let group = h.group;
     let list = h.list;

@@ -16,20 +16,20 @@ use Rattle.classes.specs.Group.{total}
 use Rattle.classes.specs.Good.{flat, Distinct, Good}
 use Rattle.classes.proofs.Places.{All, length-flat}
 use Rattle.merging.specs.Inner.{Fair, AllBelow}
-use Rattle.merging.proofs.Reaching.{Sane, sane-fair, sane-from, members-from, distinct-take, distinct-drop, below-take, below-drop, all_append, good-sane, flat-below}
-use Rattle.shifted_classes.specs.Shifting.{allMove, shiftedNumbers, shiftedClasses}
+use Rattle.merging.proofs.Reaching.{Sane, sane_fair, sane_from, members-from, distinct-take, distinct-drop, below-take, below-drop, all_append, good_sane, flat-below}
+use Rattle.shifted_classes.specs.Shifting.{all_move, shifted_numbers, shifted_classes}
 use Rattle.shifted_classes.proofs.ShiftOnce.{lifted-injective, stand-kept, ShiftedTo, numbers-shifted, stand-apart}
 
 -- classes built from numbers of the arena are such as a fair list has
-pub sane-shifted : (os : List Node) (rs : List Class) (ks : List ℕ) → AllBelow (length os) ks → All (Sane os) (shiftedClasses os rs ks)
-unfolding shiftedClasses
-sane-shifted os [] ks b i l = absurd (omega arith)
-sane-shifted os (c ∷ cs) ks b zero l = sane-from os (take (length c.members) ks) (below-take (length os) (length c.members) ks b)
-sane-shifted os (c ∷ cs) ks b (suc i) l = sane-shifted os cs (drop (length c.members) ks) (below-drop (length os) (length c.members) ks b) i (omega arith)
+pub sane_shifted : (os : List Node) (rs : List Class) (ks : List ℕ) → AllBelow (length os) ks → All (Sane os) (shifted_classes os rs ks)
+unfolding shifted_classes
+sane_shifted os [] ks b i l = absurd (omega arith)
+sane_shifted os (c ∷ cs) ks b zero l = sane_from os (take (length c.members) ks) (below-take (length os) (length c.members) ks b)
+sane_shifted os (c ∷ cs) ks b (suc i) l = sane_shifted os cs (drop (length c.members) ks) (below-drop (length os) (length c.members) ks b) i (omega arith)
 
 -- classes built from different numbers have as many members as before
-pub total-shifted : (os : List Node) (rs : List Class) (ks : List ℕ) → total rs ≤ length ks → Distinct ks → total (shiftedClasses os rs ks) ≡ total rs
-unfolding shiftedClasses total
+pub total-shifted : (os : List Node) (rs : List Class) (ks : List ℕ) → total rs ≤ length ks → Distinct ks → total (shifted_classes os rs ks) ≡ total rs
+unfolding shifted_classes total
 total-shifted os [] ks l d = refl
 total-shifted os (c ∷ cs) ks l d =
     let n = length c.members in
@@ -42,22 +42,22 @@ total-shifted os (c ∷ cs) ks l d =
 
 module _ (lift : ℕ) (ns ms : List Node) (sound : Sound ns) where
   -- the numbers of what was shifted stand for it
-  pub lifted-to : (es ks : List ℕ) → AllBelow (length ns) es → allMove (lifted lift) ns es ≡ true → shiftedNumbers (lifted lift) ns es ns ≡ placed ks ms → ShiftedTo (lifted lift) ns es ns ks ms
+  pub lifted-to : (es ks : List ℕ) → AllBelow (length ns) es → all_move (lifted lift) ns es ≡ true → shifted_numbers (lifted lift) ns es ns ≡ placed ks ms → ShiftedTo (lifted lift) ns es ns ks ms
   lifted-to es ks b m e = numbers-shifted (lifted lift) (lifted-within lift) ns sound es b m ns sound ks ms e
 
 -- shifting is injective, so the shifted classes have as many members as the classes
-pub shifted-total : (lift : ℕ) (ns ms os : List Node) (rs : List Class) (ks : List ℕ) → Sound ns → Good ns rs → allMove (lifted lift) ns (flat rs) ≡ true
-    → shiftedNumbers (lifted lift) ns (flat rs) ns ≡ placed ks ms → total (shiftedClasses os rs ks) ≡ total rs
+pub shifted-total : (lift : ℕ) (ns ms os : List Node) (rs : List Class) (ks : List ℕ) → Sound ns → Good ns rs → all_move (lifted lift) ns (flat rs) ≡ true
+    → shifted_numbers (lifted lift) ns (flat rs) ns ≡ placed ks ms → total (shifted_classes os rs ks) ≡ total rs
 shifted-total lift ns ms os rs ks s g m e =
     let t = (lifted-to lift ns ms s (flat rs) ks (flat-below ns rs g) m e).stand in
     total-shifted os rs ks (omega (arith, t.counted, length-flat rs))
     (stand-apart (lifted lift) (lifted-within lift) ns s (lifted-injective lift) (flat rs) (flat-below ns rs g) m g.distinct ms ks t)
 
 -- the left classes and the shifted right ones are a fair list
-pub list-fair : (lift : ℕ) (ns ms os : List Node) (rs : List Class) (ks : List ℕ) → Sound ns → Good ns rs → allMove (lifted lift) ns (flat rs) ≡ true
-    → shiftedNumbers (lifted lift) ns (flat rs) ns ≡ placed ks ms → Extends ms os → (ls : List Class) → Good ns ls → Fair os (ls ++ shiftedClasses os rs ks)
-list-fair lift ns ms os rs ks s g m e x ls h =
+pub list_fair : (lift : ℕ) (ns ms os : List Node) (rs : List Class) (ks : List ℕ) → Sound ns → Good ns rs → all_move (lifted lift) ns (flat rs) ≡ true
+    → shifted_numbers (lifted lift) ns (flat rs) ns ≡ placed ks ms → Extends ms os → (ls : List Class) → Good ns ls → Fair os (ls ++ shifted_classes os rs ks)
+list_fair lift ns ms os rs ks s g m e x ls h =
     let t = lifted-to lift ns ms s (flat rs) ks (flat-below ns rs g) m e in
-    sane-fair os (ls ++ shiftedClasses os rs ks)
-    (all_append (Sane os) ls (shiftedClasses os rs ks) (good-sane ns os ls (extends-both t.extends x) h)
-    (sane-shifted os rs ks (stand-kept (lifted lift) ns (flat rs) ks x t.stand).below))
+    sane_fair os (ls ++ shifted_classes os rs ks)
+    (all_append (Sane os) ls (shifted_classes os rs ks) (good_sane ns os ls (extends-both t.extends x) h)
+    (sane_shifted os rs ks (stand-kept (lifted lift) ns (flat rs) ks x t.stand).below))

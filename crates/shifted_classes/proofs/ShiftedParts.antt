@@ -8,21 +8,21 @@ use lib.ListN.{length, get_or, take, drop, length-append, length-take, length-dr
 use lib.Seq.{take-suc, take_all, take-append_seam, take-append-le, drop-append-le, drop-drop, take-take, length-take-le, get_or-take, get_or-drop}
 use Rattle.arena.specs.Node.{Node}
 use Rattle.classes.specs.Class.{Class, single}
-use Rattle.classes.specs.Group.{class_at, total, mergedAt}
+use Rattle.classes.specs.Group.{class_at, total, merged_at}
 use Rattle.classes.specs.Good.{flat}
-use Rattle.classes.specs.Layout.{flavourOf, value_of, padded, encode, decode}
+use Rattle.classes.specs.Layout.{flavour_of, value_of, padded, encode, decode}
 use Rattle.classes.specs.Inner.{Coded}
 use Rattle.classes.specs.declared.Group.{Group}
 use Rattle.classes.proofs.Numbers.{zeros-after}
 use Rattle.classes.proofs.Places.{nothing, length-flat, more-new, length_more, total-more}
-use Rattle.classes.proofs.Codec.{built-count, built-used, built-limit, built-classes, built-coded, length-decode, used-is, size_of, flavourIn, valueIn, at-padded, length-padded, map-append, flat_append, flat-encode, total-take, total-front, sizes-is, flavours-is, values-is, members-is}
+use Rattle.classes.proofs.Codec.{built-count, built-used, built-limit, built-classes, built-coded, length-decode, used-is, size_of, flavour_in, value_in, at-padded, length-padded, map-append, flat_append, flat-encode, total-take, total-front, sizes-is, flavours-is, values-is, members-is}
 use Rattle.classes.proofs.GroupLayout.{padded-is}
 use Rattle.classes.proofs.Rebuilding.{merged-last}
-use Rattle.merging.specs.Extending.{missing, extended, pushed, classFrom}
+use Rattle.merging.specs.Extending.{missing, extended, pushed, class_from}
 use Rattle.merging.specs.Inner.{AllBelow}
 use Rattle.merging.proofs.PushedClass.{from_more, from-none, class-few}
 use Rattle.lent_classes.proofs.ListCounts.{total-append}
-use Rattle.shifted_classes.specs.Shifting.{shiftedClasses}
+use Rattle.shifted_classes.specs.Shifting.{shifted_classes}
 
 -- ---- what stands in the struct
 
@@ -43,14 +43,14 @@ padded-more n xs l =
 -- a group with an empty class at its end: only the count is another
 pub opened-empty : (g : Group) → Coded g → g.count < 64
     → ◌≡◌ {A = Group} (record { limit = g.limit; count = g.count + 1; used = g.used; sizes = g.sizes; flavours = g.flavours; values = g.values; members = g.members }) (encode g.limit (decode g ++ (nothing ∷ [])))
-unfolding encode flavourOf value_of flat
+unfolding encode flavour_of value_of flat
 opened-empty g v l = λ i. record {
   limit = g.limit;
   count = count i;
   used = used i;
   sizes = column size_of g.sizes refl (sizes-is g v) i;
-  flavours = column flavourIn g.flavours refl (flavours-is g v) i;
-  values = column valueIn g.values refl (values-is g v) i;
+  flavours = column flavour_in g.flavours refl (flavours-is g v) i;
+  values = column value_in g.values refl (values-is g v) i;
   members = members i;
 }
   where
@@ -76,7 +76,7 @@ front g = take (g.count - 1) (decode g)
 
 -- a group whose last class is that of the first k expressions
 abbrev pub PushedTo : List Node → Group → List ℕ → ℕ → Group → Type 0
-PushedTo ns begin es k next = next ≡ encode begin.limit (front begin ++ (classFrom ns (take k es) ∷ []))
+PushedTo ns begin es k next = next ≡ encode begin.limit (front begin ++ (class_from ns (take k es) ∷ []))
 
 module _ (ns : List Node) (out : Group) (v : Coded out) (few : out.count < 64) (n : ℕ) (room : out.used + n ≤ 256) (es : List ℕ) (len : length es ≡ n)
     (begin : Group) (p : begin ≡ encode out.limit (decode out ++ (nothing ∷ []))) where
@@ -92,30 +92,30 @@ module _ (ns : List Node) (out : Group) (v : Coded out) (few : out.count < 64) (
   limit_is = built-limit out.limit (decode out ++ (nothing ∷ [])) begin p
 
   -- in the words of the group that came in
-  here : (k : ℕ) (next : Group) → PushedTo ns begin es k next → next ≡ encode out.limit (decode out ++ (classFrom ns (take k es) ∷ []))
-  here k next q = q ∙ ap₂ {C = Group} (λ (l : ℕ) (f : List Class). encode l (f ++ (classFrom ns (take k es) ∷ []))) limit_is front-is
+  here : (k : ℕ) (next : Group) → PushedTo ns begin es k next → next ≡ encode out.limit (decode out ++ (class_from ns (take k es) ∷ []))
+  here k next q = q ∙ ap₂ {C = Group} (λ (l : ℕ) (f : List Class). encode l (f ++ (class_from ns (take k es) ∷ []))) limit_is front-is
 
   -- and the other way
-  back : (k : ℕ) (next : Group) → next ≡ encode out.limit (decode out ++ (classFrom ns (take k es) ∷ [])) → PushedTo ns begin es k next
-  back k next q = q ∙ sym (ap₂ {C = Group} (λ (l : ℕ) (f : List Class). encode l (f ++ (classFrom ns (take k es) ∷ []))) limit_is front-is)
+  back : (k : ℕ) (next : Group) → next ≡ encode out.limit (decode out ++ (class_from ns (take k es) ∷ [])) → PushedTo ns begin es k next
+  back k next q = q ∙ sym (ap₂ {C = Group} (λ (l : ℕ) (f : List Class). encode l (f ++ (class_from ns (take k es) ∷ []))) limit_is front-is)
 
   -- none is pushed
   pub push-begins : PushedTo ns begin es 0 begin
   push-begins = back 0 begin (p ∙ ap (λ (c : Class). encode out.limit (decode out ++ (c ∷ []))) (sym (from-none ns)))
 
   -- all are pushed
-  pub push-ends : (k : ℕ) (next : Group) → n ≤ k → PushedTo ns begin es k next → next ≡ encode out.limit (decode out ++ (classFrom ns es ∷ []))
-  push-ends k next l q = here k next q ∙ ap (λ (l : List ℕ). encode out.limit (decode out ++ (classFrom ns l ∷ []))) (take_all k es (omega arith))
+  pub push-ends : (k : ℕ) (next : Group) → n ≤ k → PushedTo ns begin es k next → next ≡ encode out.limit (decode out ++ (class_from ns es ∷ []))
+  push-ends k next l q = here k next q ∙ ap (λ (l : List ℕ). encode out.limit (decode out ++ (class_from ns l ∷ []))) (take_all k es (omega arith))
 
   module _ (k : ℕ) (next : Group) (q : PushedTo ns begin es k next) (l : k < n) where
     -- the group, in those words
-    is : next ≡ encode out.limit (decode out ++ (classFrom ns (take k es) ∷ []))
+    is : next ≡ encode out.limit (decode out ++ (class_from ns (take k es) ∷ []))
     is = here k next q
 
     -- there is room for the next
     pub push-asks : Coded next × ((0 < next.count) × (next.used < 256))
     push-asks =
-        let c = classFrom ns (take k es) in
+        let c = class_from ns (take k es) in
         let a = length_more (decode out) c in
         let b = total-more (decode out) c in
         let d = class-few ns (take k es) in
@@ -125,50 +125,50 @@ module _ (ns : List Node) (out : Group) (v : Coded out) (few : out.count < 64) (
         (built-coded out.limit (decode out ++ (c ∷ [])) next is (omega (arith, a, length-decode out)) (omega (arith, b, used-is out v, d, f)), (omega (arith, g, a), omega (arith, h, b, used-is out v, d, f)))
 
     -- it is pushed
-    pub push-more : (r : Group) (e : ℕ) → get_or es k 0 ≡ e → r ≡ encode next.limit (mergedAt (decode next) (next.count - 1) (missing (class_at (decode next) (next.count - 1)) (single ns e))) → PushedTo ns begin es (k + 1) r
+    pub push-more : (r : Group) (e : ℕ) → get_or es k 0 ≡ e → r ≡ encode next.limit (merged_at (decode next) (next.count - 1) (missing (class_at (decode next) (next.count - 1)) (single ns e))) → PushedTo ns begin es (k + 1) r
     unfolding pushed extended
     push-more r e x z =
-        let c = classFrom ns (take k es) in
+        let c = class_from ns (take k es) in
         let cs = built-classes out.limit (decode out ++ (c ∷ [])) next is in
         let n : next.count - 1 ≡ length (decode out) = omega (arith, built-count out.limit (decode out ++ (c ∷ [])) next is, length_more (decode out) c) in
-        let m : encode next.limit (mergedAt (decode next) (next.count - 1) (missing (class_at (decode next) (next.count - 1)) (single ns e))) ≡ encode out.limit (mergedAt (decode out ++ (c ∷ [])) (length (decode out)) (missing (class_at (decode out ++ (c ∷ [])) (length (decode out))) (single ns e))) =
-        ap₂ {C = Group} (λ (l : ℕ) (d : List Class). encode l (mergedAt d (next.count - 1) (missing (class_at d (next.count - 1)) (single ns e)))) (built-limit out.limit (decode out ++ (c ∷ [])) next is) cs
-        ∙ ap (λ (m : ℕ). encode out.limit (mergedAt (decode out ++ (c ∷ [])) m (missing (class_at (decode out ++ (c ∷ [])) m) (single ns e)))) n in
-        let f : mergedAt (decode out ++ (c ∷ [])) (length (decode out)) (missing (class_at (decode out ++ (c ∷ [])) (length (decode out))) (single ns e)) ≡ decode out ++ (pushed ns c e ∷ []) =
-        ap (λ (d : Class). mergedAt (decode out ++ (c ∷ [])) (length (decode out)) (missing d (single ns e))) (more-new (decode out) c) ∙ merged-last (decode out) c (missing c (single ns e)) (length (decode out)) refl in
+        let m : encode next.limit (merged_at (decode next) (next.count - 1) (missing (class_at (decode next) (next.count - 1)) (single ns e))) ≡ encode out.limit (merged_at (decode out ++ (c ∷ [])) (length (decode out)) (missing (class_at (decode out ++ (c ∷ [])) (length (decode out))) (single ns e))) =
+        ap₂ {C = Group} (λ (l : ℕ) (d : List Class). encode l (merged_at d (next.count - 1) (missing (class_at d (next.count - 1)) (single ns e)))) (built-limit out.limit (decode out ++ (c ∷ [])) next is) cs
+        ∙ ap (λ (m : ℕ). encode out.limit (merged_at (decode out ++ (c ∷ [])) m (missing (class_at (decode out ++ (c ∷ [])) m) (single ns e)))) n in
+        let f : merged_at (decode out ++ (c ∷ [])) (length (decode out)) (missing (class_at (decode out ++ (c ∷ [])) (length (decode out))) (single ns e)) ≡ decode out ++ (pushed ns c e ∷ []) =
+        ap (λ (d : Class). merged_at (decode out ++ (c ∷ [])) (length (decode out)) (missing d (single ns e))) (more-new (decode out) c) ∙ merged-last (decode out) c (missing c (single ns e)) (length (decode out)) refl in
         let t : take k es ++ (e ∷ []) ≡ take (k + 1) es = sym (rw (add-one k) (take-suc es k 0 (omega arith)) ∙ ap (λ (y : ℕ). take k es ++ (y ∷ [])) x) in
-        back (k + 1) r (z ∙ m ∙ ap (λ (d : List Class). encode out.limit d) (f ∙ ap (λ (d : Class). decode out ++ (d ∷ [])) (sym (from_more ns (take k es) e) ∙ ap (λ (y : List ℕ). classFrom ns y) t)))
+        back (k + 1) r (z ∙ m ∙ ap (λ (d : List Class). encode out.limit d) (f ∙ ap (λ (d : Class). decode out ++ (d ∷ [])) (sym (from_more ns (take k es) e) ∙ ap (λ (y : List ℕ). class_from ns y) t)))
 
 -- ---- the shifted classes from a place on
 
 -- classes one after the other
-pub shifted-append : (ns : List Node) (xs ys : List Class) (ks : List ℕ) → shiftedClasses ns (xs ++ ys) ks ≡ shiftedClasses ns xs ks ++ shiftedClasses ns ys (drop (total xs) ks)
-unfolding shiftedClasses total
+pub shifted-append : (ns : List Node) (xs ys : List Class) (ks : List ℕ) → shifted_classes ns (xs ++ ys) ks ≡ shifted_classes ns xs ks ++ shifted_classes ns ys (drop (total xs) ks)
+unfolding shifted_classes total
 shifted-append ns [] ys ks = refl
 shifted-append ns (c ∷ xs) ys ks =
-    ap (λ (l : List Class). classFrom ns (take (length c.members) ks) ∷ l)
-    (shifted-append ns xs ys (drop (length c.members) ks) ∙ ap (λ (l : List ℕ). shiftedClasses ns xs (drop (length c.members) ks) ++ shiftedClasses ns ys l) (drop-drop (total xs) (length c.members) ks))
+    ap (λ (l : List Class). class_from ns (take (length c.members) ks) ∷ l)
+    (shifted-append ns xs ys (drop (length c.members) ks) ∙ ap (λ (l : List ℕ). shifted_classes ns xs (drop (length c.members) ks) ++ shifted_classes ns ys l) (drop-drop (total xs) (length c.members) ks))
 
 -- as many classes
-pub length-shifted : (ns : List Node) (rs : List Class) (ks : List ℕ) → length (shiftedClasses ns rs ks) ≡ length rs
-unfolding shiftedClasses
+pub length-shifted : (ns : List Node) (rs : List Class) (ks : List ℕ) → length (shifted_classes ns rs ks) ≡ length rs
+unfolding shifted_classes
 length-shifted ns [] ks = refl
 length-shifted ns (c ∷ rs) ks = ap suc (length-shifted ns rs (drop (length c.members) ks))
 
 -- no more members
-pub shifted-few : (ns : List Node) (rs : List Class) (ks : List ℕ) → total (shiftedClasses ns rs ks) ≤ total rs
-unfolding shiftedClasses total
+pub shifted-few : (ns : List Node) (rs : List Class) (ks : List ℕ) → total (shifted_classes ns rs ks) ≤ total rs
+unfolding shifted_classes total
 shifted-few ns [] ks = omega arith
 shifted-few ns (c ∷ rs) ks =
     omega (arith, shifted-few ns rs (drop (length c.members) ks), class-few ns (take (length c.members) ks), length-take (length c.members) ks)
 
 -- numbers behind those of the members are not looked at
-pub shifted-front : (ns : List Node) (rs : List Class) (ks js : List ℕ) → total rs ≤ length ks → shiftedClasses ns rs (ks ++ js) ≡ shiftedClasses ns rs ks
-unfolding shiftedClasses total
+pub shifted-front : (ns : List Node) (rs : List Class) (ks js : List ℕ) → total rs ≤ length ks → shifted_classes ns rs (ks ++ js) ≡ shifted_classes ns rs ks
+unfolding shifted_classes total
 shifted-front ns [] ks js l = refl
 shifted-front ns (c ∷ rs) ks js l =
-    ap₂ {C = List Class} (λ (a : List ℕ) (b : List Class). classFrom ns a ∷ b) (take-append-le (length c.members) ks js (omega arith))
-    (ap (λ (d : List ℕ). shiftedClasses ns rs d) (drop-append-le (length c.members) ks js (omega arith)) ∙ shifted-front ns rs (drop (length c.members) ks) js (omega (arith, length-drop (length c.members) ks)))
+    ap₂ {C = List Class} (λ (a : List ℕ) (b : List Class). class_from ns a ∷ b) (take-append-le (length c.members) ks js (omega arith))
+    (ap (λ (d : List ℕ). shifted_classes ns rs d) (drop-append-le (length c.members) ks js (omega arith)) ∙ shifted-front ns rs (drop (length c.members) ks) js (omega (arith, length-drop (length c.members) ks)))
 
 -- a part within a part
 cut-within : (a b c : ℕ) (l : List ℕ) → b + a ≤ c → take a (drop b (take c l)) ≡ take a (drop b l)
@@ -184,7 +184,7 @@ total-none cs = refl
 
 -- j shifted classes are added to a group
 abbrev pub AddedTo : List Node → Group → Group → List ℕ → ℕ → Group → Type 0
-AddedTo ns left right members j out = out ≡ encode left.limit (decode left ++ shiftedClasses ns (take j (decode right)) (take right.used members))
+AddedTo ns left right members j out = out ≡ encode left.limit (decode left ++ shifted_classes ns (take j (decode right)) (take right.used members))
 
 -- where class j begins, and how many members it has
 module _ (right : Group) (w : Coded right) (j start size : ℕ) (s : start ≡ total (take j (decode right))) (z : size ≡ length (class_at (decode right) j).members) where
@@ -210,12 +210,12 @@ module _ (right : Group) (w : Coded right) (j start size : ℕ) (s : start ≡ t
 module _ (ns : List Node) (left right : Group) (v : Coded left) (members : List ℕ) where
   -- none is added yet
   pub add-begins : AddedTo ns left right members 0 left
-  unfolding shiftedClasses
+  unfolding shifted_classes
   add-begins = sym (ap (λ (l : List Class). encode left.limit l) (append-nil (decode left)) ∙ v.coded)
 
   -- all are added
-  pub add-ends : (j : ℕ) (out : Group) → right.count ≤ j → AddedTo ns left right members j out → out ≡ encode left.limit (decode left ++ shiftedClasses ns (decode right) (take right.used members))
-  add-ends j out l q = q ∙ ap (λ (d : List Class). encode left.limit (decode left ++ shiftedClasses ns d (take right.used members))) (take_all j (decode right) (omega (arith, length-decode right)))
+  pub add-ends : (j : ℕ) (out : Group) → right.count ≤ j → AddedTo ns left right members j out → out ≡ encode left.limit (decode left ++ shifted_classes ns (decode right) (take right.used members))
+  add-ends j out l q = q ∙ ap (λ (d : List Class). encode left.limit (decode left ++ shifted_classes ns d (take right.used members))) (take_all j (decode right) (omega (arith, length-decode right)))
 
 -- one in between
 module _ (ns : List Node) (left right : Group) (v : Coded left) (w : Coded right) (few : left.count + right.count ≤ 64) (small : left.used + right.used ≤ 256) (members : List ℕ)
@@ -223,7 +223,7 @@ module _ (ns : List Node) (left right : Group) (v : Coded left) (w : Coded right
   -- there is room for it
   pub add-room : Coded out × ((out.count < 64) × (out.used + size ≤ 256))
   add-room =
-      let o = shiftedClasses ns (take j (decode right)) (take right.used members) in
+      let o = shifted_classes ns (take j (decode right)) (take right.used members) in
       let a = length-append (decode left) o in
       let b = length-shifted ns (take j (decode right)) (take right.used members) in
       let c = length-take-le j (decode right) (omega (arith, length-decode right)) in
@@ -237,18 +237,18 @@ module _ (ns : List Node) (left right : Group) (v : Coded left) (w : Coded right
       (built-coded left.limit (decode left ++ o) out q (omega arith) (omega arith), (omega (arith, f), omega (arith, g)))
 
   -- it is added
-  pub add-next : (r : Group) → r ≡ encode out.limit (decode out ++ (classFrom ns (take size (drop start members)) ∷ [])) → AddedTo ns left right members (j + 1) r
-  unfolding shiftedClasses
+  pub add-next : (r : Group) → r ≡ encode out.limit (decode out ++ (class_from ns (take size (drop start members)) ∷ [])) → AddedTo ns left right members (j + 1) r
+  unfolding shifted_classes
   add-next r x =
-      let o = shiftedClasses ns (take j (decode right)) (take right.used members) in
+      let o = shifted_classes ns (take j (decode right)) (take right.used members) in
       let c = class_at (decode right) j in
-      let m : encode out.limit (decode out ++ (classFrom ns (take size (drop start members)) ∷ [])) ≡ encode left.limit ((decode left ++ o) ++ (classFrom ns (take size (drop start members)) ∷ [])) =
-      ap₂ {C = Group} (λ (l : ℕ) (d : List Class). encode l (d ++ (classFrom ns (take size (drop start members)) ∷ []))) (built-limit left.limit (decode left ++ o) out q) (built-classes left.limit (decode left ++ o) out q) in
+      let m : encode out.limit (decode out ++ (class_from ns (take size (drop start members)) ∷ [])) ≡ encode left.limit ((decode left ++ o) ++ (class_from ns (take size (drop start members)) ∷ [])) =
+      ap₂ {C = Group} (λ (l : ℕ) (d : List Class). encode l (d ++ (class_from ns (take size (drop start members)) ∷ []))) (built-limit left.limit (decode left ++ o) out q) (built-classes left.limit (decode left ++ o) out q) in
       let t : take (j + 1) (decode right) ≡ take j (decode right) ++ (c ∷ []) = rw (add-one j) (take-suc (decode right) j nothing (omega (arith, length-decode right))) in
       let i = part-inside right w j start size s z in
       let p : take (length c.members) (drop (total (take j (decode right))) (take right.used members)) ≡ take size (drop start members) =
       ap₂ {C = List ℕ} (λ (a b : ℕ). take a (drop b (take right.used members))) (sym z) (sym s) ∙ cut-within size start right.used members (omega arith) in
-      let e : shiftedClasses ns (take (j + 1) (decode right)) (take right.used members) ≡ o ++ (classFrom ns (take size (drop start members)) ∷ []) =
-      ap (λ (l : List Class). shiftedClasses ns l (take right.used members)) t ∙ shifted-append ns (take j (decode right)) (c ∷ []) (take right.used members)
-      ∙ ap (λ (l : List ℕ). o ++ (classFrom ns l ∷ [])) p in
-      x ∙ m ∙ ap (λ (l : List Class). encode left.limit l) (append_assoc (decode left) o (classFrom ns (take size (drop start members)) ∷ []) ∙ ap (λ (l : List Class). decode left ++ l) (sym e))
+      let e : shifted_classes ns (take (j + 1) (decode right)) (take right.used members) ≡ o ++ (class_from ns (take size (drop start members)) ∷ []) =
+      ap (λ (l : List Class). shifted_classes ns l (take right.used members)) t ∙ shifted-append ns (take j (decode right)) (c ∷ []) (take right.used members)
+      ∙ ap (λ (l : List ℕ). o ++ (class_from ns l ∷ [])) p in
+      x ∙ m ∙ ap (λ (l : List Class). encode left.limit l) (append_assoc (decode left) o (class_from ns (take size (drop start members)) ∷ []) ∙ ap (λ (l : List Class). decode left ++ l) (sym e))

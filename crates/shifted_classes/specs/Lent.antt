@@ -8,9 +8,9 @@ unfoldable pub paired : List ℕ → Bool
 paired numbers = eqb (length numbers % 2) 0
 
 -- every side is among the first n (else 1)
-unfoldable pub sidesBelow : ℕ → List ℕ → Bool
-sidesBelow n numbers = each (λ k. ltb (get_or numbers k 0) n) (length numbers)
+unfoldable pub sides_below : ℕ → List ℕ → Bool
+sides_below n numbers = each (λ k. ltb (get_or numbers k 0) n) (length numbers)
 
 -- the pairs that are lent
-unfoldable pub pairsLent : List ℕ → List (ℕ × ℕ)
-pairsLent numbers = table (λ k. (get_or numbers (2 * k) 0, get_or numbers (2 * k + 1) 0)) (length numbers / 2)
+unfoldable pub pairs_lent : List ℕ → List (ℕ × ℕ)
+pairs_lent numbers = table (λ k. (get_or numbers (2 * k) 0, get_or numbers (2 * k + 1) 0)) (length numbers / 2)

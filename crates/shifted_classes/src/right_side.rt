@@ -6,14 +6,14 @@ ghost use Rattle.shifting.specs.Shift.{moved};
 ghost use Rattle.arena.specs.Layout.{decode as nodes};
 ghost use Rattle.arena.specs.Inner.{Holds};
 ghost use Rattle.shifting.specs.Inner.{lifted};
-ghost use Rattle.classes.specs.Class.{noConstant};
+ghost use Rattle.classes.specs.Class.{no_constant};
 ghost use Rattle.classes.specs.Good.{flat};
 ghost use Rattle.classes.specs.Layout.{encode, decode};
 ghost use Rattle.classes.specs.Inner.{Coded};
-ghost use Rattle.merging.specs.Extending.{classFrom};
+ghost use Rattle.merging.specs.Extending.{class_from};
 ghost use Rattle.merging.specs.Inner.{AllBelow};
-ghost use Rattle.shifted_classes.specs.Shifting.{shiftedClasses};
-ghost use Rattle.shifted_classes.specs.Inner.{rightsLent, ReadyAll, ShiftedAll};
+ghost use Rattle.shifted_classes.specs.Shifting.{shifted_classes};
+ghost use Rattle.shifted_classes.specs.Inner.{rights_lent, ReadyAll, ShiftedAll};
 
 use crate::Members;
 use arena::Added;
@@ -51,8 +51,8 @@ pub fn members_move(table: &[bool; 1024], g: Group) -> bool
 
 // Every right side of the pairs is marked in a table of the nodes that can move.
 pub fn rights_move(table: &[bool; 1024], pairs: &[u32]) -> bool
-    requires { AllBelow 1024 (rightsLent pairs.now) }
-    ensures { result ≡ each (λ k. get_or table.now (get_or (rightsLent pairs.now) k 0) false) (length (rightsLent pairs.now)) }
+    requires { AllBelow 1024 (rights_lent pairs.now) }
+    ensures { result ≡ each (λ k. get_or table.now (get_or (rights_lent pairs.now) k 0) false) (length (rights_lent pairs.now)) }
 {
     let n = pairs.len() / 2;
     let mut k = 0;
@@ -102,8 +102,8 @@ pub fn shift_rights(
     pairs: &[u32],
     lift: u32,
 ) -> bool
-    requires { ReadyAll lift cells.old memo.old (rightsLent pairs.now) }
-    ensures { (ks : List ℕ) × ShiftedAll lift cells.old cells.new memo.new (rightsLent pairs.now) result ks }
+    requires { ReadyAll lift cells.old memo.old (rights_lent pairs.now) }
+    ensures { (ks : List ℕ) × ShiftedAll lift cells.old cells.new memo.new (rights_lent pairs.now) result ks }
 {
     let n = pairs.len() / 2;
     let mut k = 0;
@@ -119,7 +119,7 @@ pub fn shift_rights(
 // A group with a class at its end that has no member and no constant yet.
 fn open_empty(out: Group) -> Group
     requires { Coded out × (out.count < 64) }
-    ensures { result ≡ encode out.limit (decode out ++ (record { members = []; constant = noConstant } ∷ [])) }
+    ensures { result ≡ encode out.limit (decode out ++ (record { members = []; constant = no_constant } ∷ [])) }
 {
     let mut next = out;
     next.count = out.count + 1;
@@ -135,7 +135,7 @@ pub fn add_class_from(
     n: usize,
 ) -> Group
     requires { (Coded out × ((out.count < 64) × (out.used + n ≤ 256))) × ((Holds cells.now × (start + n ≤ 256)) × AllBelow (length (nodes cells.now)) (take n (drop start members))) }
-    ensures { result ≡ encode out.limit (decode out ++ (classFrom (nodes cells.now) (take n (drop start members)) ∷ [])) }
+    ensures { result ≡ encode out.limit (decode out ++ (class_from (nodes cells.now) (take n (drop start members)) ∷ [])) }
 {
     let mut next = open_empty(out);
     let mut k = 0;
@@ -149,7 +149,7 @@ pub fn add_class_from(
 // The classes of a group, shifted, at the end of another: by the numbers of the members shifted.
 pub fn add_shifted(cells: &[u32; 11265], left: Group, right: Group, members: [u32; 256]) -> Group
     requires { ((Coded left × Coded right) × ((left.count + right.count ≤ 64) × (left.used + right.used ≤ 256))) × (Holds cells.now × AllBelow (length (nodes cells.now)) (take right.used members)) }
-    ensures { result ≡ encode left.limit (decode left ++ shiftedClasses (nodes cells.now) (decode right) (take right.used members)) }
+    ensures { result ≡ encode left.limit (decode left ++ shifted_classes (nodes cells.now) (decode right) (take right.used members)) }
 {
     let n = right.count;
     let mut out = left;

@@ -12,7 +12,7 @@ use lib.Signed.{mag, lt_z}
 use mir.Facts.{to_z-of_z}
 use mir.Syntax.{w64}
 use mir.Val.{to_z, of_z}
-use Rattle.laws.proofs.Booleans.{true-not-false}
+use Rattle.laws.proofs.Booleans.{true_not_false}
 use Rattle.shifting.specs.Shift.{within, moved}
 use Rattle.laws.specs.Tests.{is_some}
 use Rattle.shifting.specs.Inner.{lifted}
@@ -42,9 +42,9 @@ module _ (lift index : ℕ) where
   moves-low l = rw (lifted-low lift index l)
 
   -- it fails: the second test tells
-  pub moves-end : 65535 ≤ index + lift → ltb (index + lift) 131071 ≡ is_some (lifted lift index)
+  pub moves_end : 65535 ≤ index + lift → ltb (index + lift) 131071 ≡ is_some (lifted lift index)
   unfolding is_some
-  moves-end l = at (dec_lt (index + lift) 131071)
+  moves_end l = at (dec_lt (index + lift) 131071)
     where
       at : Dec (index + lift < 131071) → ltb (index + lift) 131071 ≡ is_some (lifted lift index)
       at (yes m) = rw (lifted-some lift index l m) (lt-ltb (index + lift) 131071 m)
@@ -71,12 +71,12 @@ unfolding moved
 down-some n i l m = rw (le-ltb i (suc n) l) (within-some (i - suc n) (omega arith))
 
 -- the lift of an offset
-abbrev pub liftOf : ℤ → ℕ
-liftOf (pos n) = n + 65535
-liftOf (negsuc n) = 65534 - n
+abbrev pub lift_of : ℤ → ℕ
+lift_of (pos n) = n + 65535
+lift_of (negsuc n) = 65534 - n
 
 -- the sum is the lift
-sum_is : (z : ℤ) → lt_z z (negsuc 65534) ≡ false → z +ℤ pos 65535 ≡ pos (liftOf z)
+sum_is : (z : ℤ) → lt_z z (negsuc 65534) ≡ false → z +ℤ pos 65535 ≡ pos (lift_of z)
 sum_is (pos n) a = refl
 sum_is (negsuc n) a =
     let l : suc n ≤ 65535 = omega (arith, ltb-false 65534 n a) in
@@ -84,32 +84,32 @@ sum_is (negsuc n) a =
     rw (le-ltb 65535 (suc n) l, e)
 
 -- the lift of an offset that is not too high
-lift-few : (z : ℤ) → lt_z (pos 65535) z ≡ false → liftOf z ≤ 131070
-lift-few (pos n) b = omega (arith, ltb-false 65535 n b)
-lift-few (negsuc n) b = omega arith
+lift_few : (z : ℤ) → lt_z (pos 65535) z ≡ false → lift_of z ≤ 131070
+lift_few (pos n) b = omega (arith, ltb-false 65535 n b)
+lift_few (negsuc n) b = omega arith
 
 -- an offset that is too low
 moved-low : (z : ℤ) → lt_z z (negsuc 65534) ≡ true → (i : ℕ) → i < 65536 → moved z i ≡ lifted 200000 i
-moved-low (pos n) a i l = absurd (true-not-false a refl)
+moved-low (pos n) a i l = absurd (true_not_false a refl)
 moved-low (negsuc n) a i l = down-none n i (omega (arith, ltb-true 65534 n a)) ∙ sym (lifted-high 200000 i (omega arith))
 
 -- an offset that is too high
 moved-high : (z : ℤ) → lt_z (pos 65535) z ≡ true → (i : ℕ) → i < 65536 → moved z i ≡ lifted 200000 i
 unfolding moved
 moved-high (pos n) b i l = within_none (i + n) (omega (arith, ltb-true 65535 n b)) ∙ sym (lifted-high 200000 i (omega arith))
-moved-high (negsuc n) b i l = absurd (true-not-false b refl)
+moved-high (negsuc n) b i l = absurd (true_not_false b refl)
 
 -- any other moves an index as its lift does
-moved-lift : (z : ℤ) → lt_z z (negsuc 65534) ≡ false → (i : ℕ) → i < 65536 → moved z i ≡ lifted (liftOf z) i
+moved_lift : (z : ℤ) → lt_z z (negsuc 65534) ≡ false → (i : ℕ) → i < 65536 → moved z i ≡ lifted (lift_of z) i
 unfolding moved
-moved-lift (pos n) a i l = at (dec_lt (i + n) 65536)
+moved_lift (pos n) a i l = at (dec_lt (i + n) 65536)
   where
     at : Dec (i + n < 65536) → within (pos (i + n)) ≡ lifted (n + 65535) i
     at (yes b) =
         let e : i + (n + 65535) - 65535 ≡ i + n = omega arith in
         within-some (i + n) b ∙ sym (lifted-some (n + 65535) i (omega arith) (omega arith) ∙ ap {B = Option ℕ} some e)
     at (no b) = within_none (i + n) (omega arith) ∙ sym (lifted-high (n + 65535) i (omega arith))
-moved-lift (negsuc n) a i l = at (dec_lt i (suc n)) (ltb-false 65534 n a)
+moved_lift (negsuc n) a i l = at (dec_lt i (suc n)) (ltb-false 65534 n a)
   where
     at : Dec (i < suc n) → n ≤ 65534 → moved (negsuc n) i ≡ lifted (65534 - n) i
     at (yes b) c = down-none n i b ∙ sym (lifted-low (65534 - n) i (omega arith))
@@ -128,12 +128,12 @@ again-is z f = to_z-of_z (record { sfits = f })
 -- what the code finds of an offset
 module _ (z : ℤ) (f : mag z < 2 ^ 63) where
   -- it is below -65,535
-  pub offset-low : lt_z (again z) (negsuc 65534) ≡ true → (i : ℕ) → i < 65536 → moved z i ≡ lifted 200000 i
-  offset-low a = moved-low z (subst (λ (y : ℤ). lt_z y (negsuc 65534) ≡ true) (again-is z f) a)
+  pub offset_low : lt_z (again z) (negsuc 65534) ≡ true → (i : ℕ) → i < 65536 → moved z i ≡ lifted 200000 i
+  offset_low a = moved-low z (subst (λ (y : ℤ). lt_z y (negsuc 65534) ≡ true) (again-is z f) a)
 
   -- it is above 65,535
-  pub offset-high : lt_z (pos 65535) (again z) ≡ true → (i : ℕ) → i < 65536 → moved z i ≡ lifted 200000 i
-  offset-high b = moved-high z (subst (λ (y : ℤ). lt_z (pos 65535) y ≡ true) (again-is z f) b)
+  pub offset_high : lt_z (pos 65535) (again z) ≡ true → (i : ℕ) → i < 65536 → moved z i ≡ lifted 200000 i
+  offset_high b = moved-high z (subst (λ (y : ℤ). lt_z (pos 65535) y ≡ true) (again-is z f) b)
 
   module _ (a : lt_z (again z) (negsuc 65534) ≡ false) (b : lt_z (pos 65535) (again z) ≡ false) where
     -- the first test, of the offset itself
@@ -141,17 +141,17 @@ module _ (z : ℤ) (f : mag z < 2 ^ 63) where
     low = subst (λ (y : ℤ). lt_z y (negsuc 65534) ≡ false) (again-is z f) a
 
     -- the lift is small
-    pub lift-small : liftOf z ≤ 131070
-    lift-small = lift-few z (subst (λ (y : ℤ). lt_z (pos 65535) y ≡ false) (again-is z f) b)
+    pub lift_small : lift_of z ≤ 131070
+    lift_small = lift_few z (subst (λ (y : ℤ). lt_z (pos 65535) y ≡ false) (again-is z f) b)
 
     -- it moves indices as the offset does
-    pub lift-moves : (i : ℕ) → i < 65536 → moved z i ≡ lifted (liftOf z) i
-    lift-moves = moved-lift z low
+    pub lift_moves : (i : ℕ) → i < 65536 → moved z i ≡ lifted (lift_of z) i
+    lift_moves = moved_lift z low
 
     -- it is the sum
-    pub lift-sum : again z +ℤ pos 65535 ≡ pos (liftOf z)
-    lift-sum = ap (λ (y : ℤ). y +ℤ pos 65535) (again-is z f) ∙ sum_is z low
+    pub lift_sum : again z +ℤ pos 65535 ≡ pos (lift_of z)
+    lift_sum = ap (λ (y : ℤ). y +ℤ pos 65535) (again-is z f) ∙ sum_is z low
 
     -- and so it is the sum that was written and read again
-    pub lift-again : again (again z +ℤ pos 65535) ≡ pos (liftOf z)
-    lift-again = ap again lift-sum ∙ again-is (pos (liftOf z)) (omega (arith, lift-small))
+    pub lift_again : again (again z +ℤ pos 65535) ≡ pos (lift_of z)
+    lift_again = ap again lift_sum ∙ again-is (pos (lift_of z)) (omega (arith, lift_small))

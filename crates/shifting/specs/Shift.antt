@@ -15,24 +15,24 @@ moved offset index = within (pos index +ℤ offset)
 
 unfoldable mutual
   -- every column of an expression can move
-  pub canMove : (ℕ → Option ℕ) → Expression → Bool
-  canMove to (col name index) = is_some (to index)
-  canMove to (lit v) = true
-  canMove to (op label children) = allMove to children
+  pub can_move : (ℕ → Option ℕ) → Expression → Bool
+  can_move to (col name index) = is_some (to index)
+  can_move to (lit v) = true
+  can_move to (op label children) = all_move to children
 
   -- every column of each of them can move
-  pub allMove : (ℕ → Option ℕ) → Expressions → Bool
-  allMove to ∅ = true
-  allMove to (e ▹ es) = canMove to e && allMove to es
+  pub all_move : (ℕ → Option ℕ) → Expressions → Bool
+  all_move to ∅ = true
+  all_move to (e ▹ es) = can_move to e && all_move to es
 
 unfoldable mutual
   -- the expression with every column moved, where it can
   pub shifted : (ℕ → Option ℕ) → Expression → Expression
   shifted to (col name index) = col name (get_or (to index) index)
   shifted to (lit v) = lit v
-  shifted to (op label children) = op label (allShifted to children)
+  shifted to (op label children) = op label (all_shifted to children)
 
   -- each of them shifted
-  pub allShifted : (ℕ → Option ℕ) → Expressions → Expressions
-  allShifted to ∅ = ∅
-  allShifted to (e ▹ es) = shifted to e ▹ allShifted to es
+  pub all_shifted : (ℕ → Option ℕ) → Expressions → Expressions
+  all_shifted to ∅ = ∅
+  all_shifted to (e ▹ es) = shifted to e ▹ all_shifted to es

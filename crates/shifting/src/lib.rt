@@ -8,7 +8,7 @@ pub mod shifting;
 
 ghost use Rattle.std.specs.Prelude.{◌≡◌};
 ghost use Rattle.arena.specs.Calls.{lent};
-ghost use Rattle.shifting.specs.Calls.{addOffset};
+ghost use Rattle.shifting.specs.Calls.{add_offset};
 
 use arena::Added;
 use arena::cells::{node_count, wide};
@@ -18,7 +18,7 @@ use shifting::shift_in;
 // Shifts every column of an expression by an offset, names kept, and adds the missing nodes.
 // Refusals: 11, 1, 10, 3.
 pub fn add_offset_to_expr(cells: &mut [u32; 11265], expr: u32, offset: i64) -> Added
-    ensures { (result, cells.new) ≡ lent (addOffset expr offset) cells.old }
+    ensures { (result, cells.new) ≡ lent (add_offset expr offset) cells.old }
 {
     if !lawful_arena(cells) {
         return Added::Refused(11);

@@ -4,12 +4,12 @@
 // index + lift - 65,535. An offset that no index can follow is the lift 200,000, which moves none into 0..65,535.
 ghost use Rattle.std.specs.Prelude.{Bool, true, false, ◌≡◌, ℕ, ◌≤◌, ◌<◌, ◌+◌, ◌*◌, ◌%◌, length, get_or};
 ghost use Rattle.laws.specs.Tests.{each, is_some};
-ghost use Rattle.arena.specs.Node.{nodeAt, childNumbers};
-ghost use Rattle.arena.specs.Expression.{expressionAt};
-ghost use Rattle.shifting.specs.Shift.{moved, canMove};
+ghost use Rattle.arena.specs.Node.{node_at, child_numbers};
+ghost use Rattle.arena.specs.Expression.{expression_at};
+ghost use Rattle.shifting.specs.Shift.{moved, can_move};
 ghost use Rattle.arena.specs.Layout.{cell_of, count, decode};
-ghost use Rattle.arena.specs.Calls.{inCells};
-ghost use Rattle.shifting.specs.Calls.{shiftedOutcome};
+ghost use Rattle.arena.specs.Calls.{in_cells};
+ghost use Rattle.shifting.specs.Calls.{shifted_outcome};
 ghost use Rattle.arena.specs.Inner.{Holds, Known, Grew, Walked, WalkedAll};
 ghost use Rattle.shifting.specs.Inner.{Ready, ReadyAll, lifted, shifted_by};
 
@@ -46,7 +46,7 @@ fn index_moves(index: u32, lift: u32) -> bool
 // The children of node e can move, by the table of the nodes before it.
 fn children_move(cells: &[u32; 11265], table: &[bool; 1024], e: usize) -> bool
     requires { Known cells.now e }
-    ensures { result ≡ each (λ k. get_or table.now (get_or (childNumbers (nodeAt (decode cells.now) e)) k 0) false) (length (childNumbers (nodeAt (decode cells.now) e))) }
+    ensures { result ≡ each (λ k. get_or table.now (get_or (child_numbers (node_at (decode cells.now) e)) k 0) false) (length (child_numbers (node_at (decode cells.now) e))) }
 {
     let n = child_count(cells, e);
     let mut k = 0;
@@ -62,8 +62,8 @@ fn children_move(cells: &[u32; 11265], table: &[bool; 1024], e: usize) -> bool
 
 // Node e can move, by the table of the nodes before it.
 fn node_moves(cells: &[u32; 11265], table: &[bool; 1024], e: usize, lift: u32) -> bool
-    requires { (Known cells.now e × (lift ≤ 200000)) × ((j : ℕ) → j < e → get_or table.now j false ≡ canMove (lifted lift) (expressionAt (decode cells.now) j)) }
-    ensures { result ≡ canMove (lifted lift) (expressionAt (decode cells.now) e) }
+    requires { (Known cells.now e × (lift ≤ 200000)) × ((j : ℕ) → j < e → get_or table.now j false ≡ can_move (lifted lift) (expression_at (decode cells.now) j)) }
+    ensures { result ≡ can_move (lifted lift) (expression_at (decode cells.now) e) }
 {
     if cell_of(cells, e, 0) == 1 {
         return index_moves(cell_of(cells, e, 1) % 65536, lift);
@@ -74,7 +74,7 @@ fn node_moves(cells: &[u32; 11265], table: &[bool; 1024], e: usize, lift: u32) -
 // Which of the first n nodes can move. Each is looked at once.
 pub fn movable(cells: &[u32; 11265], n: usize, lift: u32) -> [bool; 1024]
     requires { (Holds cells.now × (n ≤ count cells.now)) × (lift ≤ 200000) }
-    ensures { (j : ℕ) → j < n → get_or result j false ≡ canMove (lifted lift) (expressionAt (decode cells.now) j) }
+    ensures { (j : ℕ) → j < n → get_or result j false ≡ can_move (lifted lift) (expression_at (decode cells.now) j) }
 {
     let mut table = [false; 1024];
     let mut i = 0;
@@ -89,7 +89,7 @@ pub fn movable(cells: &[u32; 11265], n: usize, lift: u32) -> [bool; 1024]
 // Every column of expression e can move. Each node up to e is looked at once.
 pub fn can_move(cells: &[u32; 11265], e: usize, lift: u32) -> bool
     requires { Known cells.now e × (lift ≤ 200000) }
-    ensures { result ≡ canMove (lifted lift) (expressionAt (decode cells.now) e) }
+    ensures { result ≡ can_move (lifted lift) (expression_at (decode cells.now) e) }
 {
     let table = movable(cells, e, lift);
     node_moves(cells, &table, e, lift)
@@ -97,8 +97,8 @@ pub fn can_move(cells: &[u32; 11265], e: usize, lift: u32) -> bool
 
 // Adds the column that node e, a column, moves to.
 fn shift_column(cells: &mut [u32; 11265], e: usize, lift: u32) -> Added
-    requires { (Known cells.old e × (lift ≤ 200000)) × ((cell_of cells.old e 0 ≡ 1) × (canMove (lifted lift) (expressionAt (decode cells.old) e) ≡ true)) }
-    ensures { Grew (shifted_by lift (expressionAt (decode cells.old) e)) cells.old cells.new result }
+    requires { (Known cells.old e × (lift ≤ 200000)) × ((cell_of cells.old e 0 ≡ 1) × (can_move (lifted lift) (expression_at (decode cells.old) e) ≡ true)) }
+    ensures { Grew (shifted_by lift (expression_at (decode cells.old) e)) cells.old cells.new result }
 {
     let mut row = row_of(cells, e);
     let payload = row[1];
@@ -172,7 +172,7 @@ pub fn shift(cells: &mut [u32; 11265], memo: &mut [u32; 1024], expr: u32, lift: 
 // every cell is as it was.
 pub fn shift_in(cells: &mut [u32; 11265], expr: u32, offset: i64) -> Added
     requires { Known cells.old expr }
-    ensures { (result, cells.new) ≡ inCells (shiftedOutcome expr offset (decode cells.old)) }
+    ensures { (result, cells.new) ≡ in_cells (shifted_outcome expr offset (decode cells.old)) }
 {
     let lift = lift_of(offset);
     if !can_move(cells, wide(expr), lift) {

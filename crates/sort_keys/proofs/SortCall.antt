@@ -10,10 +10,10 @@ use lib.ListN.{length, get_or, take, replicate}
 use lib.Seq.{take_all}
 use Rattle.arena.specs.Node.{Node}
 use Rattle.arena.specs.Expression.{Expression, Expressions, lit, expressions, those}
-use Rattle.arena.specs.Arena.{Sound, Small, AllSmall, Placed, placed, full, and_then, addExpressions}
+use Rattle.arena.specs.Arena.{Sound, Small, AllSmall, Placed, placed, full, and_then, add_expressions}
 use Rattle.arena.specs.Layout.{count, decode as nodes, encode}
-use Rattle.arena.specs.Calls.{inCells}
-use Rattle.arena.specs.Inner.{Holds, mapAll}
+use Rattle.arena.specs.Calls.{in_cells}
+use Rattle.arena.specs.Inner.{Holds, map_all}
 use Rattle.arena.proofs.Growing.{add-expressions}
 use Rattle.arena.proofs.Layouts.{length-decode, coded-cells}
 use Rattle.arena.proofs.Walking.{memo-none}
@@ -21,12 +21,12 @@ use Rattle.classes.specs.Layout.{decode}
 use Rattle.classes.specs.Inner.{Held}
 use Rattle.questions.specs.Inner.{Marked}
 use Rattle.classes.specs.declared.Group.{Group}
-use Rattle.normal.specs.Calls.{normalForms}
-use Rattle.sort_keys.specs.Keys.{exprsOf, withExprs, sorting}
+use Rattle.normal.specs.Calls.{normal_forms}
+use Rattle.sort_keys.specs.Keys.{exprs_of, with_exprs, sorting}
 use Rattle.sort_keys.specs.Layout.{keys_of, sorted, unsorted}
-use Rattle.sort_keys.specs.Calls.{sortedBy}
+use Rattle.sort_keys.specs.Calls.{sorted_by}
 use Rattle.normal.specs.Inner.{Firsts, rewriting}
-use Rattle.sort_keys.specs.Inner.{KeysKnown, ReadyKeys, uniformBy, keptOf, toldSorted, SortedAll}
+use Rattle.sort_keys.specs.Inner.{KeysKnown, ReadyKeys, uniform_by, kept_of, told_sorted, SortedAll}
 use Rattle.sort_keys.specs.declared.Sorted.{Sorted}
 use Rattle.normal.proofs.Calling.{table-inside, rewriting-normals, whole_ready}
 use Rattle.normal.proofs.Steps.{ready-small}
@@ -34,8 +34,8 @@ use Rattle.sort_keys.proofs.KeyLaws.{without_fewer, with-below, with-fewer, keys
 use Rattle.sort_keys.proofs.Uniform.{kept-is}
 
 -- what is made of each of those expressions is small
-made-small : (F : Expression → Expression) (es : List Expression) (ks : List ℕ) → ((k : ℕ) → k < length ks → Small (F (get_or es (get_or ks k 0) (lit 0)))) → AllSmall (mapAll F (those es ks))
-unfolding mapAll those AllSmall
+made-small : (F : Expression → Expression) (es : List Expression) (ks : List ℕ) → ((k : ℕ) → k < length ks → Small (F (get_or es (get_or ks k 0) (lit 0)))) → AllSmall (map_all F (those es ks))
+unfolding map_all those AllSmall
 made-small F es [] h = tt
 made-small F es (k ∷ ks) h = (h 0 (omega arith), made-small F es ks (λ j l. h (suc j) (omega arith)))
 
@@ -49,7 +49,7 @@ module _ (s : List ℕ) (g : Group) (old : ℕ) (numbers firsts marks : List ℕ
         holds = h;
         there = omega arith;
         inside = table-inside s g old firsts h v all f;
-        memo-true = memo-none (rewriting old firsts s) (nodes s) n;
+        memo_true = memo-none (rewriting old firsts s) (nodes s) n;
         keys = subst (λ (n : ℕ). KeysKnown n numbers) (sym all) known;
       }
 
@@ -58,80 +58,80 @@ module _ (s : List ℕ) (g : Group) (old : ℕ) (numbers firsts marks : List ℕ
 
   -- what is added
   abbrev made : Expressions
-  made = mapAll F (those (expressions (nodes s)) (exprsOf (keys_of numbers)))
+  made = map_all F (those (expressions (nodes s)) (exprs_of (keys_of numbers)))
 
-  forms : addExpressions made (nodes s) ≡ normalForms (nodes s) (decode g) (exprsOf (keys_of numbers))
-  unfolding normalForms
-  forms = ap (λ (xs : Expressions). addExpressions xs (nodes s)) (rewriting-normals s g old firsts h v all f (those (expressions (nodes s)) (exprsOf (keys_of numbers))))
+  forms : add_expressions made (nodes s) ≡ normal_forms (nodes s) (decode g) (exprs_of (keys_of numbers))
+  unfolding normal_forms
+  forms = ap (λ (xs : Expressions). add_expressions xs (nodes s)) (rewriting-normals s g old firsts h v all f (those (expressions (nodes s)) (exprs_of (keys_of numbers))))
 
   all_small : AllSmall made
   all_small =
-      made-small F (expressions (nodes s)) (exprsOf (keys_of numbers))
+      made-small F (expressions (nodes s)) (exprs_of (keys_of numbers))
       (λ k l. let b : k < length numbers / 2 = omega (arith, exprs-count numbers) in
       rw (expr-at numbers k b) (ready-small old firsts s (replicate 0 0) (get_or numbers (2 * k) 0) (whole_ready s g old firsts h v all f (get_or numbers (2 * k) 0) (known.below k b) 0)))
 
   -- the outcome of the call
   abbrev outcome : Placed (List ℕ) → Sorted × List ℕ
-  outcome o = inCells (sortedBy (keys_of numbers) (nodes s) (decode g) o)
+  outcome o = in_cells (sorted_by (keys_of numbers) (nodes s) (decode g) o)
 
   -- the keys that are kept of what was placed
   abbrev kept : List ℕ → List Node → Placed Sorted
-  kept es ms = placed (sorted 0 (take 16 (keptOf ms old marks (withExprs es (keys_of numbers))))) ms
+  kept es ms = placed (sorted 0 (take 16 (kept_of ms old marks (with_exprs es (keys_of numbers))))) ms
 
   module _ (t : List ℕ) (out : Sorted) (a : SortedAll old firsts marks s t numbers out) where
-    refused-is : (k : ℕ) (last : Sorted) → last ≡ unsorted k → ◌≡◌ {A = Sorted × List ℕ} (last, s) (inCells (unsorted k, nodes s))
-    unfolding inCells
+    refused-is : (k : ℕ) (last : Sorted) → last ≡ unsorted k → ◌≡◌ {A = Sorted × List ℕ} (last, s) (in_cells (unsorted k, nodes s))
+    unfolding in_cells
     refused-is k last e = ap₂ {C = Sorted × List ℕ} (λ (x : Sorted) (y : List ℕ). (x, y)) e (sym (coded-cells s h))
 
     -- there was no room
-    pub sort-full : (out.number ≡ 0 → ⊥) → (last : Sorted) → last ≡ unsorted 3 → ◌≡◌ {A = Sorted × List ℕ} (last, s) (outcome (normalForms (nodes s) (decode g) (exprsOf (keys_of numbers))))
-    unfolding toldSorted and_then sortedBy
-    sort-full z last e = go (addExpressions made (nodes s)) refl
+    pub sort_full : (out.number ≡ 0 → ⊥) → (last : Sorted) → last ≡ unsorted 3 → ◌≡◌ {A = Sorted × List ℕ} (last, s) (outcome (normal_forms (nodes s) (decode g) (exprs_of (keys_of numbers))))
+    unfolding told_sorted and_then sorted_by
+    sort_full z last e = go (add_expressions made (nodes s)) refl
       where
-        none : full ≡ and_then (addExpressions made (nodes s)) kept
+        none : full ≡ and_then (add_expressions made (nodes s)) kept
         none = sym (rw (ne_eqb out.number 0 z)) ∙ a.is
 
-        go : (o : Placed (List ℕ)) → addExpressions made (nodes s) ≡ o → ◌≡◌ {A = Sorted × List ℕ} (last, s) (outcome (normalForms (nodes s) (decode g) (exprsOf (keys_of numbers))))
+        go : (o : Placed (List ℕ)) → add_expressions made (nodes s) ≡ o → ◌≡◌ {A = Sorted × List ℕ} (last, s) (outcome (normal_forms (nodes s) (decode g) (exprs_of (keys_of numbers))))
         go full q = refused-is 3 last e ∙ ap outcome (sym q ∙ forms)
         go (placed es ms) q = absurd (let e : full ≡ kept es ms = none ∙ ap (λ (o : Placed (List ℕ)). and_then o kept) q in let y : ◌≡◌ {A = ℕ} 0 1 = cc in omega arith)
 
     module _ (z : out.number ≡ 0) where
-      some : placed out (nodes t) ≡ and_then (addExpressions made (nodes s)) kept
-      unfolding toldSorted
+      some : placed out (nodes t) ≡ and_then (add_expressions made (nodes s)) kept
+      unfolding told_sorted
       some = sym (rw (eq-eqb out.number 0 z)) ∙ a.is
 
       -- more than 16 keys were given
-      pub sort-over : 16 < length numbers / 2 → (last : Sorted) → last ≡ unsorted 5 → ◌≡◌ {A = Sorted × List ℕ} (last, s) (outcome (normalForms (nodes s) (decode g) (exprsOf (keys_of numbers))))
-      unfolding and_then sortedBy
-      sort-over l last e = go (addExpressions made (nodes s)) refl
+      pub sort_over : 16 < length numbers / 2 → (last : Sorted) → last ≡ unsorted 5 → ◌≡◌ {A = Sorted × List ℕ} (last, s) (outcome (normal_forms (nodes s) (decode g) (exprs_of (keys_of numbers))))
+      unfolding and_then sorted_by
+      sort_over l last e = go (add_expressions made (nodes s)) refl
         where
-          go : (o : Placed (List ℕ)) → addExpressions made (nodes s) ≡ o → ◌≡◌ {A = Sorted × List ℕ} (last, s) (outcome (normalForms (nodes s) (decode g) (exprsOf (keys_of numbers))))
+          go : (o : Placed (List ℕ)) → add_expressions made (nodes s) ≡ o → ◌≡◌ {A = Sorted × List ℕ} (last, s) (outcome (normal_forms (nodes s) (decode g) (exprs_of (keys_of numbers))))
           go full q = absurd (let e : placed out (nodes t) ≡ full = some ∙ ap (λ (o : Placed (List ℕ)). and_then o kept) q in let y : ◌≡◌ {A = ℕ} 0 1 = cc in omega arith)
           go (placed es ms) q =
               let c : leb (length (keys_of numbers)) 16 ≡ false = lt-leb (length (keys_of numbers)) 16 (omega (arith, keys-count numbers)) in
-              let over : inCells (unsorted 5, nodes s) ≡ outcome (placed es ms) = rw c in
+              let over : in_cells (unsorted 5, nodes s) ≡ outcome (placed es ms) = rw c in
               refused-is 5 last e ∙ over ∙ ap outcome (sym q ∙ forms)
 
       -- the keys
-      pub sort-done : length numbers / 2 ≤ 16 → ◌≡◌ {A = Sorted × List ℕ} (out, t) (outcome (normalForms (nodes s) (decode g) (exprsOf (keys_of numbers))))
-      unfolding and_then sortedBy inCells
-      sort-done l = go (addExpressions made (nodes s)) refl
+      pub sort_done : length numbers / 2 ≤ 16 → ◌≡◌ {A = Sorted × List ℕ} (out, t) (outcome (normal_forms (nodes s) (decode g) (exprs_of (keys_of numbers))))
+      unfolding and_then sorted_by in_cells
+      sort_done l = go (add_expressions made (nodes s)) refl
         where
-          go : (o : Placed (List ℕ)) → addExpressions made (nodes s) ≡ o → ◌≡◌ {A = Sorted × List ℕ} (out, t) (outcome (normalForms (nodes s) (decode g) (exprsOf (keys_of numbers))))
+          go : (o : Placed (List ℕ)) → add_expressions made (nodes s) ≡ o → ◌≡◌ {A = Sorted × List ℕ} (out, t) (outcome (normal_forms (nodes s) (decode g) (exprs_of (keys_of numbers))))
           go full q = absurd (let e : placed out (nodes t) ≡ full = some ∙ ap (λ (o : Placed (List ℕ)). and_then o kept) q in let y : ◌≡◌ {A = ℕ} 0 1 = cc in omega arith)
           go (placed es ms) q =
               let ks = keys_of numbers in
               let e : placed out (nodes t) ≡ kept es ms = some ∙ ap (λ (o : Placed (List ℕ)). and_then o kept) q in
               let d : nodes t ≡ ms = cc in
-              let r : out ≡ sorted 0 (take 16 (keptOf ms old marks (withExprs es ks))) = cc in
+              let r : out ≡ sorted 0 (take 16 (kept_of ms old marks (with_exprs es ks))) = cc in
               let sound : Sound ms = subst Sound d a.holds.sound in
               let below = (add-expressions made (nodes s) h.sound all_small es ms q).below in
-              let few : length (keptOf ms old marks (withExprs es ks)) ≤ 16 = omega (arith, without_fewer (uniformBy ms old marks) (withExprs es ks), with-fewer es ks, keys-count numbers) in
-              let i : out ≡ sorted 0 (sorting ms (decode g) (withExprs es ks)) =
+              let few : length (kept_of ms old marks (with_exprs es ks)) ≤ 16 = omega (arith, without_fewer (uniform_by ms old marks) (with_exprs es ks), with-fewer es ks, keys-count numbers) in
+              let i : out ≡ sorted 0 (sorting ms (decode g) (with_exprs es ks)) =
               r
-              ∙ ap (sorted 0) (take_all 16 (keptOf ms old marks (withExprs es ks)) few
-              ∙ kept-is (nodes s) ms (decode g) old marks v.good (all ∙ sym (length-decode s)) m sound (withExprs es ks) (with-below (length ms) es ks below)) in
+              ∙ ap (sorted 0) (take_all 16 (kept_of ms old marks (with_exprs es ks)) few
+              ∙ kept-is (nodes s) ms (decode g) old marks v.good (all ∙ sym (length-decode s)) m sound (with_exprs es ks) (with-below (length ms) es ks below)) in
               let c : t ≡ encode ms = sym (coded-cells t a.holds) ∙ ap encode d in
               let b : leb (length ks) 16 ≡ true = le-leb (length ks) 16 (omega (arith, keys-count numbers)) in
-              let within : ◌≡◌ {A = Sorted × List ℕ} (sorted 0 (sorting ms (decode g) (withExprs es ks)), encode ms) (outcome (placed es ms)) = rw b in
+              let within : ◌≡◌ {A = Sorted × List ℕ} (sorted 0 (sorting ms (decode g) (with_exprs es ks)), encode ms) (outcome (placed es ms)) = rw b in
               ap₂ {C = Sorted × List ℕ} (λ (x : Sorted) (y : List ℕ). (x, y)) i c ∙ within ∙ ap outcome (sym q ∙ forms)

@@ -1,14 +1,14 @@
 -- What the inner functions ask and promise each other. The public contracts (Calls) cite nothing of this file.
 use Rattle.std.specs.Prelude.{ℕ, ◌+◌, ◌*◌, ◌/◌, ◌<◌, ◌≤◌, Bool, ◌&&◌, ◌||◌, List, [], ◌∷◌, ◌≡◌, eqb, ltb, leb, length, get_or, take, set}
 use Rattle.laws.specs.Tests.{if◌then◌else◌}
-use Rattle.arena.specs.Node.{Node, nodeAt}
+use Rattle.arena.specs.Node.{Node, node_at}
 use Rattle.arena.specs.Expression.{expressions, those}
-use Rattle.arena.specs.Arena.{Extends, Placed, placed, full, and_then, addExpressions}
+use Rattle.arena.specs.Arena.{Extends, Placed, placed, full, and_then, add_expressions}
 use Rattle.arena.specs.Layout.{count, decode}
-use Rattle.arena.specs.Inner.{Holds, Memo, mapAll}
-use Rattle.classes.specs.Layout.{isLiteral}
+use Rattle.arena.specs.Inner.{Holds, Memo, map_all}
+use Rattle.classes.specs.Layout.{is_literal}
 use Rattle.normal.specs.Inner.{rewriting}
-use Rattle.sort_keys.specs.Keys.{Key, exprsOf, withExprs}
+use Rattle.sort_keys.specs.Keys.{Key, exprs_of, with_exprs}
 use Rattle.sort_keys.specs.Layout.{keys_of, sorted}
 use Rattle.sort_keys.specs.declared.Sorted.{Sorted}
 
@@ -22,12 +22,12 @@ pub record ReadyKeys (old : ℕ) (firsts s memo numbers : List ℕ) : Type 0 whe
   pub holds : Holds s
   pub there : old ≤ count s
   pub inside : (k : ℕ) → k < old → get_or firsts k 0 < old
-  pub memo-true : Memo (rewriting old firsts s) (decode s) memo
+  pub memo_true : Memo (rewriting old firsts s) (decode s) memo
   pub keys : KeysKnown old numbers
 
 -- an expression is a uniform constant, by a table of the flavours of the old nodes' classes: a literal, or an old node whose class has a uniform constant
-unfoldable pub uniformBy : List Node → ℕ → List ℕ → ℕ → Bool
-uniformBy ns old marks e = isLiteral (nodeAt ns e) || (ltb e old && leb 2 (get_or marks e 0))
+unfoldable pub uniform_by : List Node → ℕ → List ℕ → ℕ → Bool
+uniform_by ns old marks e = is_literal (node_at ns e) || (ltb e old && leb 2 (get_or marks e 0))
 
 -- the keys with one more at their end; a seventeenth is not written
 unfoldable pub pushed : Sorted → ℕ → ℕ → Sorted
@@ -36,8 +36,8 @@ pushed out e options =
     else record { number = out.number; size = out.size + 1; keys = set out.keys out.size (e * 4 + options) }
 
 -- the keys with one more, if it is not a uniform constant
-unfoldable pub keptKey : List Node → ℕ → List ℕ → Sorted → ℕ → ℕ → Sorted
-keptKey ns old marks out e options = if uniformBy ns old marks e then out else pushed out e options
+unfoldable pub kept_key : List Node → ℕ → List ℕ → Sorted → ℕ → ℕ → Sorted
+kept_key ns old marks out e options = if uniform_by ns old marks e then out else pushed out e options
 
 -- the keys of a list without those whose expressions pass a test
 unfoldable pub without : (ℕ → Bool) → List Key → List Key
@@ -45,17 +45,17 @@ without p [] = []
 without p (k ∷ ks) = if p k.expr then without p ks else k ∷ without p ks
 
 -- the keys of a list that are no uniform constants, by such a table
-abbrev pub keptOf : List Node → ℕ → List ℕ → List Key → List Key
-keptOf ns old marks ks = without (uniformBy ns old marks) ks
+abbrev pub kept_of : List Node → ℕ → List ℕ → List Key → List Key
+kept_of ns old marks ks = without (uniform_by ns old marks) ks
 
 -- an answer with keys and the arena as a placing
-unfoldable pub toldSorted : Sorted → List Node → Placed Sorted
-toldSorted out ns = if eqb out.number 0 then placed out ns else full
+unfoldable pub told_sorted : Sorted → List Node → Placed Sorted
+told_sorted out ns = if eqb out.number 0 then placed out ns else full
 
 -- what the walk over keys promises: the normal forms were added, and the first 16 of the kept keys are answered; or there was no room
 pub record SortedAll (old : ℕ) (firsts marks s t numbers : List ℕ) (out : Sorted) : Type 0 where
   pub holds : Holds t
   pub extends : Extends (decode s) (decode t)
-  pub is : toldSorted out (decode t)
-      ≡ and_then (addExpressions (mapAll (rewriting old firsts s) (those (expressions (decode s)) (exprsOf (keys_of numbers)))) (decode s))
-      (λ es ms. placed (sorted 0 (take 16 (keptOf ms old marks (withExprs es (keys_of numbers))))) ms)
+  pub is : told_sorted out (decode t)
+      ≡ and_then (add_expressions (map_all (rewriting old firsts s) (those (expressions (decode s)) (exprs_of (keys_of numbers)))) (decode s))
+      (λ es ms. placed (sorted 0 (take 16 (kept_of ms old marks (with_exprs es (keys_of numbers))))) ms)

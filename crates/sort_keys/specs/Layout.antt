@@ -12,12 +12,12 @@ unfoldable pub keys_of : List ℕ → List Key
 keys_of numbers = table (λ k. record { expr = get_or numbers (2 * k) 0; options = get_or numbers (2 * k + 1) 0 }) (length numbers / 2)
 
 -- every key's options are 0 to 3
-unfoldable pub optionsKnown : List ℕ → Bool
-optionsKnown numbers = each (λ k. leb (get_or numbers (2 * k + 1) 0) 3) (length numbers / 2)
+unfoldable pub options_known : List ℕ → Bool
+options_known numbers = each (λ k. leb (get_or numbers (2 * k + 1) 0) 3) (length numbers / 2)
 
 -- no key is cut: the numbers come in pairs
-abbrev pub noneCut : List ℕ → Bool
-noneCut numbers = eqb (length numbers % 2) 0
+abbrev pub none_cut : List ℕ → Bool
+none_cut numbers = eqb (length numbers % 2) 0
 
 -- a key as one number
 unfoldable pub packed : Key → ℕ

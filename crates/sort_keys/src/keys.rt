@@ -2,15 +2,15 @@
 ghost use Rattle.std.specs.Prelude.{◌≡◌, ◌<◌, ◌≤◌, ◌+◌, ◌*◌, ◌/◌, ltb, length, get_or};
 ghost use Rattle.laws.specs.Tests.{each};
 ghost use Rattle.arena.specs.Layout.{count, decode as nodes};
-ghost use Rattle.arena.specs.Calls.{inCells};
+ghost use Rattle.arena.specs.Calls.{in_cells};
 ghost use Rattle.arena.specs.Inner.{Holds, Known};
 ghost use Rattle.classes.specs.Layout.{decode};
 ghost use Rattle.classes.specs.Inner.{Held};
-ghost use Rattle.normal.specs.Calls.{normalForms};
-ghost use Rattle.sort_keys.specs.Keys.{exprsOf};
-ghost use Rattle.sort_keys.specs.Layout.{keys_of, unsorted, optionsKnown};
-ghost use Rattle.sort_keys.specs.Calls.{sortedBy};
-ghost use Rattle.sort_keys.specs.Inner.{KeysKnown, ReadyKeys, SortedAll, uniformBy, pushed, keptKey};
+ghost use Rattle.normal.specs.Calls.{normal_forms};
+ghost use Rattle.sort_keys.specs.Keys.{exprs_of};
+ghost use Rattle.sort_keys.specs.Layout.{keys_of, unsorted, options_known};
+ghost use Rattle.sort_keys.specs.Calls.{sorted_by};
+ghost use Rattle.sort_keys.specs.Inner.{KeysKnown, ReadyKeys, SortedAll, uniform_by, pushed, kept_key};
 
 use crate::Sorted;
 use arena::Added;
@@ -33,7 +33,7 @@ pub fn no_keys(number: u32) -> Sorted
 
 // The options of the keys are 0 to 3.
 pub fn options_known(keys: &[u32]) -> bool
-    ensures { result ≡ optionsKnown keys.now }
+    ensures { result ≡ options_known keys.now }
 {
     let n = keys.len() / 2;
     let mut k = 0;
@@ -64,7 +64,7 @@ pub fn exprs_below(keys: &[u32], n: usize) -> bool
 // An expression is a uniform constant: a literal, or one of the old nodes whose class has a uniform constant.
 fn is_uniform_constant(cells: &[u32; 11265], marks: &[u32; 1024], old: usize, e: u32) -> bool
     requires { Known cells.now e × (old ≤ 1024) }
-    ensures { result ≡ uniformBy (nodes cells.now) old marks.now e }
+    ensures { result ≡ uniform_by (nodes cells.now) old marks.now e }
 {
     let i = wide(e);
     if cell_of(cells, i, 0) == 2 {
@@ -101,7 +101,7 @@ fn keep(
     options: u32,
 ) -> Sorted
     requires { (Known cells.now e × (old ≤ 1024)) × (options ≤ 3) }
-    ensures { result ≡ keptKey (nodes cells.now) old marks.now out e options }
+    ensures { result ≡ kept_key (nodes cells.now) old marks.now out e options }
 {
     if is_uniform_constant(cells, marks, old, e) {
         return out;
@@ -138,7 +138,7 @@ fn sort_all(
 // every cell is as it was.
 pub fn sort_in(cells: &mut [u32; 11265], g: Group, keys: &[u32]) -> Sorted
     requires { (Holds cells.old × KeysKnown (count cells.old) keys.now) × Held (nodes cells.old) g }
-    ensures { (result, cells.new) ≡ inCells (sortedBy (keys_of keys.now) (nodes cells.old) (decode g) (normalForms (nodes cells.old) (decode g) (exprsOf (keys_of keys.now)))) }
+    ensures { (result, cells.new) ≡ in_cells (sorted_by (keys_of keys.now) (nodes cells.old) (decode g) (normal_forms (nodes cells.old) (decode g) (exprs_of (keys_of keys.now)))) }
 {
     let old = node_count(cells);
     let firsts = class_firsts(g, old);

@@ -7,7 +7,7 @@
 pub mod keys;
 
 ghost use Rattle.std.specs.Prelude.{◌≡◌};
-ghost use Rattle.sort_keys.specs.Calls.{normalizedKey, normalizedKeys, keyIs};
+ghost use Rattle.sort_keys.specs.Calls.{normalized_key, normalized_keys, key_is};
 
 use arena::Added;
 use arena::cells::node_count;
@@ -34,7 +34,7 @@ pub struct Sorted {
 
 // An answer as a key with its options.
 fn key_is(answer: Added, options: u32) -> KeyIs
-    ensures { result ≡ keyIs options answer }
+    ensures { result ≡ key_is options answer }
 {
     match answer {
         Added::Number(e) => KeyIs::Is(e, options),
@@ -44,7 +44,7 @@ fn key_is(answer: Added, options: u32) -> KeyIs
 
 // The normal form of a sort key, its options kept. Refusals: 12, 11, 1, 3.
 pub fn normalize_sort_expr(cells: &mut [u32; 11265], group: Group, expr: u32, options: u32) -> KeyIs
-    ensures { (result, cells.new) ≡ normalizedKey expr options cells.old group }
+    ensures { (result, cells.new) ≡ normalized_key expr options cells.old group }
 {
     if 3 < options {
         return KeyIs::Refused(12);
@@ -56,7 +56,7 @@ pub fn normalize_sort_expr(cells: &mut [u32; 11265], group: Group, expr: u32, op
 // The normal forms of sort keys, lent as expression and options one after the other. A key whose normal form is a
 // uniform constant is dropped; doubles stay. Refusals: 12, 11, 1, 3, 5.
 pub fn normalize_sort_exprs(cells: &mut [u32; 11265], group: Group, keys: &[u32]) -> Sorted
-    ensures { (result, cells.new) ≡ normalizedKeys keys.now cells.old group }
+    ensures { (result, cells.new) ≡ normalized_keys keys.now cells.old group }
 {
     if !options_known(keys) {
         return no_keys(12);

@@ -12,22 +12,22 @@ use lib.IntN.{ℤ}
 use lib.ListN.{length, get_or, get_or-eq_default}
 use lib.Seq.{length-take-le}
 use Rattle.laws.specs.Tests.{if◌then◌else◌, each}
-use Rattle.laws.proofs.Booleans.{true-not-false, and_right}
-use Rattle.laws.proofs.Table.{getD-table}
+use Rattle.laws.proofs.Booleans.{true_not_false, and_right}
+use Rattle.laws.proofs.Table.{get_or-table}
 use Rattle.arena.specs.Node.{Node}
-use Rattle.arena.specs.Expression.{expressionAt}
-use Rattle.arena.specs.Arena.{Placed, placed, full, addExpression}
+use Rattle.arena.specs.Expression.{expression_at}
+use Rattle.arena.specs.Arena.{Placed, placed, full, add_expression}
 use Rattle.shifting.specs.Shift.{moved, shifted}
 use Rattle.arena.specs.Layout.{count, lawful, decode as nodes}
-use Rattle.arena.specs.Calls.{inCells}
+use Rattle.arena.specs.Calls.{in_cells}
 use Rattle.arena.proofs.Growing.{between}
 use Rattle.classes.specs.Class.{Class}
 use Rattle.classes.specs.Layout.{decode as classes}
 use Rattle.classes.specs.declared.Group.{Group}
-use Rattle.orderings.specs.Ordering.{exprOf, optionsOf, sameKey, built}
-use Rattle.orderings.specs.Lists.{orderingAt, outputOrdering, builtAll, joinSuffix}
-use Rattle.orderings.specs.Layout.{row, keys_of as keysIn, encode, decode, place_in, lawfulList, keysInside}
-use Rattle.orderings.specs.Calls.{listNumber, twoNumber, fits, askList, listed, clearAnswer}
+use Rattle.orderings.specs.Ordering.{expr_of, options_of, same_key, built}
+use Rattle.orderings.specs.Lists.{ordering_at, output_ordering, built_all, join_suffix}
+use Rattle.orderings.specs.Layout.{row, keys_of as keys_in, encode, decode, place_in, lawful_list, keys_inside}
+use Rattle.orderings.specs.Calls.{list_number, two_number, fits, ask_list, listed, clear_answer}
 use Rattle.orderings.specs.declared.Ordering.{Ordering}
 use Rattle.orderings.specs.declared.Orderings.{Orderings}
 use Rattle.orderings.specs.declared.Listed.{Listed}
@@ -37,18 +37,18 @@ use Rattle.orderings.proofs.Appending.{AllShort, told}
 use Rattle.orderings.proofs.ListChecks.{lawful-count, lawful-size}
 use Rattle.reduction.specs.Fewer.{length-shortened, length_removed}
 use Rattle.reduction.specs.Reduction.{reduced}
-use Rattle.reduction.specs.Lent.{listsLent}
-use Rattle.reduction.specs.Calls.{reducedList, lentNumber, addAnswer, newAnswer, extendNumber, extendAnswer}
+use Rattle.reduction.specs.Lent.{lists_lent}
+use Rattle.reduction.specs.Calls.{reduced_list, lent_number, add_answer, new_answer, extend_number, extend_answer}
 use Rattle.reduction.proofs.Kept.{Cuts, begun, cut, gone, reduced-cuts}
 use Rattle.reduction.proofs.Adding.{fits-few, fits-short}
-use Rattle.ordering_joins.specs.Offset.{listsMove, shiftedKeys, shiftedLists}
-use Rattle.ordering_joins.specs.Calls.{noOutput, outputOf, outputAnswer, joinAnswer, offsetBy, offsetList, offsetAnswer}
-use Rattle.ordering_joins.proofs.Offsets.{afterKey, afterOrdering}
+use Rattle.ordering_joins.specs.Offset.{lists_move, shifted_keys, shifted_lists}
+use Rattle.ordering_joins.specs.Calls.{no_output, output_of, output_answer, join_answer, offset_by, offset_list, offset_answer}
+use Rattle.ordering_joins.proofs.Offsets.{after_key, after_ordering}
 use Rattle.ordering_laws.proofs.Reduces.{cuts-each}
-use Rattle.normal.specs.Calls.{normalForms, onChecked}
-use Rattle.sort_keys.specs.Keys.{Key, exprsOf, withExprs, ordersNothing, sorting}
+use Rattle.normal.specs.Calls.{normal_forms, on_checked}
+use Rattle.sort_keys.specs.Keys.{Key, exprs_of, with_exprs, orders_nothing, sorting}
 use Rattle.sort_keys.specs.Layout.{keys_of, sorted, unsorted}
-use Rattle.sort_keys.specs.Calls.{sortedBy, normalizeSortExprs, keysNumber, normalizedKeys}
+use Rattle.sort_keys.specs.Calls.{sorted_by, normalize_sort_exprs, keys_number, normalized_keys}
 use Rattle.sort_keys.specs.declared.Sorted.{Sorted}
 use Rattle.sort_keys.proofs.KeyLaws.{with-fewer}
 use Rattle.states.specs.Inner.{ListFits, ListFitsIfDone}
@@ -64,14 +64,14 @@ unfolding encode
 count-encode os = refl
 
 -- the layout of at most 32 orderings of at most 16 keys fits
-pub encode-fits : (os : List (List ℕ)) → length os ≤ 32 → ((i : ℕ) → i < length os → length (orderingAt os i) ≤ 16) → ListFits (encode os)
+pub encode-fits : (os : List (List ℕ)) → length os ≤ 32 → ((i : ℕ) → i < length os → length (ordering_at os i) ≤ 16) → ListFits (encode os)
 encode-fits os few short = record { count = counted; sizes = λ i. size i (dec_lt i (length os)) }
   where
     counted : (encode os).count < 65536
     counted = omega (arith, count-encode os)
 
-    at : (i : ℕ) → length (orderingAt os i) ≤ 16 → (place_in (encode os) i).size < 65536
-    at i b = subst (λ (r : Ordering). r.size < 65536) (sym (place-encode os i)) (row_fits (orderingAt os i) b)
+    at : (i : ℕ) → length (ordering_at os i) ≤ 16 → (place_in (encode os) i).size < 65536
+    at i b = subst (λ (r : Ordering). r.size < 65536) (sym (place-encode os i)) (row_fits (ordering_at os i) b)
 
     size : (i : ℕ) → Dec (i < length os) → (place_in (encode os) i).size < 65536
     size i (yes l) = at i (short i l)
@@ -92,12 +92,12 @@ checked-fits k r g f = go (eqb k 0) refl
   where
     go : (b : Bool) → eqb k 0 ≡ b → ListFitsIfDone (if b then r else told k g)
     go true q = f (eqb-true k 0 q)
-    go false q = λ e. absurd (true-not-false (ap (λ (x : ℕ). eqb x 0) e) q)
+    go false q = λ e. absurd (true_not_false (ap (λ (x : ℕ). eqb x 0) e) q)
 
 -- clearing
-pub clear-fits : (cells : List ℕ) (g : Orderings) → ListFitsIfDone (clearAnswer cells g)
-unfolding clearAnswer askList
-clear-fits cells g = checked-fits (listNumber cells g) (told 0 (encode [])) g (λ z e. none-fits)
+pub clear-fits : (cells : List ℕ) (g : Orderings) → ListFitsIfDone (clear_answer cells g)
+unfolding clear_answer ask_list
+clear-fits cells g = checked-fits (list_number cells g) (told 0 (encode [])) g (λ z e. none-fits)
 
 -- a list that was made and is not too large
 listed-fits : (g : Orderings) (os : List (List ℕ)) → ListFitsIfDone (listed g os)
@@ -111,41 +111,41 @@ cuts-fewer (cut {ps} t i j n o l) = omega (arith, cuts-fewer t, length-shortened
 cuts-fewer (gone {ps} t i j n o e) = omega (arith, cuts-fewer t, length_removed ps i)
 
 -- a list that fits, reduced
-reduced-fits : (os : List (List ℕ)) → fits os ≡ true → ListFits (encode (reduced sameKey os).orderings)
+reduced-fits : (os : List (List ℕ)) → fits os ≡ true → ListFits (encode (reduced same_key os).orderings)
 reduced-fits os f =
-    let t = reduced-cuts sameKey os in
-    encode-fits (reduced sameKey os).orderings (omega (arith, cuts-fewer t, fits-few os f))
-    (cuts-each sameKey (λ (o : List ℕ). length o ≤ 16) (λ o n h a b. omega (arith, length-take-le n o b)) t (fits-short os f))
+    let t = reduced-cuts same_key os in
+    encode-fits (reduced same_key os).orderings (omega (arith, cuts-fewer t, fits-few os f))
+    (cuts-each same_key (λ (o : List ℕ). length o ≤ 16) (λ o n h a b. omega (arith, length-take-le n o b)) t (fits-short os f))
 
 -- a list that was made and reduced
-pub reduced-list-fits : (g : Orderings) (os : List (List ℕ)) → ListFitsIfDone (reducedList g os)
-unfolding reducedList
-reduced-list-fits g os = tested-fits (fits os) (reduced sameKey os).orderings 5 g (λ z. omega arith) (reduced-fits os)
+pub reduced_list-fits : (g : Orderings) (os : List (List ℕ)) → ListFitsIfDone (reduced_list g os)
+unfolding reduced_list
+reduced_list-fits g os = tested-fits (fits os) (reduced same_key os).orderings 5 g (λ z. omega arith) (reduced-fits os)
 
 -- adding
-pub add-fits : (cells : List ℕ) (g : Orderings) (numbers : List ℕ) → ListFitsIfDone (addAnswer cells g numbers)
-unfolding addAnswer
+pub add-fits : (cells : List ℕ) (g : Orderings) (numbers : List ℕ) → ListFitsIfDone (add_answer cells g numbers)
+unfolding add_answer
 add-fits cells g numbers =
-    let os = decode g ++ builtAll (listsLent numbers) in
-    checked-fits (lentNumber cells g numbers) (reducedList g os) g (λ z. reduced-list-fits g os)
+    let os = decode g ++ built_all (lists_lent numbers) in
+    checked-fits (lent_number cells g numbers) (reduced_list g os) g (λ z. reduced_list-fits g os)
 
 -- a new list
-pub new-fits : (cells numbers : List ℕ) → ListFitsIfDone (newAnswer cells numbers)
+pub new-fits : (cells numbers : List ℕ) → ListFitsIfDone (new_answer cells numbers)
 new-fits cells numbers = add-fits cells (encode []) numbers
 
 -- extending
-pub extend_fits : (cells : List ℕ) (g : Orderings) (numbers : List ℕ) → ListFitsIfDone (extendAnswer cells g numbers)
-unfolding extendAnswer
+pub extend_fits : (cells : List ℕ) (g : Orderings) (numbers : List ℕ) → ListFitsIfDone (extend_answer cells g numbers)
+unfolding extend_answer
 extend_fits cells g numbers =
-    let os = decode g ++ listsLent numbers in
-    checked-fits (extendNumber cells g numbers) (reducedList g os) g (λ z. reduced-list-fits g os)
+    let os = decode g ++ lists_lent numbers in
+    checked-fits (extend_number cells g numbers) (reduced_list g os) g (λ z. reduced_list-fits g os)
 
 -- joining
-pub suffix-fits : (cells : List ℕ) (g h : Orderings) → ListFitsIfDone (joinAnswer cells g h)
-unfolding joinAnswer
+pub suffix-fits : (cells : List ℕ) (g h : Orderings) → ListFitsIfDone (join_answer cells g h)
+unfolding join_answer
 suffix-fits cells g h =
-    let os = joinSuffix (decode g) (decode h) in
-    checked-fits (twoNumber cells g h) (listed g os) g (λ z. listed-fits g os)
+    let os = join_suffix (decode g) (decode h) in
+    checked-fits (two_number cells g h) (listed g os) g (λ z. listed-fits g os)
 
 -- one ordering before others
 cons-short : (o : List ℕ) (os : List (List ℕ)) → length o ≤ 16 → AllShort os → AllShort (o ∷ os)
@@ -155,25 +155,25 @@ cons-short o os b h (suc i) l = h i (omega arith)
 -- shifting keeps how many keys and orderings there are, but for keys that become the same
 module _ (to : ℕ → Option ℕ) (ns : List Node) where
   -- as many keys
-  keys-counted : (ks : List ℕ) (ms : List Node) (js : List ℕ) (ps : List Node) → shiftedKeys to ns ks ms ≡ placed js ps → length js ≡ length ks
-  unfolding shiftedKeys
+  keys-counted : (ks : List ℕ) (ms : List Node) (js : List ℕ) (ps : List Node) → shifted_keys to ns ks ms ≡ placed js ps → length js ≡ length ks
+  unfolding shifted_keys
   keys-counted [] ms js ps e = let p : ◌≡◌ {A = List ℕ} [] js = cc in ap (λ (l : List ℕ). length l) (sym p)
   keys-counted (k ∷ ks) ms js ps e =
-      let b = between (addExpression (shifted to (expressionAt ns (exprOf k))) ms) (afterKey to ns k ks) js ps e in
-      let c = between (shiftedKeys to ns ks b.arena) (λ rest qs. placed ((b.answer * 4 + optionsOf k) ∷ rest) qs) js ps b.then in
-      let t : placed ((b.answer * 4 + optionsOf k) ∷ c.answer) c.arena ≡ placed js ps = c.then in
-      let p : (b.answer * 4 + optionsOf k) ∷ c.answer ≡ js = cc t in
+      let b = between (add_expression (shifted to (expression_at ns (expr_of k))) ms) (after_key to ns k ks) js ps e in
+      let c = between (shifted_keys to ns ks b.arena) (λ rest qs. placed ((b.answer * 4 + options_of k) ∷ rest) qs) js ps b.then in
+      let t : placed ((b.answer * 4 + options_of k) ∷ c.answer) c.arena ≡ placed js ps = c.then in
+      let p : (b.answer * 4 + options_of k) ∷ c.answer ≡ js = cc t in
       ap (λ (l : List ℕ). length l) (sym p) ∙ ap suc (keys-counted ks b.arena c.answer c.arena c.first)
 
   -- as many orderings, none of which is longer
-  lists-fit : (os : List (List ℕ)) → AllShort os → (ms : List Node) (qs : List (List ℕ)) (ps : List Node) → shiftedLists to ns os ms ≡ placed qs ps → (length qs ≡ length os) × AllShort qs
-  unfolding shiftedLists
+  lists-fit : (os : List (List ℕ)) → AllShort os → (ms : List Node) (qs : List (List ℕ)) (ps : List Node) → shifted_lists to ns os ms ≡ placed qs ps → (length qs ≡ length os) × AllShort qs
+  unfolding shifted_lists
   lists-fit [] h ms qs ps e =
       let p : ◌≡◌ {A = List (List ℕ)} [] qs = cc in
       subst (λ (l : List (List ℕ)). (length l ≡ 0) × AllShort l) p (refl, λ i l. absurd (omega arith))
   lists-fit (o ∷ os) h ms qs ps e =
-      let b = between (shiftedKeys to ns o ms) (λ ks ts. afterOrdering to ns os (built ks) ts) qs ps e in
-      let c = between (shiftedLists to ns os b.arena) (λ rest ts. placed (built b.answer ∷ rest) ts) qs ps b.then in
+      let b = between (shifted_keys to ns o ms) (λ ks ts. after_ordering to ns os (built ks) ts) qs ps e in
+      let c = between (shifted_lists to ns os b.arena) (λ rest ts. placed (built b.answer ∷ rest) ts) qs ps b.then in
       let t : placed (built b.answer ∷ c.answer) c.arena ≡ placed qs ps = c.then in
       let p : built b.answer ∷ c.answer ≡ qs = cc t in
       let r = lists-fit os (λ i l. h (suc i) (omega arith)) b.arena c.answer c.arena c.first in
@@ -187,50 +187,50 @@ passed_first true b e = refl
 passed_first false b e = absurd (omega arith)
 
 -- a list that passes the check has at most 32 orderings of at most 16 keys
-module _ (cells : List ℕ) (g : Orderings) (z : listNumber cells g ≡ 0) where
+module _ (cells : List ℕ) (g : Orderings) (z : list_number cells g ≡ 0) where
   -- it is lawful
-  passed-lawful : lawfulList g ≡ true
-  unfolding listNumber
-  passed-lawful = and_right (lawful cells) (lawfulList g) (passed_first (lawful cells && lawfulList g) (keysInside (count cells) g) z)
+  passed-lawful : lawful_list g ≡ true
+  unfolding list_number
+  passed-lawful = and_right (lawful cells) (lawful_list g) (passed_first (lawful cells && lawful_list g) (keys_inside (count cells) g) z)
 
   -- so none of its orderings has more than 16 keys
   passed-short : AllShort (decode g)
   unfolding decode
   passed-short i l =
       let b : i < g.count = omega (arith, length-decode g) in
-      let e = getD-table (λ j. keysIn (place_in g j)) g.count i [] b in
+      let e = get_or-table (λ j. keys_in (place_in g j)) g.count i [] b in
       let n = ap (λ (o : List ℕ). length o) e ∙ size_is (place_in g i) in
       omega (arith, n, lawful-size g passed-lawful i b)
 
 -- shifting
-pub offset-fits : (offset : ℤ) (cells : List ℕ) (g : Orderings) → ListFitsIfDone (offsetAnswer offset cells g).0
-unfolding offsetAnswer inCells offsetList offsetBy
-offset-fits offset cells g = go (eqb (listNumber cells g) 0) refl (listsMove (moved offset) (nodes cells) (decode g))
+pub offset_fits : (offset : ℤ) (cells : List ℕ) (g : Orderings) → ListFitsIfDone (offset_answer offset cells g).0
+unfolding offset_answer in_cells offset_list offset_by
+offset_fits offset cells g = go (eqb (list_number cells g) 0) refl (lists_move (moved offset) (nodes cells) (decode g))
   where
     made : Placed (List (List ℕ))
-    made = shiftedLists (moved offset) (nodes cells) (decode g) (nodes cells)
+    made = shifted_lists (moved offset) (nodes cells) (decode g) (nodes cells)
 
-    by : listNumber cells g ≡ 0 → (p : Placed (List (List ℕ))) → made ≡ p → ListFitsIfDone (offsetBy g (nodes cells) p).0
+    by : list_number cells g ≡ 0 → (p : Placed (List (List ℕ))) → made ≡ p → ListFitsIfDone (offset_by g (nodes cells) p).0
     by z (placed os ms) q e =
         let w = lists-fit (moved offset) (nodes cells) (decode g) (passed-short cells g z) (nodes cells) os ms q in
         encode-fits os (omega (arith, w.0, length-decode g, lawful-count g (passed-lawful cells g z))) w.1
     by z full q e = absurd (omega arith)
 
-    go : (p : Bool) → eqb (listNumber cells g) 0 ≡ p → (b : Bool)
-        → ListFitsIfDone (if p then inCells (if b then offsetBy g (nodes cells) made else (told 10 g, nodes cells)) else (told (listNumber cells g) g, cells)).0
-    go true q true = by (eqb-true (listNumber cells g) 0 q) made refl
+    go : (p : Bool) → eqb (list_number cells g) 0 ≡ p → (b : Bool)
+        → ListFitsIfDone (if p then in_cells (if b then offset_by g (nodes cells) made else (told 10 g, nodes cells)) else (told (list_number cells g) g, cells)).0
+    go true q true = by (eqb-true (list_number cells g) 0 q) made refl
     go true q false = λ e. absurd (omega arith)
-    go false q b = λ e. absurd (true-not-false (ap (λ (x : ℕ). eqb x 0) e) q)
+    go false q b = λ e. absurd (true_not_false (ap (λ (x : ℕ). eqb x 0) e) q)
 
 -- a joined ordering fits, also where it is refused
-pub output-fits : (cells : List ℕ) (g : Orderings) → (outputAnswer cells g).ordering.size < 65536
-unfolding askList outputOf noOutput
-output-fits cells g = go (eqb (listNumber cells g) 0) (leb (length o) 16) refl
+pub output-fits : (cells : List ℕ) (g : Orderings) → (output_answer cells g).ordering.size < 65536
+unfolding ask_list output_of no_output
+output-fits cells g = go (eqb (list_number cells g) 0) (leb (length o) 16) refl
   where
     o : List ℕ
-    o = outputOrdering (decode g)
+    o = output_ordering (decode g)
 
-    go : (p q : Bool) → leb (length o) 16 ≡ q → (if p then (if q then record { number = 0; ordering = row o } else noOutput 5) else noOutput (listNumber cells g)).ordering.size < 65536
+    go : (p q : Bool) → leb (length o) 16 ≡ q → (if p then (if q then record { number = 0; ordering = row o } else no_output 5) else no_output (list_number cells g)).ordering.size < 65536
     go true true e = row_fits o (leb-true (length o) 16 e)
     go true false e = row_fits [] (omega arith)
     go false q e = row_fits [] (omega arith)
@@ -244,7 +244,7 @@ sorted-size k ks l = omega arith
 sorting-fewer : (ns : List Node) (cs : List Class) (ks : List Key) → length (sorting ns cs ks) ≤ length ks
 unfolding sorting
 sorting-fewer ns cs [] = omega arith
-sorting-fewer ns cs (k ∷ ks) = go (ordersNothing ns cs k) (sorting-fewer ns cs ks)
+sorting-fewer ns cs (k ∷ ks) = go (orders_nothing ns cs k) (sorting-fewer ns cs ks)
   where
     go : (b : Bool) → length (sorting ns cs ks) ≤ length ks → length (if b then sorting ns cs ks else k ∷ sorting ns cs ks) ≤ length (k ∷ ks)
     go true h = omega arith
@@ -253,32 +253,32 @@ sorting-fewer ns cs (k ∷ ks) = go (ordersNothing ns cs k) (sorting-fewer ns cs
 -- sorted keys fit, also where they are refused
 module _ (ks : List Key) (ns : List Node) (cs : List Class) where
   -- after their normal forms were placed
-  sorted-by-fits : (p : Placed (List ℕ)) → (sortedBy ks ns cs p).0.size < 65536
-  unfolding sortedBy
-  sorted-by-fits (placed es ms) = go (leb (length ks) 16) refl
+  sorted_by-fits : (p : Placed (List ℕ)) → (sorted_by ks ns cs p).0.size < 65536
+  unfolding sorted_by
+  sorted_by-fits (placed es ms) = go (leb (length ks) 16) refl
     where
       by : Bool → Sorted × List Node
-      by b = if b then (sorted 0 (sorting ms cs (withExprs es ks)), ms) else (unsorted 5, ns)
+      by b = if b then (sorted 0 (sorting ms cs (with_exprs es ks)), ms) else (unsorted 5, ns)
 
       go : (b : Bool) → leb (length ks) 16 ≡ b → (by b).0.size < 65536
-      go true e = sorted-size 0 (sorting ms cs (withExprs es ks)) (omega (arith, sorting-fewer ms cs (withExprs es ks), with-fewer es ks, leb-true (length ks) 16 e))
+      go true e = sorted-size 0 (sorting ms cs (with_exprs es ks)) (omega (arith, sorting-fewer ms cs (with_exprs es ks), with-fewer es ks, leb-true (length ks) 16 e))
       go false e = sorted-size 5 [] (omega arith)
-  sorted-by-fits full = sorted-size 3 [] (omega arith)
+  sorted_by-fits full = sorted-size 3 [] (omega arith)
 
   -- after their expressions were looked at
-  sort-fits : (normalizeSortExprs ks ns cs).0.size < 65536
-  unfolding normalizeSortExprs
-  sort-fits = go (each (λ k. ltb (get_or (exprsOf ks) k 0) (length ns)) (length ks))
+  sort_fits : (normalize_sort_exprs ks ns cs).0.size < 65536
+  unfolding normalize_sort_exprs
+  sort_fits = go (each (λ k. ltb (get_or (exprs_of ks) k 0) (length ns)) (length ks))
     where
-      go : (b : Bool) → (if b then sortedBy ks ns cs (normalForms ns cs (exprsOf ks)) else (unsorted 1, ns)).0.size < 65536
-      go true = sorted-by-fits (normalForms ns cs (exprsOf ks))
+      go : (b : Bool) → (if b then sorted_by ks ns cs (normal_forms ns cs (exprs_of ks)) else (unsorted 1, ns)).0.size < 65536
+      go true = sorted_by-fits (normal_forms ns cs (exprs_of ks))
       go false = sorted-size 1 [] (omega arith)
 
 -- on lent cells and a lent group
-pub sorted-fits : (numbers cells : List ℕ) (g : Group) → (normalizedKeys numbers cells g).0.size < 65536
-unfolding onChecked inCells
-sorted-fits numbers cells g = go (eqb (keysNumber numbers cells g) 0)
+pub sorted-fits : (numbers cells : List ℕ) (g : Group) → (normalized_keys numbers cells g).0.size < 65536
+unfolding on_checked in_cells
+sorted-fits numbers cells g = go (eqb (keys_number numbers cells g) 0)
   where
-    go : (b : Bool) → (if b then inCells (normalizeSortExprs (keys_of numbers) (nodes cells) (classes g)) else (unsorted (keysNumber numbers cells g), cells)).0.size < 65536
-    go true = sort-fits (keys_of numbers) (nodes cells) (classes g)
-    go false = sorted-size (keysNumber numbers cells g) [] (omega arith)
+    go : (b : Bool) → (if b then in_cells (normalize_sort_exprs (keys_of numbers) (nodes cells) (classes g)) else (unsorted (keys_number numbers cells g), cells)).0.size < 65536
+    go true = sort_fits (keys_of numbers) (nodes cells) (classes g)
+    go false = sorted-size (keys_number numbers cells g) [] (omega arith)

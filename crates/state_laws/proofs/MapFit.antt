@@ -9,30 +9,30 @@ use native.Mathlib.Omega.{arith}
 use lib.Dec.{eqb}
 use lib.ListN.{length, get_or-eq_default}
 use Rattle.laws.specs.Tests.{if◌then◌else◌}
-use Rattle.laws.proofs.Booleans.{true-not-false}
+use Rattle.laws.proofs.Booleans.{true_not_false}
 use Rattle.arena.specs.Layout.{count}
 use Rattle.arena.proofs.Layouts.{lawful-holds}
-use Rattle.orderings.specs.Ordering.{exprOf}
+use Rattle.orderings.specs.Ordering.{expr_of}
 use Rattle.dependencies.specs.Map.{Dependent, entry_at, inserted, fits}
-use Rattle.dependencies.specs.Layout.{isThere, numberOr0, row, encode, decode}
-use Rattle.dependencies.specs.Calls.{mapNumber, key_of, insertNumber, judged, insertAnswer}
+use Rattle.dependencies.specs.Layout.{is_there, number_or0, row, encode, decode}
+use Rattle.dependencies.specs.Calls.{map_number, key_of, insert_number, judged, insert_answer}
 use Rattle.dependencies.specs.declared.DependencyMap.{DependencyMap}
 use Rattle.dependencies.specs.declared.Given.{Given}
 use Rattle.dependencies.specs.declared.Inserted.{Inserted}
 use Rattle.dependencies.proofs.MapChecks.{number-arena}
 use Rattle.dependencies.proofs.MapCodec.{place-encode, decode-encode}
 use Rattle.dependency_laws.proofs.GoodMaps.{GoodMap, number-good}
-use Rattle.dependency_laws.proofs.InsertTheorems.{insert-valid}
+use Rattle.dependency_laws.proofs.InsertTheorems.{insert_valid}
 use Rattle.states.specs.Inner.{NodeFits, MapFits, MapFitsIfDone}
 
 -- an entry whose target is known and that has at most 16 dependencies fits
-row_fits : (n : ℕ) (x : Dependent) → n ≤ 1024 → exprOf (numberOr0 x.target) < n → length x.dependencies ≤ 16 → NodeFits (row x)
-unfolding row exprOf
+row_fits : (n : ℕ) (x : Dependent) → n ≤ 1024 → expr_of (number_or0 x.target) < n → length x.dependencies ≤ 16 → NodeFits (row x)
+unfolding row expr_of
 row_fits n x few target short = record { target = λ p. omega arith; size = omega arith }
 
 -- a place without an entry fits
 none-fits : NodeFits (row (record { key = 0; target = none; dependencies = [] }))
-unfolding row isThere numberOr0
+unfolding row is_there number_or0
 none-fits = record { target = λ p. omega arith; size = omega arith }
 
 -- as many keys as there are
@@ -49,7 +49,7 @@ good-fits n ds few g = record { count = omega (arith, g.few, count-encode ds); n
     at i (no l) = subst (λ (x : Dependent). NodeFits (row x)) (sym (get_or-eq_default ds (record { key = 0; target = none; dependencies = [] }) {n = i} (omega arith))) none-fits
 
 -- a map that passes the check fits, if it is the layout of its entries
-pub passed-fits : (cells : List ℕ) (m : DependencyMap) → encode (decode m) ≡ m → mapNumber cells m ≡ 0 → MapFits m
+pub passed-fits : (cells : List ℕ) (m : DependencyMap) → encode (decode m) ≡ m → map_number cells m ≡ 0 → MapFits m
 passed-fits cells m coded z = subst MapFits coded (good-fits (count cells) (decode m) (lawful-holds cells (number-arena cells m z)).few (number-good cells m z))
 
 -- an insert
@@ -59,21 +59,21 @@ module _ (cells : List ℕ) (m : DependencyMap) (e options : ℕ) (target depend
   after = inserted (decode m) (e * 4 + options) (key_of target) (key_of dependency)
 
   -- what it hands back is a layout
-  made : (insertAnswer cells m e options target dependency).number ≡ 0 → (insertAnswer cells m e options target dependency).map ≡ encode after
-  unfolding insertAnswer judged
-  made = go (eqb (insertNumber cells m e options target dependency) 0) (fits after) refl
+  made : (insert_answer cells m e options target dependency).number ≡ 0 → (insert_answer cells m e options target dependency).map ≡ encode after
+  unfolding insert_answer judged
+  made = go (eqb (insert_number cells m e options target dependency) 0) (fits after) refl
     where
       by : Bool → Bool → Inserted
-      by p q = if p then (if q then record { number = 0; map = encode after } else record { number = 5; map = m }) else record { number = insertNumber cells m e options target dependency; map = m }
+      by p q = if p then (if q then record { number = 0; map = encode after } else record { number = 5; map = m }) else record { number = insert_number cells m e options target dependency; map = m }
 
-      go : (p q : Bool) → eqb (insertNumber cells m e options target dependency) 0 ≡ p → (by p q).number ≡ 0 → (by p q).map ≡ encode after
+      go : (p q : Bool) → eqb (insert_number cells m e options target dependency) 0 ≡ p → (by p q).number ≡ 0 → (by p q).map ≡ encode after
       go true true s z = refl
       go true false s z = absurd (omega arith)
-      go false q s z = absurd (true-not-false (ap (λ (x : ℕ). eqb x 0) z) s)
+      go false q s z = absurd (true_not_false (ap (λ (x : ℕ). eqb x 0) z) s)
 
   -- so it fits
-  pub insert-fits : MapFitsIfDone (insertAnswer cells m e options target dependency)
+  pub insert-fits : MapFitsIfDone (insert_answer cells m e options target dependency)
   insert-fits z =
       subst MapFits (sym (made z))
       (passed-fits cells (encode after) (ap encode (decode-encode after))
-      (subst (λ (x : DependencyMap). mapNumber cells x ≡ 0) (made z) (insert-valid cells m e options target dependency z)))
+      (subst (λ (x : DependencyMap). map_number cells x ≡ 0) (made z) (insert_valid cells m e options target dependency z)))

@@ -12,19 +12,19 @@ use lib.ListN.{length, get_or, length-append, get_or-append}
 use lib.Seq.{get_or-append-add}
 use Rattle.laws.specs.Tests.{if◌then◌else◌}
 use Rattle.laws.specs.Lists.{table}
-use Rattle.laws.proofs.Table.{table_is, table-cong}
+use Rattle.laws.proofs.Table.{table_is, table_cong}
 use Rattle.classes.specs.declared.Group.{Group}
 use Rattle.demands.proofs.Valid.{Tables}
 use Rattle.orderings.specs.Layout.{row, place_in}
 use Rattle.orderings.specs.declared.Orderings.{Orderings}
 use Rattle.orderings.proofs.ListChecks.{Sized}
-use Rattle.dependencies.specs.Layout.{unused, place_in as entryIn}
+use Rattle.dependencies.specs.Layout.{unused, place_in as entry_in}
 use Rattle.dependencies.specs.declared.DependencyMap.{DependencyMap}
 use Rattle.dependencies.proofs.MapCodec.{Sized as MapSized}
 use Rattle.states.specs.Cells.{part, in_row}
-use Rattle.group_states.specs.Groups.{groupFrom, groupCells}
-use Rattle.states.specs.Orders.{orderingFrom, orderingCells, orderingsFrom, orderingsCells}
-use Rattle.states.specs.Maps.{nodeFrom, targetCell, nodeCells, mapFrom, mapCells}
+use Rattle.group_states.specs.Groups.{group_from, group_cells}
+use Rattle.states.specs.Orders.{ordering_from, ordering_cells, orderings_from, orderings_cells}
+use Rattle.states.specs.Maps.{node_from, target_cell, node_cells, map_from, map_cells}
 
 -- ---- parts
 
@@ -47,14 +47,14 @@ part-first xs ys n e =
 part-after : (xs ys : List ℕ) (a at n : ℕ) → length xs ≡ a → part (xs ++ ys) (a + at) n ≡ part ys at n
 unfolding part
 part-after xs ys a at n e =
-    table-cong (λ k. get_or (xs ++ ys) (a + at + k) 0) (λ k. get_or ys (at + k) 0) n
+    table_cong (λ k. get_or (xs ++ ys) (a + at + k) 0) (λ k. get_or ys (at + k) 0) n
     (λ k l. let q : a + at + k ≡ length xs + (at + k) = omega arith in ap (λ (m : ℕ). get_or (xs ++ ys) m 0) q ∙ get_or-append-add xs ys (at + k) 0)
 
 -- ---- a group
 
 -- what is written is what is read, where the tables have their lengths
-pub group-round : (g : Group) → Tables g → groupFrom (groupCells g) ≡ g
-unfolding groupFrom groupCells
+pub group-round : (g : Group) → Tables g → group_from (group_cells g) ≡ g
+unfolding group_from group_cells
 group-round g t = λ i. record { limit = g.limit; count = g.count; used = g.used; sizes = sizes i; flavours = flavours i; values = values i; members = members i }
   where
     head : List ℕ
@@ -125,18 +125,18 @@ module _ (f : ℕ → List ℕ) (c w n : ℕ) (h : (i : ℕ) → i < n → lengt
 -- ---- a list of orderings
 
 -- what is written is what is read, where there are 32 places of 16 keys
-pub orderings-round : (g : Orderings) → Sized g → orderingsFrom (orderingsCells g) ≡ g
-unfolding orderingsFrom orderingsCells orderingFrom orderingCells
+pub orderings-round : (g : Orderings) → Sized g → orderings_from (orderings_cells g) ≡ g
+unfolding orderings_from orderings_cells ordering_from ordering_cells
 orderings-round g z = λ t. record { count = g.count; list = same t }
   where
     cells : List ℕ
-    cells = g.count ∷ in_row (λ i. orderingCells (place_in g i)) 32
+    cells = g.count ∷ in_row (λ i. ordering_cells (place_in g i)) 32
 
-    wide : (i : ℕ) → i < 32 → length (orderingCells (place_in g i)) ≡ 17
+    wide : (i : ℕ) → i < 32 → length (ordering_cells (place_in g i)) ≡ 17
     wide i l = ap suc (z.keys i l)
 
-    cell : (i j : ℕ) → i < 32 → j < 17 → (k : ℕ) → k ≡ 1 + 17 * i + j → get_or cells k 0 ≡ get_or (orderingCells (place_in g i)) j 0
-    cell = at-counted (λ i. orderingCells (place_in g i)) g.count 17 32 wide
+    cell : (i j : ℕ) → i < 32 → j < 17 → (k : ℕ) → k ≡ 1 + 17 * i + j → get_or cells k 0 ≡ get_or (ordering_cells (place_in g i)) j 0
+    cell = at-counted (λ i. ordering_cells (place_in g i)) g.count 17 32 wide
 
     size : (i : ℕ) → i < 32 → get_or cells (1 + 17 * i) 0 ≡ (place_in g i).size
     size i l = cell i 0 l (omega arith) (1 + 17 * i) (omega arith)
@@ -144,11 +144,11 @@ orderings-round g z = λ t. record { count = g.count; list = same t }
     keys : (i : ℕ) → i < 32 → part cells (1 + 17 * i + 1) 16 ≡ (place_in g i).keys
     keys i l = part-is cells (place_in g i).keys (1 + 17 * i + 1) 16 (z.keys i l) (λ k b. cell i (suc k) l (omega arith) (1 + 17 * i + 1 + k) (omega arith))
 
-    place : (i : ℕ) → i < 32 → orderingFrom cells (1 + 17 * i) ≡ place_in g i
+    place : (i : ℕ) → i < 32 → ordering_from cells (1 + 17 * i) ≡ place_in g i
     place i l = λ t. record { size = size i l t; keys = keys i l t }
 
-    same : table (λ i. orderingFrom cells (1 + 17 * i)) 32 ≡ g.list
-    same = sym (table_is (λ i. orderingFrom cells (1 + 17 * i)) 32 g.list (row []) z.places (λ i l. sym (place i l)))
+    same : table (λ i. ordering_from cells (1 + 17 * i)) 32 ≡ g.list
+    same = sym (table_is (λ i. ordering_from cells (1 + 17 * i)) 32 g.list (row []) z.places (λ i l. sym (place i l)))
 
 -- ---- a dependency map
 
@@ -163,41 +163,41 @@ target-kept true t h = omega arith
 target-kept false t h = sym (h refl)
 
 -- what is written is what is read, where there are 64 places of 16 dependencies and a target that is not there is 0
-pub map-round : (m : DependencyMap) → MapSized m → ((i : ℕ) → i < 64 → (entryIn m i).projected ≡ false → (entryIn m i).target ≡ 0) → mapFrom (mapCells m) ≡ m
-unfolding mapFrom mapCells nodeFrom nodeCells targetCell
+pub map-round : (m : DependencyMap) → MapSized m → ((i : ℕ) → i < 64 → (entry_in m i).projected ≡ false → (entry_in m i).target ≡ 0) → map_from (map_cells m) ≡ m
+unfolding map_from map_cells node_from node_cells target_cell
 map-round m z bare = λ t. record { count = m.count; list = same t }
   where
     cells : List ℕ
-    cells = m.count ∷ in_row (λ i. nodeCells (entryIn m i)) 64
+    cells = m.count ∷ in_row (λ i. node_cells (entry_in m i)) 64
 
-    wide : (i : ℕ) → i < 64 → length (nodeCells (entryIn m i)) ≡ 19
+    wide : (i : ℕ) → i < 64 → length (node_cells (entry_in m i)) ≡ 19
     wide i l = ap (λ (n : ℕ). suc (suc (suc n))) (z.dependencies i l)
 
-    cell : (i j : ℕ) → i < 64 → j < 19 → (k : ℕ) → k ≡ 1 + 19 * i + j → get_or cells k 0 ≡ get_or (nodeCells (entryIn m i)) j 0
-    cell = at-counted (λ i. nodeCells (entryIn m i)) m.count 19 64 wide
+    cell : (i j : ℕ) → i < 64 → j < 19 → (k : ℕ) → k ≡ 1 + 19 * i + j → get_or cells k 0 ≡ get_or (node_cells (entry_in m i)) j 0
+    cell = at-counted (λ i. node_cells (entry_in m i)) m.count 19 64 wide
 
-    key : (i : ℕ) → i < 64 → get_or cells (1 + 19 * i) 0 ≡ (entryIn m i).key
+    key : (i : ℕ) → i < 64 → get_or cells (1 + 19 * i) 0 ≡ (entry_in m i).key
     key i l = cell i 0 l (omega arith) (1 + 19 * i) (omega arith)
 
-    told : (i : ℕ) → i < 64 → get_or cells (1 + 19 * i + 1) 0 ≡ targetCell (entryIn m i)
+    told : (i : ℕ) → i < 64 → get_or cells (1 + 19 * i + 1) 0 ≡ target_cell (entry_in m i)
     told i l = cell i 1 l (omega arith) (1 + 19 * i + 1) refl
 
-    projected : (i : ℕ) → i < 64 → not (eqb (get_or cells (1 + 19 * i + 1) 0) 0) ≡ (entryIn m i).projected
-    projected i l = ap (λ (x : ℕ). not (eqb x 0)) (told i l) ∙ target_told (entryIn m i).projected (entryIn m i).target
+    projected : (i : ℕ) → i < 64 → not (eqb (get_or cells (1 + 19 * i + 1) 0) 0) ≡ (entry_in m i).projected
+    projected i l = ap (λ (x : ℕ). not (eqb x 0)) (told i l) ∙ target_told (entry_in m i).projected (entry_in m i).target
 
-    target : (i : ℕ) → i < 64 → get_or cells (1 + 19 * i + 1) 0 - 1 ≡ (entryIn m i).target
-    target i l = ap (λ (x : ℕ). x - 1) (told i l) ∙ target-kept (entryIn m i).projected (entryIn m i).target (bare i l)
+    target : (i : ℕ) → i < 64 → get_or cells (1 + 19 * i + 1) 0 - 1 ≡ (entry_in m i).target
+    target i l = ap (λ (x : ℕ). x - 1) (told i l) ∙ target-kept (entry_in m i).projected (entry_in m i).target (bare i l)
 
-    size : (i : ℕ) → i < 64 → get_or cells (1 + 19 * i + 2) 0 ≡ (entryIn m i).size
+    size : (i : ℕ) → i < 64 → get_or cells (1 + 19 * i + 2) 0 ≡ (entry_in m i).size
     size i l = cell i 2 l (omega arith) (1 + 19 * i + 2) refl
 
-    dependencies : (i : ℕ) → i < 64 → part cells (1 + 19 * i + 3) 16 ≡ (entryIn m i).dependencies
+    dependencies : (i : ℕ) → i < 64 → part cells (1 + 19 * i + 3) 16 ≡ (entry_in m i).dependencies
     dependencies i l =
-        part-is cells (entryIn m i).dependencies (1 + 19 * i + 3) 16 (z.dependencies i l)
+        part-is cells (entry_in m i).dependencies (1 + 19 * i + 3) 16 (z.dependencies i l)
         (λ k b. cell i (suc (suc (suc k))) l (omega arith) (1 + 19 * i + 3 + k) (omega arith))
 
-    place : (i : ℕ) → i < 64 → nodeFrom cells (1 + 19 * i) ≡ entryIn m i
+    place : (i : ℕ) → i < 64 → node_from cells (1 + 19 * i) ≡ entry_in m i
     place i l = λ t. record { key = key i l t; projected = projected i l t; target = target i l t; size = size i l t; dependencies = dependencies i l t }
 
-    same : table (λ i. nodeFrom cells (1 + 19 * i)) 64 ≡ m.list
-    same = sym (table_is (λ i. nodeFrom cells (1 + 19 * i)) 64 m.list unused z.places (λ i l. sym (place i l)))
+    same : table (λ i. node_from cells (1 + 19 * i)) 64 ≡ m.list
+    same = sym (table_is (λ i. node_from cells (1 + 19 * i)) 64 m.list unused z.places (λ i l. sym (place i l)))

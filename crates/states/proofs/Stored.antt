@@ -15,8 +15,8 @@ written_none old xs at =
     ap (λ (n : ℕ). take n old) e ∙ sym (append-nil (take at old))
 
 -- after its last turn all of it is
-pub written_all : (old now xs : List ℕ) (at n k : ℕ) → k ≤ n → n ≤ k → length xs ≡ n → take (at + k) now ≡ take at old ++ take k xs → take (at + n) now ≡ take at old ++ xs
-written_all old now xs at n k a b z e =
+pub written_all_lem : (old now xs : List ℕ) (at n k : ℕ) → k ≤ n → n ≤ k → length xs ≡ n → take (at + k) now ≡ take at old ++ take k xs → take (at + n) now ≡ take at old ++ xs
+written_all_lem old now xs at n k a b z e =
     let q : at + n ≡ at + k = omega arith in
     ap (λ (m : ℕ). take m now) q ∙ e ∙ ap (λ (l : List ℕ). take at old ++ l) (taken-all xs k (omega arith))
 

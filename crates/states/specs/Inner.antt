@@ -3,7 +3,7 @@ use Rattle.std.specs.Prelude.{ℕ, ◌<◌, true, ◌≡◌}
 use Rattle.orderings.specs.Layout.{place_in}
 use Rattle.orderings.specs.declared.Orderings.{Orderings}
 use Rattle.orderings.specs.declared.Listed.{Listed}
-use Rattle.dependencies.specs.Layout.{place_in as entryIn}
+use Rattle.dependencies.specs.Layout.{place_in as entry_in}
 use Rattle.dependencies.specs.declared.DependencyNode.{DependencyNode}
 use Rattle.dependencies.specs.declared.DependencyMap.{DependencyMap}
 use Rattle.dependencies.specs.declared.Inserted.{Inserted}
@@ -25,7 +25,7 @@ pub record NodeFits (n : DependencyNode) : Type 0 where
 -- a map's count and all its keys fit
 pub record MapFits (m : DependencyMap) : Type 0 where
   pub count : m.count < 65536
-  pub nodes : (i : ℕ) → NodeFits (entryIn m i)
+  pub nodes : (i : ℕ) → NodeFits (entry_in m i)
 
 -- so do those of a map that is handed back, unless it is refused
 abbrev pub MapFitsIfDone : Inserted → Type 0

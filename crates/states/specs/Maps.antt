@@ -9,8 +9,8 @@ use Rattle.dependencies.specs.declared.Inserted.{Inserted}
 use Rattle.states.specs.Cells.{part, in_row}
 
 -- the key in the cells from one on
-unfoldable pub nodeFrom : List ℕ → ℕ → DependencyNode
-nodeFrom cells at =
+unfoldable pub node_from : List ℕ → ℕ → DependencyNode
+node_from cells at =
     record {
       key = get_or cells at 0;
       projected = not (eqb (get_or cells (at + 1) 0) 0);
@@ -20,21 +20,21 @@ nodeFrom cells at =
     }
 
 -- the cell of its target
-unfoldable pub targetCell : DependencyNode → ℕ
-targetCell n = if n.projected then n.target + 1 else 0
+unfoldable pub target_cell : DependencyNode → ℕ
+target_cell n = if n.projected then n.target + 1 else 0
 
 -- the cells of a key
-unfoldable pub nodeCells : DependencyNode → List ℕ
-nodeCells n = n.key ∷ targetCell n ∷ n.size ∷ n.dependencies
+unfoldable pub node_cells : DependencyNode → List ℕ
+node_cells n = n.key ∷ target_cell n ∷ n.size ∷ n.dependencies
 
 -- the map in its cells
-unfoldable pub mapFrom : List ℕ → DependencyMap
-mapFrom cells = record { count = get_or cells 0 0; list = table (λ i. nodeFrom cells (1 + 19 * i)) 64 }
+unfoldable pub map_from : List ℕ → DependencyMap
+map_from cells = record { count = get_or cells 0 0; list = table (λ i. node_from cells (1 + 19 * i)) 64 }
 
 -- the cells of a map
-unfoldable pub mapCells : DependencyMap → List ℕ
-mapCells m = m.count ∷ in_row (λ i. nodeCells (place_in m i)) 64
+unfoldable pub map_cells : DependencyMap → List ℕ
+map_cells m = m.count ∷ in_row (λ i. node_cells (place_in m i)) 64
 
 -- what an insert returns, and the cells afterwards: a refusal leaves them as they were
-unfoldable pub storedMap : List ℕ → Inserted → ℕ × List ℕ
-storedMap cells i = if eqb i.number 0 then (0, mapCells i.map) else (i.number, cells)
+unfoldable pub stored_map : List ℕ → Inserted → ℕ × List ℕ
+stored_map cells i = if eqb i.number 0 then (0, map_cells i.map) else (i.number, cells)

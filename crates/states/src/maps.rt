@@ -1,6 +1,6 @@
 // A dependency map in its cells.
 ghost use Rattle.std.specs.Prelude.{◌++◌, ◌≡◌, ◌+◌, ◌-◌, ◌≤◌, length, take};
-ghost use Rattle.states.specs.Maps.{nodeFrom, nodeCells, targetCell, mapFrom, mapCells, storedMap};
+ghost use Rattle.states.specs.Maps.{node_from, node_cells, target_cell, map_from, map_cells, stored_map};
 ghost use Rattle.states.specs.Inner.{NodeFits, MapFits, MapFitsIfDone};
 
 use crate::numbers::{short, widened};
@@ -22,7 +22,7 @@ fn target_from(cell: u16) -> u16
 // The key with its target and its dependencies in the cells from one on.
 fn node_from(cells: &[u16; MAP_CELLS], at: usize) -> DependencyNode
     requires { at + 19 ≤ 1217 }
-    ensures { result ≡ nodeFrom cells.now at }
+    ensures { result ≡ node_from cells.now at }
 {
     let dependencies = keys_from(cells, at + MAP_NODE_DEPENDENCIES);
     let target = cells[at + MAP_NODE_TARGET];
@@ -37,7 +37,7 @@ fn node_from(cells: &[u16; MAP_CELLS], at: usize) -> DependencyNode
 
 // The map in its cells.
 pub fn load_map(cells: &[u16; MAP_CELLS]) -> DependencyMap
-    ensures { result ≡ mapFrom cells.now }
+    ensures { result ≡ map_from cells.now }
 {
     let mut list = [nothing(); 64];
     let mut i = 0;
@@ -54,7 +54,7 @@ pub fn load_map(cells: &[u16; MAP_CELLS]) -> DependencyMap
 // The cell of a target: one more, or 0 where there is none.
 fn target_cell(node: DependencyNode) -> u16
     requires { NodeFits node }
-    ensures { result ≡ targetCell node }
+    ensures { result ≡ target_cell node }
 {
     if node.projected { node.target + 1 } else { 0 }
 }
@@ -62,7 +62,7 @@ fn target_cell(node: DependencyNode) -> u16
 // Writes a key with its target and its dependencies into the cells from one on.
 fn put_node(node: DependencyNode, cells: &mut [u16], at: usize)
     requires { (at + 19 ≤ length cells.old) × NodeFits node }
-    ensures { take (at + 19) cells.new ≡ take at cells.old ++ nodeCells node }
+    ensures { take (at + 19) cells.new ≡ take at cells.old ++ node_cells node }
 {
     let dependencies = node.dependencies;
     cells[at] = node.key;
@@ -74,7 +74,7 @@ fn put_node(node: DependencyNode, cells: &mut [u16], at: usize)
 // Writes a map into its cells.
 fn put_map(map: DependencyMap, cells: &mut [u16; MAP_CELLS])
     requires { MapFits map }
-    ensures { cells.new ≡ mapCells map }
+    ensures { cells.new ≡ map_cells map }
 {
     cells[MAP_COUNT] = short(map.count);
     let mut i = 0;
@@ -88,7 +88,7 @@ fn put_map(map: DependencyMap, cells: &mut [u16; MAP_CELLS])
 // Writes the map that a call hands back, unless it was refused. The answer is the refusal's number or 0.
 pub fn store_map(inserted: Inserted, cells: &mut [u16; MAP_CELLS]) -> u32
     requires { MapFitsIfDone inserted }
-    ensures { (result, cells.new) ≡ storedMap cells.old inserted }
+    ensures { (result, cells.new) ≡ stored_map cells.old inserted }
 {
     if inserted.number != 0 {
         return inserted.number;

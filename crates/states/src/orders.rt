@@ -1,7 +1,7 @@
 // An ordering and a list of orderings in their cells.
 ghost use Rattle.std.specs.Prelude.{◌∷◌, ◌++◌, ◌≡◌, ◌+◌, ◌<◌, ◌≤◌, length, take};
 ghost use Rattle.states.specs.Cells.{part};
-ghost use Rattle.states.specs.Orders.{orderingFrom, orderingCells, orderingsFrom, orderingsCells, storedList};
+ghost use Rattle.states.specs.Orders.{ordering_from, ordering_cells, orderings_from, orderings_cells, stored_list};
 ghost use Rattle.states.specs.Inner.{ListFits, ListFitsIfDone};
 
 use crate::numbers::{short, widened};
@@ -26,7 +26,7 @@ pub fn keys_from(cells: &[u16], at: usize) -> [u16; 16]
 // The ordering in the cells from one on.
 fn ordering_from(cells: &[u16; ORDERINGS_CELLS], at: usize) -> Ordering
     requires { at + 17 ≤ 545 }
-    ensures { result ≡ orderingFrom cells.now at }
+    ensures { result ≡ ordering_from cells.now at }
 {
     let keys = keys_from(cells, at + 1);
     Ordering {
@@ -37,7 +37,7 @@ fn ordering_from(cells: &[u16; ORDERINGS_CELLS], at: usize) -> Ordering
 
 // The list in its cells.
 pub fn load_orderings(cells: &[u16; ORDERINGS_CELLS]) -> Orderings
-    ensures { result ≡ orderingsFrom cells.now }
+    ensures { result ≡ orderings_from cells.now }
 {
     let mut list = [nothing(); 32];
     let mut i = 0;
@@ -66,7 +66,7 @@ pub fn put_keys(keys: [u16; 16], cells: &mut [u16], at: usize)
 // Writes an ordering into the cells from one on.
 pub fn put_ordering(ordering: Ordering, cells: &mut [u16], at: usize)
     requires { (at + 17 ≤ length cells.old) × (ordering.size < 65536) }
-    ensures { take (at + 17) cells.new ≡ take at cells.old ++ orderingCells ordering }
+    ensures { take (at + 17) cells.new ≡ take at cells.old ++ ordering_cells ordering }
 {
     let keys = ordering.keys;
     cells[at] = short(ordering.size);
@@ -76,7 +76,7 @@ pub fn put_ordering(ordering: Ordering, cells: &mut [u16], at: usize)
 // Writes a list into its cells.
 fn put_orderings(orderings: Orderings, cells: &mut [u16; ORDERINGS_CELLS])
     requires { ListFits orderings }
-    ensures { cells.new ≡ orderingsCells orderings }
+    ensures { cells.new ≡ orderings_cells orderings }
 {
     cells[ORDERINGS_COUNT] = short(orderings.count);
     let mut i = 0;
@@ -90,7 +90,7 @@ fn put_orderings(orderings: Orderings, cells: &mut [u16; ORDERINGS_CELLS])
 // Writes the list that a call hands back, unless it was refused. The answer is the refusal's number or 0.
 pub fn store_orderings(listed: Listed, cells: &mut [u16; ORDERINGS_CELLS]) -> u32
     requires { ListFitsIfDone listed }
-    ensures { (result, cells.new) ≡ storedList cells.old listed }
+    ensures { (result, cells.new) ≡ stored_list cells.old listed }
 {
     if listed.number != 0 {
         return listed.number;

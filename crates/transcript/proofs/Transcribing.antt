@@ -9,23 +9,23 @@ use lib.Seq.{take_at}
 use Rattle.lines.specs.Text.{line}
 use Rattle.lines.specs.Writing.{Put, RoomFor}
 use Rattle.lines.proofs.Puts.{put-room, put_both}
-use Rattle.arena.specs.Layout.{encode as encodeNodes}
+use Rattle.arena.specs.Layout.{encode as encode_nodes}
 use Rattle.session_steps.specs.State.{start}
-use Rattle.transcript.specs.Session.{read_all, r-word, endText, scriptText, sessionText, session}
+use Rattle.transcript.specs.Session.{read_all, r-word, end_text, script_text, session_text, session}
 use Rattle.session_steps.specs.declared.holding.Holding.{Holding}
 use Rattle.transcript.specs.declared.Written.{Written}
 use Rattle.transcript.specs.declared.Written.TheVariants.{Bytes, Refused}
 use Rattle.session_steps.proofs.Bounds.{small-start}
 use Rattle.transcript.proofs.LineLengths.{stop-short, end_short}
-use Rattle.transcript.proofs.Running.{opening, opening-fit, opening-state, lastLine, last_line}
+use Rattle.transcript.proofs.Running.{opening, opening-fit, opening-state, last_line, last_line_lem}
 
 -- the text for input over the bound, and within it
-pub text-over : (input : List ℕ) → 65536 < length input → sessionText input ≡ line r-word (0 ∷ 9 ∷ []) ++ endText start
-unfolding sessionText
+pub text-over : (input : List ℕ) → 65536 < length input → session_text input ≡ line r-word (0 ∷ 9 ∷ []) ++ end_text start
+unfolding session_text
 text-over input l = rw (lt-leb (length input) 65536 l)
 
-pub text-within : (input : List ℕ) → length input ≤ 65536 → sessionText input ≡ scriptText 1 start (read_all input)
-unfolding sessionText
+pub text-within : (input : List ℕ) → length input ≤ 65536 → session_text input ≡ script_text 1 start (read_all input)
+unfolding session_text
 text-within input l = rw (le-leb (length input) 65536 l)
 
 module _ (input old : List ℕ) (space : 131096 ≤ length old) where
@@ -34,23 +34,23 @@ module _ (input old : List ℕ) (space : 131096 ≤ length old) where
   over-room = omega (arith, stop-short 0 (omega arith))
 
   module _ (h : Holding) (q : h ≡ opening) (new1 : List ℕ) (next1 : ℕ) (p : Put old 0 (line r-word (0 ∷ 9 ∷ [])) new1 next1) where
-    over_last : lastLine h ≡ endText start
-    over_last = ap (λ (h : Holding). lastLine h) q ∙ last_line (encodeNodes []) opening opening-fit ∙ ap endText opening-state
+    over_last : last_line h ≡ end_text start
+    over_last = ap (λ (h : Holding). last_line h) q ∙ last_line_lem (encode_nodes []) opening opening-fit ∙ ap end_text opening-state
 
     -- then for the last line
-    pub over-end-room : RoomFor new1 next1 (lastLine h)
-    over-end-room =
-        put-room old 0 (line r-word (0 ∷ 9 ∷ [])) new1 next1 over-room p (lastLine h)
-        (omega (arith, stop-short 0 (omega arith), ap (λ (l : List ℕ). length l) over_last, end_short start small-start, length-append (line r-word (0 ∷ 9 ∷ [])) (lastLine h)))
+    pub over_end_room : RoomFor new1 next1 (last_line h)
+    over_end_room =
+        put-room old 0 (line r-word (0 ∷ 9 ∷ [])) new1 next1 over-room p (last_line h)
+        (omega (arith, stop-short 0 (omega arith), ap (λ (l : List ℕ). length l) over_last, end_short start small-start, length-append (line r-word (0 ∷ 9 ∷ [])) (last_line h)))
 
     -- and both are the text
-    pub over-put : 65536 < length input → (new2 : List ℕ) (next2 : ℕ) → Put new1 next1 (lastLine h) new2 next2 → Put old 0 (sessionText input) new2 next2
+    pub over-put : 65536 < length input → (new2 : List ℕ) (next2 : ℕ) → Put new1 next1 (last_line h) new2 next2 → Put old 0 (session_text input) new2 next2
     over-put l new2 next2 q =
         subst (λ (t : List ℕ). Put old 0 t new2 next2) (ap (λ (t : List ℕ). line r-word (0 ∷ 9 ∷ []) ++ t) over_last ∙ sym (text-over input l))
-        (put_both old 0 (line r-word (0 ∷ 9 ∷ [])) new1 next1 over-room p (lastLine h) new2 next2 q)
+        (put_both old 0 (line r-word (0 ∷ 9 ∷ [])) new1 next1 over-room p (last_line h) new2 next2 q)
 
   -- input within the bound
-  pub within-put : length input ≤ 65536 → (new : List ℕ) (next : ℕ) → Put old 0 (scriptText 1 start (read_all input)) new next → Put old 0 (sessionText input) new next
+  pub within-put : length input ≤ 65536 → (new : List ℕ) (next : ℕ) → Put old 0 (script_text 1 start (read_all input)) new next → Put old 0 (session_text input) new next
   within-put l new next p = subst (λ (t : List ℕ). Put old 0 t new next) (sym (text-within input l)) p
 
 -- what was put at the start stands at the start
@@ -62,15 +62,15 @@ module _ (old text new : List ℕ) (n : ℕ) (p : Put old 0 text new n) where
   put-starts = ap (λ (l : List ℕ). take n l) p.is ∙ take_at text (drop (0 + length text) old) n (omega (arith, p.past))
 
 -- the call: refused where the output is too short, else the text is copied
-module _ (input output old new : List ℕ) (n : ℕ) (p : Put old 0 (sessionText input) new n) where
+module _ (input output old new : List ℕ) (n : ℕ) (p : Put old 0 (session_text input) new n) where
   pub session-refused : length output < n → ◌≡◌ {A = Written × List ℕ} (Refused 8, output) (session input output)
   unfolding session
-  session-refused l = sym (rw (lt-leb (length (sessionText input)) (length output) (omega (arith, p.past))))
+  session-refused l = sym (rw (lt-leb (length (session_text input)) (length output) (omega (arith, p.past))))
 
   pub session-done : n ≤ length output → (copied : List ℕ) → copied ≡ take n new ++ drop n output → ◌≡◌ {A = Written × List ℕ} (Bytes n, copied) (session input output)
   unfolding session
   session-done l copied e =
-      let m : n ≡ length (sessionText input) = omega (arith, p.past) in
-      let c : copied ≡ sessionText input ++ drop (length (sessionText input)) output = e ∙ ap (λ (t : List ℕ). t ++ drop n output) (put-starts old (sessionText input) new n p) ∙ ap (λ (k : ℕ). sessionText input ++ drop k output) m in
-      ap (λ (k : ℕ). (Bytes k, copied)) m ∙ ap (λ (t : List ℕ). (Bytes (length (sessionText input)), t)) c
-      ∙ sym (rw (le-leb (length (sessionText input)) (length output) (omega arith)))
+      let m : n ≡ length (session_text input) = omega (arith, p.past) in
+      let c : copied ≡ session_text input ++ drop (length (session_text input)) output = e ∙ ap (λ (t : List ℕ). t ++ drop n output) (put-starts old (session_text input) new n p) ∙ ap (λ (k : ℕ). session_text input ++ drop k output) m in
+      ap (λ (k : ℕ). (Bytes k, copied)) m ∙ ap (λ (t : List ℕ). (Bytes (length (session_text input)), t)) c
+      ∙ sym (rw (le-leb (length (session_text input)) (length output) (omega arith)))

@@ -5,23 +5,23 @@ use Rattle.records.specs.declared.Item.TheVariants.{Column, Literal, Operation, 
 use Rattle.lines.specs.Text.{line}
 use Rattle.session_steps.specs.declared.holding.Said.{Said}
 use Rattle.session_steps.specs.declared.holding.Said.TheVariants.{Quiet, NormalForm, Equality, Refused}
-use Rattle.transcript.specs.Session.{bit, n-word, q-word, r-word}
+use Rattle.transcript.specs.Session.{bit, n-word, q_word, r-word}
 
 -- what is printed for what a record is answered with
-unfoldable pub saidText : ℕ → Said → List ℕ
-saidText k Quiet = []
-saidText k (NormalForm e r) = line n-word (e ∷ r ∷ [])
-saidText k (Equality a b v) = line q-word (a ∷ b ∷ bit v ∷ [])
-saidText k (Refused number) = line r-word (k ∷ number ∷ [])
+unfoldable pub said_text : ℕ → Said → List ℕ
+said_text k Quiet = []
+said_text k (NormalForm e r) = line n-word (e ∷ r ∷ [])
+said_text k (Equality a b v) = line q_word (a ∷ b ∷ bit v ∷ [])
+said_text k (Refused number) = line r-word (k ∷ number ∷ [])
 
 -- a record is malformed
-unfoldable pub isMalformed : Item → Bool
-isMalformed (Column name index) = false
-isMalformed (Literal value) = false
-isMalformed (Operation label n) = false
-isMalformed (EqualPair a b) = false
-isMalformed (Constant e flavour value) = false
-isMalformed (NormalFormOf e) = false
-isMalformed (EqualityOf a b) = false
-isMalformed (OneOrdering n) = false
-isMalformed Malformed = true
+unfoldable pub is_malformed : Item → Bool
+is_malformed (Column name index) = false
+is_malformed (Literal value) = false
+is_malformed (Operation label n) = false
+is_malformed (EqualPair a b) = false
+is_malformed (Constant e flavour value) = false
+is_malformed (NormalFormOf e) = false
+is_malformed (EqualityOf a b) = false
+is_malformed (OneOrdering n) = false
+is_malformed Malformed = true

@@ -6,9 +6,9 @@ use Rattle.std.proofs.lemmas.Bool.{eqb-false}
 use Rattle.std.proofs.Math.ListN.{length-drop}
 use Rattle.laws.specs.Tests.{if◌then◌else◌}
 use Rattle.classes.specs.Group.{total}
-use Rattle.records.specs.Record.{Record, readRecord, recordSize}
-use Rattle.records.proofs.Items.{size-least, size-most}
-use Rattle.session_steps.specs.State.{State, start, Reply, quiet, normalForm, equality, refusal, step, after}
+use Rattle.records.specs.Record.{Record, read_record, record_size}
+use Rattle.records.proofs.Items.{size_least, size-most}
+use Rattle.session_steps.specs.State.{State, start, Reply, quiet, normal_form, equality, refusal, step, after}
 use Rattle.lines.specs.Text.{line}
 use Rattle.transcript.specs.declared.Written.{Written}
 use Rattle.transcript.specs.declared.Written.TheVariants.{Bytes, Refused}
@@ -23,57 +23,57 @@ unfoldable pub before : Record → Script → Script
 before r s = record { records = r ∷ s.records; whole = s.whole }
 
 -- the records of some bytes, n at the most
-unfoldable pub readFrom : ℕ → List ℕ → Script
-readFrom zero bytes = record { records = []; whole = true }
-readFrom (suc n) bytes =
+unfoldable pub read_from : ℕ → List ℕ → Script
+read_from zero bytes = record { records = []; whole = true }
+read_from (suc n) bytes =
     if eqb (length bytes) 0 then record { records = []; whole = true }
-    else elim (readRecord bytes) [
+    else elim (read_record bytes) [
       | none ↦ record { records = []; whole = false }
-      | some r ↦ before r (readFrom n (drop (recordSize bytes) bytes))
+      | some r ↦ before r (read_from n (drop (record_size bytes) bytes))
     ]
 
 -- the records of some bytes: a record takes at least one byte
 unfoldable pub read_all : List ℕ → Script
-read_all bytes = readFrom (length bytes) bytes
+read_all bytes = read_from (length bytes) bytes
 
 -- more than enough changes nothing
-read-enough : (n m : ℕ) (bytes : List ℕ) → length bytes ≤ n → length bytes ≤ m → readFrom n bytes ≡ readFrom m bytes
-unfolding readFrom
+read-enough : (n m : ℕ) (bytes : List ℕ) → length bytes ≤ n → length bytes ≤ m → read_from n bytes ≡ read_from m bytes
+unfolding read_from
 read-enough zero zero bytes a b = refl
 read-enough zero (suc m) bytes a b = rw (eq-eqb (length bytes) 0 (omega arith))
 read-enough (suc n) zero bytes a b = rw (eq-eqb (length bytes) 0 (omega arith))
 read-enough (suc n) (suc m) bytes a b =
-    go (eqb (length bytes) 0) refl (readRecord bytes) refl
-    (λ r l e. read-enough n m (drop (recordSize bytes) bytes) (shorter r l e n a) (shorter r l e m b))
+    go (eqb (length bytes) 0) refl (read_record bytes) refl
+    (λ r l e. read-enough n m (drop (record_size bytes) bytes) (shorter r l e n a) (shorter r l e m b))
   where
-    shorter : (r : Record) → (length bytes ≡ 0 → ⊥) → readRecord bytes ≡ some r → (k : ℕ) → length bytes ≤ suc k → length (drop (recordSize bytes) bytes) ≤ k
-    shorter r l e k c = omega (arith, length-drop (recordSize bytes) bytes, size-least bytes r e)
+    shorter : (r : Record) → (length bytes ≡ 0 → ⊥) → read_record bytes ≡ some r → (k : ℕ) → length bytes ≤ suc k → length (drop (record_size bytes) bytes) ≤ k
+    shorter r l e k c = omega (arith, length-drop (record_size bytes) bytes, size_least bytes r e)
 
-    go : (t : Bool) → eqb (length bytes) 0 ≡ t → (o : Option Record) → readRecord bytes ≡ o
-        → ((r : Record) → (length bytes ≡ 0 → ⊥) → readRecord bytes ≡ some r → readFrom n (drop (recordSize bytes) bytes) ≡ readFrom m (drop (recordSize bytes) bytes))
-        → readFrom (suc n) bytes ≡ readFrom (suc m) bytes
+    go : (t : Bool) → eqb (length bytes) 0 ≡ t → (o : Option Record) → read_record bytes ≡ o
+        → ((r : Record) → (length bytes ≡ 0 → ⊥) → read_record bytes ≡ some r → read_from n (drop (record_size bytes) bytes) ≡ read_from m (drop (record_size bytes) bytes))
+        → read_from (suc n) bytes ≡ read_from (suc m) bytes
     go true e o q f = rw e
-    go false e none q f = rw (e, q, readFrom)
-    go false e (some r) q f = rw (e, q, readFrom, f r (eqb-false (length bytes) 0 e) q)
+    go false e none q f = rw (e, q, read_from)
+    go false e (some r) q f = rw (e, q, read_from, f r (eqb-false (length bytes) 0 e) q)
 
 -- so: no bytes hold no record, a malformed record ends the script, and a record stands before the script of the bytes after it. Nothing after this looks at how many are enough
 pub read_none : read_all [] ≡ record { records = []; whole = true }
-unfolding read_all readFrom
+unfolding read_all read_from
 read_none = refl
 
 module _ (bytes : List ℕ) where
-  pub read-malformed : 0 < length bytes → readRecord bytes ≡ none → read_all bytes ≡ record { records = []; whole = false }
-  unfolding read_all readFrom
-  read-malformed l q =
+  pub read_malformed : 0 < length bytes → read_record bytes ≡ none → read_all bytes ≡ record { records = []; whole = false }
+  unfolding read_all read_from
+  read_malformed l q =
       read-enough (length bytes) (suc (length bytes)) bytes (omega arith) (omega arith)
-      ∙ rw (ne_eqb (length bytes) 0 (λ z. omega arith), q, readFrom)
+      ∙ rw (ne_eqb (length bytes) 0 (λ z. omega arith), q, read_from)
 
-  pub read-record : (r : Record) → readRecord bytes ≡ some r → read_all bytes ≡ before r (read_all (drop (recordSize bytes) bytes))
-  unfolding read_all readFrom
+  pub read-record : (r : Record) → read_record bytes ≡ some r → read_all bytes ≡ before r (read_all (drop (record_size bytes) bytes))
+  unfolding read_all read_from
   read-record r q =
       read-enough (length bytes) (suc (length bytes)) bytes (omega arith) (omega arith)
-      ∙ rw (ne_eqb (length bytes) 0 (λ z. omega (arith, size-least bytes r q, size-most bytes r q)), q, readFrom)
-      (ap (before r) (read-enough (length bytes) (length (drop (recordSize bytes) bytes)) (drop (recordSize bytes) bytes) (omega (arith, length-drop (recordSize bytes) bytes)) (omega arith)))
+      ∙ rw (ne_eqb (length bytes) 0 (λ z. omega (arith, size_least bytes r q, size-most bytes r q)), q, read_from)
+      (ap (before r) (read-enough (length bytes) (length (drop (record_size bytes) bytes)) (drop (record_size bytes) bytes) (omega (arith, length-drop (record_size bytes) bytes)) (omega arith)))
 
 -- a yes is 1, a no is 0
 unfoldable pub bit : Bool → ℕ
@@ -84,49 +84,49 @@ bit false = 0
 abbrev pub n-word : List ℕ
 n-word = 110 ∷ []
 
-abbrev pub q-word : List ℕ
-q-word = 113 ∷ []
+abbrev pub q_word : List ℕ
+q_word = 113 ∷ []
 
 abbrev pub r-word : List ℕ
 r-word = 114 ∷ []
 
-abbrev pub end-word : List ℕ
-end-word = 101 ∷ 110 ∷ 100 ∷ []
+abbrev pub end_word : List ℕ
+end_word = 101 ∷ 110 ∷ 100 ∷ []
 
 -- what is printed for record k: `n E R`, `q A B V`, `r K N`, or nothing
-unfoldable pub replyText : ℕ → Reply → List ℕ
-replyText k quiet = []
-replyText k (normalForm e r) = line n-word (e ∷ r ∷ [])
-replyText k (equality a b v) = line q-word (a ∷ b ∷ bit v ∷ [])
-replyText k (refusal number) = line r-word (k ∷ number ∷ [])
+unfoldable pub reply_text : ℕ → Reply → List ℕ
+reply_text k quiet = []
+reply_text k (normal_form e r) = line n-word (e ∷ r ∷ [])
+reply_text k (equality a b v) = line q_word (a ∷ b ∷ bit v ∷ [])
+reply_text k (refusal number) = line r-word (k ∷ number ∷ [])
 
 -- what is printed for records, the first of them record k
 unfoldable pub replies : ℕ → State → List Record → List ℕ
 replies k s [] = []
-replies k s (r ∷ rs) = replyText k (step r s).0 ++ replies (k + 1) (step r s).1 rs
+replies k s (r ∷ rs) = reply_text k (step r s).0 ++ replies (k + 1) (step r s).1 rs
 
 -- what is printed for a malformed record: it has the number after the last, and stops the session
-unfoldable pub stopText : ℕ → Bool → List ℕ
-stopText k true = []
-stopText k false = line r-word (k ∷ 9 ∷ [])
+unfoldable pub stop_text : ℕ → Bool → List ℕ
+stop_text k true = []
+stop_text k false = line r-word (k ∷ 9 ∷ [])
 
 -- the last line: classes, members, orderings
-unfoldable pub endText : State → List ℕ
-endText s = line end-word (length s.classes ∷ total s.classes ∷ length s.orderings ∷ [])
+unfoldable pub end_text : State → List ℕ
+end_text s = line end_word (length s.classes ∷ total s.classes ∷ length s.orderings ∷ [])
 
 -- the text of a script, the first of its records record k
-unfoldable pub scriptText : ℕ → State → Script → List ℕ
-scriptText k s script =
-    replies k s script.records ++ (stopText (k + length script.records) script.whole ++ endText (after s script.records))
+unfoldable pub script_text : ℕ → State → Script → List ℕ
+script_text k s script =
+    replies k s script.records ++ (stop_text (k + length script.records) script.whole ++ end_text (after s script.records))
 
 -- the text of a session: records are counted from 1; input over the bound is malformed as a whole
-unfoldable pub sessionText : List ℕ → List ℕ
-sessionText bytes =
-    if leb (length bytes) 65536 then scriptText 1 start (read_all bytes)
-    else line r-word (0 ∷ 9 ∷ []) ++ endText start
+unfoldable pub session_text : List ℕ → List ℕ
+session_text bytes =
+    if leb (length bytes) 65536 then script_text 1 start (read_all bytes)
+    else line r-word (0 ∷ 9 ∷ []) ++ end_text start
 
 -- the call on lent output: 8 where the text doesn't fit, and then nothing is written; else its length, and the text at the start of the output
 unfoldable pub session : List ℕ → List ℕ → Written × List ℕ
 session bytes output =
-    if leb (length (sessionText bytes)) (length output) then (Bytes (length (sessionText bytes)), sessionText bytes ++ drop (length (sessionText bytes)) output)
+    if leb (length (session_text bytes)) (length output) then (Bytes (length (session_text bytes)), session_text bytes ++ drop (length (session_text bytes)) output)
     else (Refused 8, output)

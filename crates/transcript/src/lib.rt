@@ -8,9 +8,9 @@ pub mod text;
 ghost use Rattle.std.specs.Prelude.{◌≡◌, ◌≤◌, [], ◌++◌, length, take, drop};
 ghost use Rattle.arena.specs.Layout.{encode};
 ghost use Rattle.session_steps.specs.State.{start};
-ghost use Rattle.transcript.specs.Session.{read_all, scriptText, sessionText, session as sessionOf};
+ghost use Rattle.transcript.specs.Session.{read_all, script_text, session_text, session as session_of};
 ghost use Rattle.lines.specs.Writing.{Put};
-ghost use Rattle.transcript.specs.Inner.{isMalformed};
+ghost use Rattle.transcript.specs.Inner.{is_malformed};
 
 use records::kinds::record_size;
 use records::{Item, read_record};
@@ -38,7 +38,7 @@ fn no_nodes() -> [u32; 11265]
 // Writes the text of a session of at most 65,536 bytes from the start of the output on, and answers its length.
 fn run(input: &[u8], output: &mut [u8]) -> usize
     requires { (length input.now ≤ 65536) × (131096 ≤ length output.old) }
-    ensures { Put output.old 0 (scriptText 1 start (read_all input.now)) output.new result }
+    ensures { Put output.old 0 (script_text 1 start (read_all input.now)) output.new result }
 {
     let mut cells = no_nodes();
     let mut state = opened();
@@ -63,7 +63,7 @@ fn run(input: &[u8], output: &mut [u8]) -> usize
 
 // The record is malformed.
 fn is_malformed(item: Item) -> bool
-    ensures { result ≡ isMalformed item }
+    ensures { result ≡ is_malformed item }
 {
     match item {
         Item::Malformed => true,
@@ -74,7 +74,7 @@ fn is_malformed(item: Item) -> bool
 // Writes the text of a session from the start of the output on, and answers its length.
 fn transcribe(input: &[u8], output: &mut [u8]) -> usize
     requires { 131096 ≤ length output.old }
-    ensures { Put output.old 0 (sessionText input.now) output.new result }
+    ensures { Put output.old 0 (session_text input.now) output.new result }
 {
     if 65536 < input.len() {
         let done = put_refusal(output, 0, 0, 9);
@@ -98,7 +98,7 @@ fn copy(from: &[u8], n: usize, to: &mut [u8])
 // Runs a session: reads records from the input and writes its lines to the output. Refusal: 8 where the output is too
 // short, and then nothing is written. Output of ENOUGH bytes is never too short.
 pub fn session(input: &[u8], output: &mut [u8]) -> Written
-    ensures { (result, output.new) ≡ sessionOf input.now output.old }
+    ensures { (result, output.new) ≡ session_of input.now output.old }
 {
     let mut text = [0u8; 131096];
     let n = transcribe(input, &mut text);

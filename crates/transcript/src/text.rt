@@ -3,7 +3,7 @@ ghost use Rattle.std.specs.Prelude.{◌∷◌, [], ◌≡◌};
 ghost use Rattle.lines.specs.Text.{line};
 ghost use Rattle.lines.specs.Writing.{Put, RoomFor};
 ghost use Rattle.transcript.specs.Session.{r-word, end-word, bit as bit_of};
-ghost use Rattle.transcript.specs.Inner.{saidText};
+ghost use Rattle.transcript.specs.Inner.{said_text};
 
 use arena::cells::wide;
 use lines::{put_byte, put_three, put_two};
@@ -37,8 +37,8 @@ fn bit(yes: bool) -> usize
 
 // Writes what a record is answered with, by the record's number.
 pub fn put_said(out: &mut [u8], at: usize, k: usize, said: Said) -> usize
-    requires { RoomFor out.old at (saidText k said) }
-    ensures { Put out.old at (saidText k said) out.new result }
+    requires { RoomFor out.old at (said_text k said) }
+    ensures { Put out.old at (said_text k said) out.new result }
 {
     match said {
         Said::Quiet => at,

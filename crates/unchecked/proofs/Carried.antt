@@ -18,28 +18,28 @@ use Rattle.classes.specs.Inner.{Coded}
 use Rattle.classes.specs.declared.Group.{Group}
 use Rattle.classes.specs.declared.Changed.{Changed}
 use Rattle.classes.proofs.Codec.{built-classes, built-coded}
-use Rattle.merging.specs.Merging.{fromClasses}
-use Rattle.merging.specs.Calls.{madeGroup}
+use Rattle.merging.specs.Merging.{from_classes}
+use Rattle.merging.specs.Calls.{made_group}
 use Rattle.merging.proofs.Smaller.{from-few, from-small}
 use Rattle.lent_classes.proofs.ListCounts.{fits-few, fits-small}
 use Rattle.group_states.specs.Inner.{GroupFits, FitsIfDone}
 use Rattle.state_laws.proofs.GroupFit.{encode-fits}
-use Rattle.answers.specs.Answers.{onFirst}
+use Rattle.answers.specs.Answers.{on_first}
 use Rattle.group_answers.specs.Answers.{bit}
 
 -- a yes and a no as numbers
-pub bit-yes : (b : Bool) → b ≡ true → 1 ≡ bit b
+pub bit_yes : (b : Bool) → b ≡ true → 1 ≡ bit b
 unfolding bit
-bit-yes b e = rw e
+bit_yes b e = rw e
 
-pub bit-no : (b : Bool) → b ≡ false → 0 ≡ bit b
+pub bit_no : (b : Bool) → b ≡ false → 0 ≡ bit b
 unfolding bit
-bit-no b e = rw e
+bit_no b e = rw e
 
 -- an answer that is put into numbers, beside what its call left in memory
-pub put_first : {A B : Type 0} (f : A → B) (a : A) (b : B) (s : List ℕ) (o : A × List ℕ) → b ≡ f a → (a, s) ≡ o → (b, s) ≡ onFirst f o
-unfolding onFirst
-put_first {A} {B} f a b s o e q = ap (λ (x : B). (x, s)) e ∙ ap (onFirst f) q
+pub put_first : {A B : Type 0} (f : A → B) (a : A) (b : B) (s : List ℕ) (o : A × List ℕ) → b ≡ f a → (a, s) ≡ o → (b, s) ≡ on_first f o
+unfolding on_first
+put_first {A} {B} f a b s o e q = ap (λ (x : B). (x, s)) e ∙ ap (on_first f) q
 
 -- a step that is judged fits its cells, unless it is refused
 pub judged-fits : (limit : ℕ) (cs : List Class) (o : Bool × List Class) → limit ≤ 256 → FitsIfDone (changed limit (judged limit cs o))
@@ -63,24 +63,24 @@ module _ (cs : List Class) (f : fits 256 cs ≡ true) where
   list-coded list l = built-coded 256 cs list l (fits-few cs f) (fits-small cs f)
 
   -- what is made of it has no more classes and members
-  from-count : length (fromClasses cs) ≤ 64
+  from-count : length (from_classes cs) ≤ 64
   from-count = omega (arith, from-few cs, fits-few cs f)
 
-  from-total : total (fromClasses cs) ≤ 256
+  from-total : total (from_classes cs) ≤ 256
   from-total = omega (arith, from-small cs, fits-small cs f)
 
   -- so it fits its cells
-  pub made-fits : (r : Changed) → r ≡ madeGroup (fromClasses cs) → FitsIfDone r
-  unfolding madeGroup
-  made-fits r e z = subst (λ (c : Changed). GroupFits c.group) (sym e) (encode-fits 256 (fromClasses cs) (omega arith) from-count from-total)
+  pub made-fits : (r : Changed) → r ≡ made_group (from_classes cs) → FitsIfDone r
+  unfolding made_group
+  made-fits r e z = subst (λ (c : Changed). GroupFits c.group) (sym e) (encode-fits 256 (from_classes cs) (omega arith) from-count from-total)
 
   -- the group that is made of the struct is that of the list
-  module _ (list : Group) (l : list ≡ encode 256 cs) (g : Group) (p : g ≡ encode list.limit (fromClasses (decode list))) where
-    made-is : g ≡ encode list.limit (fromClasses cs)
-    made-is = p ∙ ap (λ (ds : List Class). encode list.limit (fromClasses ds)) (built-classes 256 cs list l)
+  module _ (list : Group) (l : list ≡ encode 256 cs) (g : Group) (p : g ≡ encode list.limit (from_classes (decode list))) where
+    made-is : g ≡ encode list.limit (from_classes cs)
+    made-is = p ∙ ap (λ (ds : List Class). encode list.limit (from_classes ds)) (built-classes 256 cs list l)
 
     pub group-coded : Coded g
-    group-coded = built-coded list.limit (fromClasses cs) g made-is from-count from-total
+    group-coded = built-coded list.limit (from_classes cs) g made-is from-count from-total
 
-    pub made_of : (r : Changed) → r ≡ madeGroup (decode g) → r ≡ madeGroup (fromClasses cs)
-    made_of r q = q ∙ ap madeGroup (built-classes list.limit (fromClasses cs) g made-is)
+    pub made_of : (r : Changed) → r ≡ made_group (decode g) → r ≡ made_group (from_classes cs)
+    made_of r q = q ∙ ap made_group (built-classes list.limit (from_classes cs) g made-is)

@@ -2,37 +2,37 @@
 // of what is lent. What the check would find is asked of the caller instead, in `requires`, so an engine links the crate
 // galthumir and not this one.
 ghost use Rattle.std.specs.Prelude.{true, ◌++◌, ◌≡◌, length};
-ghost use Rattle.arena.specs.Arena.{addExpression};
-ghost use Rattle.arena.specs.Calls.{inCells, answered};
-ghost use Rattle.arena.specs.Expression.{expressionAt};
+ghost use Rattle.arena.specs.Arena.{add_expression};
+ghost use Rattle.arena.specs.Calls.{in_cells, answered};
+ghost use Rattle.arena.specs.Expression.{expression_at};
 ghost use Rattle.arena.specs.Layout.{decode as nodes};
 ghost use Rattle.arena.specs.Inner.{Known};
 ghost use Rattle.classes.specs.Calls.{changed};
-ghost use Rattle.classes.specs.Group.{equalCondition};
+ghost use Rattle.classes.specs.Group.{equal_condition};
 ghost use Rattle.classes.specs.Inner.{Held, Coded};
 ghost use Rattle.classes.specs.Layout.{decode};
 ghost use Rattle.classes.specs.Steps.{fits, judged};
-ghost use Rattle.questions.specs.Questions.{exprsEqual};
+ghost use Rattle.questions.specs.Questions.{exprs_equal};
 ghost use Rattle.normal.specs.Normal.{normal};
-ghost use Rattle.merging.specs.Calls.{madeGroup};
-ghost use Rattle.lent_classes.specs.Lent.{flavoursKnown, whole, classesLent};
-ghost use Rattle.merging.specs.Merging.{fromClasses};
+ghost use Rattle.merging.specs.Calls.{made_group};
+ghost use Rattle.lent_classes.specs.Lent.{flavours_known, whole, classes_lent};
+ghost use Rattle.merging.specs.Merging.{from_classes};
 ghost use Rattle.orderings.specs.Inner.{Held as HeldList};
-ghost use Rattle.orderings.specs.Layout.{decode as orderingsOf};
-ghost use Rattle.orderings.specs.Lists.{builtAll};
-ghost use Rattle.reduction.specs.Calls.{reducedList};
-ghost use Rattle.reduction.specs.Lent.{listsLent};
+ghost use Rattle.orderings.specs.Layout.{decode as orderings_of};
+ghost use Rattle.orderings.specs.Lists.{built_all};
+ghost use Rattle.reduction.specs.Calls.{reduced_list};
+ghost use Rattle.reduction.specs.Lent.{lists_lent};
 ghost use Rattle.reduction.specs.Inner.{LentFit};
 ghost use Rattle.dependencies.specs.Inner.{Held as HeldMap};
-ghost use Rattle.dependencies.specs.Layout.{decode as entriesOf};
+ghost use Rattle.dependencies.specs.Layout.{decode as entries_of};
 ghost use Rattle.products.specs.Generate.{contributing};
-ghost use Rattle.dependency_orderings.specs.Calls.{gatheredAnswer, different};
+ghost use Rattle.dependency_orderings.specs.Calls.{gathered_answer, different};
 ghost use Rattle.dependency_orderings.specs.Inner.{KeysFit};
-ghost use Rattle.group_states.specs.Groups.{groupFrom, storedGroup};
-ghost use Rattle.states.specs.Orders.{orderingsFrom, storedList};
-ghost use Rattle.states.specs.Maps.{mapFrom};
-ghost use Rattle.answers.specs.Answers.{onFirst, enumeratedIn};
-ghost use Rattle.group_answers.specs.Answers.{addedIn, bit};
+ghost use Rattle.group_states.specs.Groups.{group_from, stored_group};
+ghost use Rattle.states.specs.Orders.{orderings_from, stored_list};
+ghost use Rattle.states.specs.Maps.{map_from};
+ghost use Rattle.answers.specs.Answers.{on_first, enumerated_in};
+ghost use Rattle.group_answers.specs.Answers.{added_in, bit};
 
 use answers::put_enumerated;
 use conditions::equating::equal_condition_in;
@@ -56,8 +56,8 @@ pub extern "C" fn unchecked_add_equal_conditions(
     left: u32,
     right: u32,
 ) -> u32
-    requires { Held (nodes arena.now) (groupFrom group.old) × (Known arena.now left × Known arena.now right) }
-    ensures { (result, group.new) ≡ storedGroup group.old (changed (groupFrom group.old).limit (judged (groupFrom group.old).limit (decode (groupFrom group.old)) (equalCondition (nodes arena.now) (decode (groupFrom group.old)) left right))) }
+    requires { Held (nodes arena.now) (group_from group.old) × (Known arena.now left × Known arena.now right) }
+    ensures { (result, group.new) ≡ stored_group group.old (changed (group_from group.old).limit (judged (group_from group.old).limit (decode (group_from group.old)) (equal_condition (nodes arena.now) (decode (group_from group.old)) left right))) }
 {
     let changed = equal_condition_in(arena, load_group(group), left, right);
     store_group(changed, group)
@@ -71,8 +71,8 @@ pub extern "C" fn unchecked_exprs_equal(
     left: u32,
     right: u32,
 ) -> u32
-    requires { (Known arena.now left × Known arena.now right) × Coded (groupFrom group.now) }
-    ensures { result ≡ bit (exprsEqual (nodes arena.now) (decode (groupFrom group.now)) left right) }
+    requires { (Known arena.now left × Known arena.now right) × Coded (group_from group.now) }
+    ensures { result ≡ bit (exprs_equal (nodes arena.now) (decode (group_from group.now)) left right) }
 {
     if equal_in(arena, load_group(group), left, right) {
         1
@@ -89,8 +89,8 @@ pub extern "C" fn unchecked_normalize_expr(
     expr: u32,
     answer: &mut [u32; 1],
 ) -> u32
-    requires { Known arena.old expr × Held (nodes arena.old) (groupFrom group.now) }
-    ensures { ((result, answer.new), arena.new) ≡ onFirst (addedIn answer.old) (inCells (answered (nodes arena.old) (addExpression (normal (nodes arena.old) (decode (groupFrom group.now)) (expressionAt (nodes arena.old) expr)) (nodes arena.old)))) }
+    requires { Known arena.old expr × Held (nodes arena.old) (group_from group.now) }
+    ensures { ((result, answer.new), arena.new) ≡ on_first (added_in answer.old) (in_cells (answered (nodes arena.old) (add_expression (normal (nodes arena.old) (decode (group_from group.now)) (expression_at (nodes arena.old) expr)) (nodes arena.old)))) }
 {
     let added = normalize_in(arena, load_group(group), expr);
     put_added(added, answer)
@@ -99,8 +99,8 @@ pub extern "C" fn unchecked_normalize_expr(
 // Makes a group from a list of classes.
 #[unsafe(no_mangle)]
 pub extern "C" fn unchecked_new_group(classes: &[u32], made: &mut [u32; 451]) -> u32
-    requires { (flavoursKnown classes.now ≡ true) × ((whole classes.now ≡ true) × (fits 256 (classesLent classes.now) ≡ true)) }
-    ensures { (result, made.new) ≡ storedGroup made.old (madeGroup (fromClasses (classesLent classes.now))) }
+    requires { (flavours_known classes.now ≡ true) × ((whole classes.now ≡ true) × (fits 256 (classes_lent classes.now) ≡ true)) }
+    ensures { (result, made.new) ≡ stored_group made.old (made_group (from_classes (classes_lent classes.now))) }
 {
     let changed = made_of(from_classes(lent_classes(classes)));
     store_group(changed, made)
@@ -109,8 +109,8 @@ pub extern "C" fn unchecked_new_group(classes: &[u32], made: &mut [u32; 451]) ->
 // Adds orderings that are built from lists of keys, and reduces.
 #[unsafe(no_mangle)]
 pub extern "C" fn unchecked_add_orderings(orderings: &mut [u16; 545], numbers: &[u16]) -> u32
-    requires { HeldList (orderingsFrom orderings.old) × LentFit numbers.now }
-    ensures { (result, orderings.new) ≡ storedList orderings.old (reducedList (orderingsFrom orderings.old) (orderingsOf (orderingsFrom orderings.old) ++ builtAll (listsLent numbers.now))) }
+    requires { HeldList (orderings_from orderings.old) × LentFit numbers.now }
+    ensures { (result, orderings.new) ≡ stored_list orderings.old (reduced_list (orderings_from orderings.old) (orderings_of (orderings_from orderings.old) ++ built_all (lists_lent numbers.now))) }
 {
     let listed = add_in(load_orderings(orderings), numbers);
     store_orderings(listed, orderings)
@@ -124,8 +124,8 @@ pub extern "C" fn unchecked_generate_dependency_orderings(
     output: &mut [u16],
     answer: &mut [usize; 2],
 ) -> u32
-    requires { HeldMap (mapFrom map.now) × KeysFit keys.now }
-    ensures { ((result, answer.new), output.new) ≡ onFirst (enumeratedIn answer.old) (gatheredAnswer (contributing (entriesOf (mapFrom map.now)) (different keys.now)) (length (different keys.now)) output.old) }
+    requires { HeldMap (map_from map.now) × KeysFit keys.now }
+    ensures { ((result, answer.new), output.new) ≡ on_first (enumerated_in answer.old) (gathered_answer (contributing (entries_of (map_from map.now)) (different keys.now)) (length (different keys.now)) output.old) }
 {
     let enumerated = answer_gathered(gather(load_map(map), keys), output);
     put_enumerated(enumerated, answer)

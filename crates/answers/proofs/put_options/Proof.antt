@@ -1,6 +1,6 @@
 -- `answers::put_options` meets its contract.
 use borrow.Author.Rules.{rules}
-use Rattle.answers.specs.Answers.{optionsIn}
+use Rattle.answers.specs.Answers.{options_in}
 use Rattle.answers.proofs.put_options.Statement.{statement}
 use Rattle.answers.proofs.put_options.Tie as tie
 
@@ -20,15 +20,15 @@ enum-known-are-2 : tie.Need-enum-known-are-2
 enum-known-are-2 c = search rules
 
 returns : tie.Need-returns
-unfolding optionsIn
+unfolding options_in
 returns c = rw (c.before.before.before.are.given.1, c.put_2.ensures)
 
 returns-2 : tie.Need-returns-2
-unfolding optionsIn
+unfolding options_in
 returns-2 c = rw (c.before.before.enum_told.given.1, c.put-22.ensures)
 
 returns-3 : tie.Need-returns-3
-unfolding optionsIn
+unfolding options_in
 returns-3 c = rw c.before.are2.given.1
 
 pub put-options-spec : {M : Type 1} → statement M

@@ -1,6 +1,6 @@
 -- `answers::put_partial` meets its contract.
 use borrow.Author.Rules.{rules}
-use Rattle.answers.specs.Answers.{partialIn}
+use Rattle.answers.specs.Answers.{partial_in}
 use Rattle.answers.proofs.put_partial.Statement.{statement}
 use Rattle.answers.proofs.put_partial.Tie as tie
 
@@ -20,15 +20,15 @@ enum-known-is : tie.Need-enum-known-is
 enum-known-is c = search rules
 
 returns : tie.Need-returns
-unfolding partialIn
+unfolding partial_in
 returns c = rw (c.before.before.enum_told.given.1, c.put_1.ensures)
 
 returns-2 : tie.Need-returns-2
-unfolding partialIn
+unfolding partial_in
 returns-2 c = rw (c.before.before.enum-told2.given.1, c.put-12.ensures)
 
 returns-3 : tie.Need-returns-3
-unfolding partialIn
+unfolding partial_in
 returns-3 c = rw c.before.is.given.1
 
 pub put-partial-spec : {M : Type 1} → statement M

@@ -1,6 +1,6 @@
 -- `answers::put_record` meets its contract.
 use borrow.Author.Rules.{rules}
-use Rattle.answers.specs.Answers.{itemIn}
+use Rattle.answers.specs.Answers.{item_in}
 use Rattle.answers.proofs.put_record.Statement.{statement}
 use Rattle.answers.proofs.put_record.Tie as tie
 
@@ -92,39 +92,39 @@ enum_told : tie.Need-enum-told
 enum_told c = search rules
 
 returns : tie.Need-returns
-unfolding itemIn
+unfolding item_in
 returns c = rw (c.before.before.before.before.before.item.given.1, c.put_item.ensures, c.before.widened2.ensures, c.before.before.widened.ensures)
 
 returns-2 : tie.Need-returns-2
-unfolding itemIn
+unfolding item_in
 returns-2 c = rw (c.before.before.before.before.item2.given.1, c.put-item2.ensures, c.before.wide.ensures)
 
 returns-3 : tie.Need-returns-3
-unfolding itemIn
+unfolding item_in
 returns-3 c = rw (c.before.before.before.before.item3.given.1, c.put-item3.ensures, c.before.wide2.ensures)
 
 returns-4 : tie.Need-returns-4
-unfolding itemIn
+unfolding item_in
 returns-4 c = rw (c.before.before.before.before.before.item4.given.1, c.put-item4.ensures, c.before.widened4.ensures, c.before.before.widened3.ensures)
 
 returns-5 : tie.Need-returns-5
-unfolding itemIn
+unfolding item_in
 returns-5 c = rw (c.before.before.before.before.before.before.item5.given.1, c.put-item5.ensures, c.before.wide3.ensures, c.before.before.widened6.ensures, c.before.before.before.widened5.ensures)
 
 returns-6 : tie.Need-returns-6
-unfolding itemIn
+unfolding item_in
 returns-6 c = rw (c.before.before.before.before.item6.given.1, c.put-item6.ensures, c.before.widened7.ensures)
 
 returns-7 : tie.Need-returns-7
-unfolding itemIn
+unfolding item_in
 returns-7 c = rw (c.before.before.before.before.before.item7.given.1, c.put-item7.ensures, c.before.widened9.ensures, c.before.before.widened8.ensures)
 
 returns-8 : tie.Need-returns-8
-unfolding itemIn
+unfolding item_in
 returns-8 c = rw (c.before.before.before.item8.given.1, c.put-item8.ensures)
 
 returns-9 : tie.Need-returns-9
-unfolding itemIn
+unfolding item_in
 returns-9 c = rw c.enum_told.given.1
 
 pub put-record-spec : {M : Type 1} → statement M

@@ -44,7 +44,7 @@ unfolding read_node
 returns-3 c =
     let l : lawful c.before.before.before.before.before.before.args.cells.now ≡ true = sym c.before.before.before.before.before.lawful-arena.ensures ∙ not-false _ c.before.before.before.before.if1.false in
     let b : ltb c.before.before.before.before.before.before.args.expr (length (decode c.before.before.before.before.before.before.args.cells.now)) ≡ true = lt-ltb c.before.before.before.before.before.before.args.expr (length (decode c.before.before.before.before.before.before.args.cells.now)) (omega (arith, length-decode c.before.before.before.before.before.before.args.cells.now, c.before.before.before.node-count.ensures, c.before.before.wide.ensures)) in
-    c.read-in.ensures ∙ rw c.before.before.wide.ensures (sym (on-arena (Refused 11) (read_node c.before.before.before.before.before.before.args.expr) c.before.before.before.before.before.before.args.cells.now l ∙ rw b))
+    c.read_in_lem.ensures ∙ rw c.before.before.wide.ensures (sym (on-arena (Refused 11) (read_node c.before.before.before.before.before.before.args.expr) c.before.before.before.before.before.before.args.cells.now l ∙ rw b))
 
 pub read-node-spec : {M : Type 1} → statement M
 read-node-spec =

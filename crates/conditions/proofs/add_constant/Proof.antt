@@ -8,13 +8,13 @@ use borrow.Author.Tests.{not-true, not-false, le-leb, lt-leb, eq-eqb, ne_eqb}
 use lib.ListN.{length}
 use Rattle.arena.specs.Layout.{decode as nodes}
 use Rattle.arena.proofs.Layouts.{length-decode}
-use Rattle.classes.specs.Layout.{decode, constantFrom}
+use Rattle.classes.specs.Layout.{decode, constant_from}
 use Rattle.classes.specs.Calls.{changed}
 use Rattle.group_checks.proofs.HeldLaws.{number-held}
-use Rattle.classes.proofs.Judging.{refusal_is, handed-back}
+use Rattle.classes.proofs.Judging.{refusal_is, handed_back_lem}
 use Rattle.group_checks.proofs.Calling.{group-done, group-refused, number-known}
-use Rattle.conditions.specs.Steps.{addConstant}
-use Rattle.conditions.proofs.Calling.{say-unknown, say-known, said-small, said-flavour, constant-said, constant-unsaid}
+use Rattle.conditions.specs.Steps.{add_constant}
+use Rattle.conditions.proofs.Calling.{say-unknown, say-known, said-small, said-flavour, constant-said, constant_unsaid}
 use Rattle.conditions.proofs.add_constant.Statement.{statement}
 use Rattle.conditions.proofs.add_constant.Tie as tie
 
@@ -28,7 +28,7 @@ refusal-requires c κs =
 
 returns : tie.Need-returns
 returns c =
-    refusal_is c.refusal.result 12 c.before.before.before.args.group c.refusal.ensures ∙ sym (constant-unsaid c.before.before.before.args.cells.now c.before.before.before.args.group c.before.before.before.args.expr c.before.before.before.args.flavour c.before.before.before.args.value (sym c.before.before.can-say.ensures ∙ not-true _ c.before.if1.true))
+    refusal_is c.refusal.result 12 c.before.before.before.args.group c.refusal.ensures ∙ sym (constant_unsaid c.before.before.before.args.cells.now c.before.before.before.args.group c.before.before.before.args.expr c.before.before.before.args.flavour c.before.before.before.args.value (sym c.before.before.can-say.ensures ∙ not-true _ c.before.if1.true))
 
 check-group-requires : tie.Need-check-group-requires
 check-group-requires c κs =
@@ -40,7 +40,7 @@ refusal-requires-2 c κs =
 
 returns-2 : tie.Need-returns-2
 returns-2 c =
-    refusal_is c.refusal2.result c.before.before.check-group.result c.before.before.before.before.before.args.group c.refusal2.ensures ∙ group-refused c.before.before.before.before.before.args.cells.now c.before.before.before.before.before.args.group (λ ns cs. addConstant true c.before.before.before.before.before.args.group.limit ns c.before.before.before.before.before.args.expr (constantFrom (c.before.before.before.before.before.args.flavour + 1) c.before.before.before.before.before.args.value) cs) c.before.before.check-group.result c.before.before.check-group.ensures c.before.if2.true ∙ sym (constant-said c.before.before.before.before.before.args.cells.now c.before.before.before.before.before.args.group c.before.before.before.before.before.args.expr c.before.before.before.before.before.args.flavour c.before.before.before.before.before.args.value (sym c.before.before.before.before.can-say.ensures ∙ not-false _ c.before.before.before.if1.false))
+    refusal_is c.refusal2.result c.before.before.check-group.result c.before.before.before.before.before.args.group c.refusal2.ensures ∙ group-refused c.before.before.before.before.before.args.cells.now c.before.before.before.before.before.args.group (λ ns cs. add_constant true c.before.before.before.before.before.args.group.limit ns c.before.before.before.before.before.args.expr (constant_from (c.before.before.before.before.before.args.flavour + 1) c.before.before.before.before.before.args.value) cs) c.before.before.check-group.result c.before.before.check-group.ensures c.before.if2.true ∙ sym (constant-said c.before.before.before.before.before.args.cells.now c.before.before.before.before.before.args.group c.before.before.before.before.before.args.expr c.before.before.before.before.before.args.flavour c.before.before.before.before.before.args.value (sym c.before.before.before.before.can-say.ensures ∙ not-false _ c.before.before.before.if1.false))
 
 node-count-requires : tie.Need-node-count-requires
 node-count-requires c κs =
@@ -62,7 +62,7 @@ returns-3 c =
     let mm : length c.before.before.before.before.before.before.before.before.args.group.members ≡ 256 = search rules in
     let h = number-held c.before.before.before.before.before.before.before.before.args.cells.now c.before.before.before.before.before.before.before.before.args.group sz fl vl mm (sym c.before.before.before.before.before.check-group.ensures ∙ c.before.before.before.before.if2.false) in
     let l : length (nodes c.before.before.before.before.before.before.before.before.args.cells.now) ≤ c.before.before.before.before.before.before.before.before.args.expr = omega (arith, length-decode c.before.before.before.before.before.before.before.before.args.cells.now, c.before.before.before.node-count.ensures, c.before.before.wide.ensures) in
-    refusal_is c.refusal3.result 1 c.before.before.before.before.before.before.before.before.args.group c.refusal3.ensures ∙ sym (constant-said c.before.before.before.before.before.before.before.before.args.cells.now c.before.before.before.before.before.before.before.before.args.group c.before.before.before.before.before.before.before.before.args.expr c.before.before.before.before.before.before.before.before.args.flavour c.before.before.before.before.before.before.before.before.args.value (sym c.before.before.before.before.before.before.before.can-say.ensures ∙ not-false _ c.before.before.before.before.before.before.if1.false) ∙ group-done c.before.before.before.before.before.before.before.before.args.cells.now c.before.before.before.before.before.before.before.before.args.group (λ ns cs. addConstant true c.before.before.before.before.before.before.before.before.args.group.limit ns c.before.before.before.before.before.before.before.before.args.expr (constantFrom (c.before.before.before.before.before.before.before.before.args.flavour + 1) c.before.before.before.before.before.before.before.before.args.value) cs) (sym c.before.before.before.before.before.check-group.ensures ∙ c.before.before.before.before.if2.false) ∙ ap (changed c.before.before.before.before.before.before.before.before.args.group.limit) (say-unknown c.before.before.before.before.before.before.before.before.args.group.limit (nodes c.before.before.before.before.before.before.before.before.args.cells.now) (decode c.before.before.before.before.before.before.before.before.args.group) c.before.before.before.before.before.before.before.before.args.expr (constantFrom (c.before.before.before.before.before.before.before.before.args.flavour + 1) c.before.before.before.before.before.before.before.before.args.value) l) ∙ handed-back c.before.before.before.before.before.before.before.before.args.group 1 h.coded)
+    refusal_is c.refusal3.result 1 c.before.before.before.before.before.before.before.before.args.group c.refusal3.ensures ∙ sym (constant-said c.before.before.before.before.before.before.before.before.args.cells.now c.before.before.before.before.before.before.before.before.args.group c.before.before.before.before.before.before.before.before.args.expr c.before.before.before.before.before.before.before.before.args.flavour c.before.before.before.before.before.before.before.before.args.value (sym c.before.before.before.before.before.before.before.can-say.ensures ∙ not-false _ c.before.before.before.before.before.before.if1.false) ∙ group-done c.before.before.before.before.before.before.before.before.args.cells.now c.before.before.before.before.before.before.before.before.args.group (λ ns cs. add_constant true c.before.before.before.before.before.before.before.before.args.group.limit ns c.before.before.before.before.before.before.before.before.args.expr (constant_from (c.before.before.before.before.before.before.before.before.args.flavour + 1) c.before.before.before.before.before.before.before.before.args.value) cs) (sym c.before.before.before.before.before.check-group.ensures ∙ c.before.before.before.before.if2.false) ∙ ap (changed c.before.before.before.before.before.before.before.before.args.group.limit) (say-unknown c.before.before.before.before.before.before.before.before.args.group.limit (nodes c.before.before.before.before.before.before.before.before.args.cells.now) (decode c.before.before.before.before.before.before.before.before.args.group) c.before.before.before.before.before.before.before.before.args.expr (constant_from (c.before.before.before.before.before.before.before.before.args.flavour + 1) c.before.before.before.before.before.before.before.before.args.value) l) ∙ handed_back_lem c.before.before.before.before.before.before.before.before.args.group 1 h.coded)
 
 add-t12 : tie.Need-overflow-add-t12
 add-t12 c =
@@ -80,7 +80,7 @@ add-constant-in-requires c κs =
 returns-4 : tie.Need-returns-4
 returns-4 c =
     let l : c.before.before.before.before.before.before.before.before.args.expr < length (nodes c.before.before.before.before.before.before.before.before.args.cells.now) = omega (arith, length-decode c.before.before.before.before.before.before.before.before.args.cells.now, c.before.before.before.node-count.ensures, c.before.before.wide.ensures) in
-    c.add-constant-in.ensures ∙ sym (constant-said c.before.before.before.before.before.before.before.before.args.cells.now c.before.before.before.before.before.before.before.before.args.group c.before.before.before.before.before.before.before.before.args.expr c.before.before.before.before.before.before.before.before.args.flavour c.before.before.before.before.before.before.before.before.args.value (sym c.before.before.before.before.before.before.before.can-say.ensures ∙ not-false _ c.before.before.before.before.before.before.if1.false) ∙ group-done c.before.before.before.before.before.before.before.before.args.cells.now c.before.before.before.before.before.before.before.before.args.group (λ ns cs. addConstant true c.before.before.before.before.before.before.before.before.args.group.limit ns c.before.before.before.before.before.before.before.before.args.expr (constantFrom (c.before.before.before.before.before.before.before.before.args.flavour + 1) c.before.before.before.before.before.before.before.before.args.value) cs) (sym c.before.before.before.before.before.check-group.ensures ∙ c.before.before.before.before.if2.false) ∙ ap (changed c.before.before.before.before.before.before.before.before.args.group.limit) (say-known c.before.before.before.before.before.before.before.before.args.group.limit (nodes c.before.before.before.before.before.before.before.before.args.cells.now) (decode c.before.before.before.before.before.before.before.before.args.group) c.before.before.before.before.before.before.before.before.args.expr (constantFrom (c.before.before.before.before.before.before.before.before.args.flavour + 1) c.before.before.before.before.before.before.before.before.args.value) l))
+    c.add-constant-in.ensures ∙ sym (constant-said c.before.before.before.before.before.before.before.before.args.cells.now c.before.before.before.before.before.before.before.before.args.group c.before.before.before.before.before.before.before.before.args.expr c.before.before.before.before.before.before.before.before.args.flavour c.before.before.before.before.before.before.before.before.args.value (sym c.before.before.before.before.before.before.before.can-say.ensures ∙ not-false _ c.before.before.before.before.before.before.if1.false) ∙ group-done c.before.before.before.before.before.before.before.before.args.cells.now c.before.before.before.before.before.before.before.before.args.group (λ ns cs. add_constant true c.before.before.before.before.before.before.before.before.args.group.limit ns c.before.before.before.before.before.before.before.before.args.expr (constant_from (c.before.before.before.before.before.before.before.before.args.flavour + 1) c.before.before.before.before.before.before.before.before.args.value) cs) (sym c.before.before.before.before.before.check-group.ensures ∙ c.before.before.before.before.if2.false) ∙ ap (changed c.before.before.before.before.before.before.before.before.args.group.limit) (say-known c.before.before.before.before.before.before.before.before.args.group.limit (nodes c.before.before.before.before.before.before.before.before.args.cells.now) (decode c.before.before.before.before.before.before.before.before.args.group) c.before.before.before.before.before.before.before.before.args.expr (constant_from (c.before.before.before.before.before.before.before.before.args.flavour + 1) c.before.before.before.before.before.before.before.before.args.value) l))
 
 pub add-constant-spec : {M : Type 1} → statement M
 add-constant-spec =

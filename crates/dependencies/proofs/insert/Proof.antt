@@ -3,8 +3,8 @@ use Prim.Native.Nat.{ℕ}
 use mathlib.Core.Path.{sym, ap, ◌∙◌}
 use native.Mathlib.Omega.{arith}
 use Rattle.arena.specs.Layout.{count}
-use Rattle.dependencies.specs.Calls.{givenBelow}
-use Rattle.dependencies.proofs.MapCodec.{arrays-sized}
+use Rattle.dependencies.specs.Calls.{given_below}
+use Rattle.dependencies.proofs.MapCodec.{arrays_sized}
 use Rattle.dependencies.proofs.MapCalls.{options-pass, below-pass, insert-options, insert-target-options, insert-dependency-options, insert-refused, insert-unknown, insert-target-unknown, insert-dependency-unknown, insert-passed, insert-asks}
 use borrow.Author.Rules.{rules}
 use Rattle.dependencies.proofs.insert.Statement.{statement}
@@ -88,7 +88,7 @@ returns-6 c =
     let s = c.before.before.before.before.before.before.before.before.before.before.before.before.before in
     let o = options-pass s.args.options s.args.target s.args.dependency c.before.before.before.before.before.before.before.before.before.before.before.options-known.result c.before.before.before.before.before.before.before.before.before.options-known2.result (omega (arith, c.before.before.before.before.before.before.before.before.before.before.before.before.if1.false)) c.before.before.before.before.before.before.before.before.before.before.before.options-known.ensures c.before.before.before.before.before.before.before.before.before.before.if2.false c.before.before.before.before.before.before.before.before.before.options-known2.ensures c.before.before.before.before.before.before.before.before.if3.false in
     let z = sym c.before.before.before.before.before.before.before.check-map.ensures ∙ c.before.before.before.before.before.before.if4.false in
-    c.refusal6.ensures ∙ insert-target-unknown s.args.cells.now s.args.map s.args.expr s.args.options s.args.target s.args.dependency o z c.before.before.Given-below.result (c.before.before.Given-below.ensures ∙ ap (λ (n : ℕ). givenBelow n s.args.target) c.before.before.before.before.before.node-count.ensures) c.before.if6.true
+    c.refusal6.ensures ∙ insert-target-unknown s.args.cells.now s.args.map s.args.expr s.args.options s.args.target s.args.dependency o z c.before.before.Given-below.result (c.before.before.Given-below.ensures ∙ ap (λ (n : ℕ). given_below n s.args.target) c.before.before.before.before.before.node-count.ensures) c.before.if6.true
 
 given-below-requires-2 : tie.Need-given-below-requires-2
 given-below-requires-2 c κs = search rules
@@ -101,22 +101,22 @@ returns-7 c =
     let s = c.before.before.before.before.before.before.before.before.before.before.before.before.before.before.before in
     let o = options-pass s.args.options s.args.target s.args.dependency c.before.before.before.before.before.before.before.before.before.before.before.before.before.options-known.result c.before.before.before.before.before.before.before.before.before.before.before.options-known2.result (omega (arith, c.before.before.before.before.before.before.before.before.before.before.before.before.before.before.if1.false)) c.before.before.before.before.before.before.before.before.before.before.before.before.before.options-known.ensures c.before.before.before.before.before.before.before.before.before.before.before.before.if2.false c.before.before.before.before.before.before.before.before.before.before.before.options-known2.ensures c.before.before.before.before.before.before.before.before.before.before.if3.false in
     let z = sym c.before.before.before.before.before.before.before.before.before.check-map.ensures ∙ c.before.before.before.before.before.before.before.before.if4.false in
-    c.refusal7.ensures ∙ insert-dependency-unknown s.args.cells.now s.args.map s.args.expr s.args.options s.args.target s.args.dependency o z c.before.before.given-below2.result (c.before.before.given-below2.ensures ∙ ap (λ (n : ℕ). givenBelow n s.args.dependency) c.before.before.before.before.before.before.before.node-count.ensures) c.before.if7.true
+    c.refusal7.ensures ∙ insert-dependency-unknown s.args.cells.now s.args.map s.args.expr s.args.options s.args.target s.args.dependency o z c.before.before.given-below2.result (c.before.before.given-below2.ensures ∙ ap (λ (n : ℕ). given_below n s.args.dependency) c.before.before.before.before.before.before.before.node-count.ensures) c.before.if7.true
 
 insert-in-requires : tie.Need-insert-in-requires
 insert-in-requires c κs =
     let s = c.before.before.before.before.before.before.before.before.before.before.before.before.before.before in
     let o = options-pass s.args.options s.args.target s.args.dependency c.before.before.before.before.before.before.before.before.before.before.before.before.options-known.result c.before.before.before.before.before.before.before.before.before.before.options-known2.result (omega (arith, c.before.before.before.before.before.before.before.before.before.before.before.before.before.if1.false)) c.before.before.before.before.before.before.before.before.before.before.before.before.options-known.ensures c.before.before.before.before.before.before.before.before.before.before.before.if2.false c.before.before.before.before.before.before.before.before.before.before.options-known2.ensures c.before.before.before.before.before.before.before.before.before.if3.false in
     let z = sym c.before.before.before.before.before.before.before.before.check-map.ensures ∙ c.before.before.before.before.before.before.before.if4.false in
-    let b = below-pass (count s.args.cells.now) s.args.expr s.args.target s.args.dependency c.before.before.before.Given-below.result c.before.given-below2.result (omega (arith, c.before.before.before.before.before.before.node-count.ensures, c.before.before.before.before.before.wide.ensures, c.before.before.before.before.if5.false)) (c.before.before.before.Given-below.ensures ∙ ap (λ (n : ℕ). givenBelow n s.args.target) c.before.before.before.before.before.before.node-count.ensures) c.before.before.if6.false (c.before.given-below2.ensures ∙ ap (λ (n : ℕ). givenBelow n s.args.dependency) c.before.before.before.before.before.before.node-count.ensures) c.if7.false in
-    insert-asks s.args.cells.now s.args.map z s.args.expr s.args.options s.args.target s.args.dependency (arrays-sized s.args.map _ s.well-formed.1.0) o b
+    let b = below-pass (count s.args.cells.now) s.args.expr s.args.target s.args.dependency c.before.before.before.Given-below.result c.before.given-below2.result (omega (arith, c.before.before.before.before.before.before.node-count.ensures, c.before.before.before.before.before.wide.ensures, c.before.before.before.before.if5.false)) (c.before.before.before.Given-below.ensures ∙ ap (λ (n : ℕ). given_below n s.args.target) c.before.before.before.before.before.before.node-count.ensures) c.before.before.if6.false (c.before.given-below2.ensures ∙ ap (λ (n : ℕ). given_below n s.args.dependency) c.before.before.before.before.before.before.node-count.ensures) c.if7.false in
+    insert-asks s.args.cells.now s.args.map z s.args.expr s.args.options s.args.target s.args.dependency (arrays_sized s.args.map _ s.well-formed.1.0) o b
 
 returns-8 : tie.Need-returns-8
 returns-8 c =
     let s = c.before.before.before.before.before.before.before.before.before.before.before.before.before.before.before in
     let o = options-pass s.args.options s.args.target s.args.dependency c.before.before.before.before.before.before.before.before.before.before.before.before.before.options-known.result c.before.before.before.before.before.before.before.before.before.before.before.options-known2.result (omega (arith, c.before.before.before.before.before.before.before.before.before.before.before.before.before.before.if1.false)) c.before.before.before.before.before.before.before.before.before.before.before.before.before.options-known.ensures c.before.before.before.before.before.before.before.before.before.before.before.before.if2.false c.before.before.before.before.before.before.before.before.before.before.before.options-known2.ensures c.before.before.before.before.before.before.before.before.before.before.if3.false in
     let z = sym c.before.before.before.before.before.before.before.before.before.check-map.ensures ∙ c.before.before.before.before.before.before.before.before.if4.false in
-    let b = below-pass (count s.args.cells.now) s.args.expr s.args.target s.args.dependency c.before.before.before.before.Given-below.result c.before.before.given-below2.result (omega (arith, c.before.before.before.before.before.before.before.node-count.ensures, c.before.before.before.before.before.before.wide.ensures, c.before.before.before.before.before.if5.false)) (c.before.before.before.before.Given-below.ensures ∙ ap (λ (n : ℕ). givenBelow n s.args.target) c.before.before.before.before.before.before.before.node-count.ensures) c.before.before.before.if6.false (c.before.before.given-below2.ensures ∙ ap (λ (n : ℕ). givenBelow n s.args.dependency) c.before.before.before.before.before.before.before.node-count.ensures) c.before.if7.false in
+    let b = below-pass (count s.args.cells.now) s.args.expr s.args.target s.args.dependency c.before.before.before.before.Given-below.result c.before.before.given-below2.result (omega (arith, c.before.before.before.before.before.before.before.node-count.ensures, c.before.before.before.before.before.before.wide.ensures, c.before.before.before.before.before.if5.false)) (c.before.before.before.before.Given-below.ensures ∙ ap (λ (n : ℕ). given_below n s.args.target) c.before.before.before.before.before.before.before.node-count.ensures) c.before.before.before.if6.false (c.before.before.given-below2.ensures ∙ ap (λ (n : ℕ). given_below n s.args.dependency) c.before.before.before.before.before.before.before.node-count.ensures) c.before.if7.false in
     insert-passed s.args.cells.now s.args.map s.args.expr s.args.options s.args.target s.args.dependency o z c.insert-in.result c.insert-in.ensures b
 
 pub insert-spec : {M : Type 1} → statement M

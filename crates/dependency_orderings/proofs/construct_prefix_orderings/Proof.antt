@@ -3,9 +3,9 @@ use mathlib.Core.Path.{sym, ap, ◌∙◌}
 use native.Mathlib.Omega.{arith}
 use Prim.Native.Nat.{ℕ}
 use Rattle.dependencies.specs.Layout.{decode}
-use Rattle.dependencies.proofs.MapCodec.{arrays-sized}
-use Rattle.enumeration.specs.Walk.{prefixOrderings}
-use Rattle.dependency_orderings.specs.Calls.{walkAnswer}
+use Rattle.dependencies.proofs.MapCodec.{arrays_sized}
+use Rattle.enumeration.specs.Walk.{prefix_orderings}
+use Rattle.dependency_orderings.specs.Calls.{walk_answer}
 use Rattle.dependency_orderings.specs.declared.Enumerated.{Enumerated}
 use Rattle.dependency_orderings.proofs.AnswerLaws.{prefix-passes, prefix-refused, prefix-answered, map-held, nodes-few}
 use borrow.Author.Rules.{rules}
@@ -33,7 +33,7 @@ answer-prefixes-requires : tie.Need-answer-prefixes-requires
 answer-prefixes-requires c κs =
     let s = c.before.before.before.before.before in
     let p = prefix-passes s.args.cells.now s.args.map s.args.expr s.args.options (sym c.before.before.before.prefix-number.ensures ∙ c.before.before.if1.false) in
-    map-held s.args.cells.now s.args.map p.map (arrays-sized s.args.map _ s.well-formed.1.0)
+    map-held s.args.cells.now s.args.map p.map (arrays_sized s.args.map _ s.well-formed.1.0)
 
 same_length : tie.Need-same-length
 same_length c = search rules
@@ -41,7 +41,7 @@ same_length c = search rules
 returns-2 : tie.Need-returns-2
 returns-2 c =
     let s = c.before.before.before.before.before.before.before.before in
-    c.before.before.answer-prefixes.ensures ∙ ap (λ (k : ℕ). walkAnswer (prefixOrderings (decode s.args.map) k) s.args.out.now) c.before.before.before.before.packed.ensures
+    c.before.before.answer-prefixes.ensures ∙ ap (λ (k : ℕ). walk_answer (prefix_orderings (decode s.args.map) k) s.args.out.now) c.before.before.before.before.packed.ensures
     ∙ prefix-answered s.args.cells.now s.args.map s.args.expr s.args.options (sym c.before.before.before.before.before.before.prefix-number.ensures ∙ c.before.before.before.before.before.if1.false) s.args.out.now
 
 pub construct-prefix-orderings-spec : {M : Type 1} → statement M

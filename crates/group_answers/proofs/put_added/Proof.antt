@@ -1,6 +1,6 @@
 -- `group_answers::put_added` meets its contract.
 use borrow.Author.Rules.{rules}
-use Rattle.group_answers.specs.Answers.{addedIn}
+use Rattle.group_answers.specs.Answers.{added_in}
 use Rattle.group_answers.proofs.put_added.Statement.{statement}
 use Rattle.group_answers.proofs.put_added.Tie as tie
 
@@ -14,11 +14,11 @@ enum-known-added-2 : tie.Need-enum-known-added-2
 enum-known-added-2 c = search rules
 
 returns : tie.Need-returns
-unfolding addedIn
+unfolding added_in
 returns c = rw (c.before.before.before.added.given.1, c.put_1.ensures)
 
 returns-2 : tie.Need-returns-2
-unfolding addedIn
+unfolding added_in
 returns-2 c = rw c.before.added2.given.1
 
 pub put-added-spec : {M : Type 1} → statement M

@@ -1,6 +1,6 @@
 -- `group_answers::put_class_is` meets its contract.
 use borrow.Author.Rules.{rules}
-use Rattle.group_answers.specs.Answers.{classIn}
+use Rattle.group_answers.specs.Answers.{class_in}
 use Rattle.group_answers.proofs.put_class_is.Statement.{statement}
 use Rattle.group_answers.proofs.put_class_is.Tie as tie
 
@@ -29,15 +29,15 @@ enum-known-is-2 : tie.Need-enum-known-is-2
 enum-known-is-2 c = search rules
 
 returns : tie.Need-returns
-unfolding classIn
+unfolding class_in
 returns c = rw (c.before.before.before.before.before.before.is.given.1, c.put-class.ensures, c.before.wide3.ensures, c.before.before.wide2.ensures, c.before.before.before.wide.ensures)
 
 returns-2 : tie.Need-returns-2
-unfolding classIn
+unfolding class_in
 returns-2 c = rw (c.before.before.enum_told.given.1, c.put-class2.ensures)
 
 returns-3 : tie.Need-returns-3
-unfolding classIn
+unfolding class_in
 returns-3 c = rw c.before.is2.given.1
 
 pub put-class-is-spec : {M : Type 1} → statement M

@@ -1,6 +1,6 @@
 -- `group_answers::put_key` meets its contract.
 use borrow.Author.Rules.{rules}
-use Rattle.group_answers.specs.Answers.{keyIn}
+use Rattle.group_answers.specs.Answers.{key_in}
 use Rattle.group_answers.proofs.put_key.Statement.{statement}
 use Rattle.group_answers.proofs.put_key.Tie as tie
 
@@ -14,11 +14,11 @@ enum-known-is-2 : tie.Need-enum-known-is-2
 enum-known-is-2 c = search rules
 
 returns : tie.Need-returns
-unfolding keyIn
+unfolding key_in
 returns c = rw (c.before.before.before.is.given.1, c.put_2.ensures)
 
 returns-2 : tie.Need-returns-2
-unfolding keyIn
+unfolding key_in
 returns-2 c = rw c.before.is2.given.1
 
 pub put-key-spec : {M : Type 1} → statement M

@@ -1,6 +1,6 @@
 -- `group_answers::put_projected` meets its contract.
 use borrow.Author.Rules.{rules}
-use Rattle.group_answers.specs.Answers.{projectedIn}
+use Rattle.group_answers.specs.Answers.{projected_in}
 use Rattle.group_answers.proofs.put_projected.Statement.{statement}
 use Rattle.group_answers.proofs.put_projected.Tie as tie
 
@@ -20,15 +20,15 @@ enum-known-projected-2 : tie.Need-enum-known-projected-2
 enum-known-projected-2 c = search rules
 
 returns : tie.Need-returns
-unfolding projectedIn
+unfolding projected_in
 returns c = rw (c.before.before.before.projected.given.1, c.put_2.ensures)
 
 returns-2 : tie.Need-returns-2
-unfolding projectedIn
+unfolding projected_in
 returns-2 c = rw (c.before.before.enum_told.given.1, c.put-22.ensures)
 
 returns-3 : tie.Need-returns-3
-unfolding projectedIn
+unfolding projected_in
 returns-3 c = rw c.before.projected2.given.1
 
 pub put-projected-spec : {M : Type 1} → statement M

@@ -1,6 +1,6 @@
 -- `group_answers::put_read` meets its contract.
 use borrow.Author.Rules.{rules}
-use Rattle.group_answers.specs.Answers.{readIn}
+use Rattle.group_answers.specs.Answers.{read_in}
 use Rattle.group_answers.proofs.put_read.Statement.{statement}
 use Rattle.group_answers.proofs.put_read.Tie as tie
 
@@ -32,19 +32,19 @@ enum-known-read-4 : tie.Need-enum-known-read-4
 enum-known-read-4 c = search rules
 
 returns : tie.Need-returns
-unfolding readIn
+unfolding read_in
 returns c = rw (c.before.before.before.read.given.1, c.put_3.ensures)
 
 returns-2 : tie.Need-returns-2
-unfolding readIn
+unfolding read_in
 returns-2 c = rw (c.before.before.before.read2.given.1, c.put_32.ensures)
 
 returns-3 : tie.Need-returns-3
-unfolding readIn
+unfolding read_in
 returns-3 c = rw (c.before.before.before.read3.given.1, c.put-33.ensures)
 
 returns-4 : tie.Need-returns-4
-unfolding readIn
+unfolding read_in
 returns-4 c = rw c.before.read4.given.1
 
 pub put-read-spec : {M : Type 1} → statement M

@@ -11,13 +11,13 @@ use Rattle.arena.proofs.cells.node_count.Reads as node-count-reads
 use Rattle.arena.proofs.cells.wide.Reads as wide-reads
 use Rattle.classes.specs.Group.{class_of}
 use Rattle.classes.specs.Layout.{decode}
-use Rattle.group_checks.specs.Calls.{classAnswer}
+use Rattle.group_checks.specs.Calls.{class_answer}
 use Rattle.group_checks.specs.declared.ClassIs.{ClassIs}
 use Rattle.classes.proofs.ClassPlaces.{place_at, place-nowhere}
 use Rattle.classes.proofs.Codec.{length-decode as length-classes, size_is}
-use Rattle.classes.proofs.Places.{classOf-some}
+use Rattle.classes.proofs.Places.{class_of-some}
 use Rattle.group_checks.proofs.HeldLaws.{number-held}
-use Rattle.group_checks.proofs.Calling.{ask-done, ask-refused, class-unknown, class-nowhere, class-at}
+use Rattle.group_checks.proofs.Calling.{ask_done, ask_refused, class-unknown, class-nowhere, class-at}
 use Rattle.group_checks.proofs.get_equivalence_class.Statement.{statement}
 use Rattle.group_checks.proofs.get_equivalence_class.Tie as tie
 use Rattle.group_checks.proofs.get_equivalence_class.Reads as reads
@@ -33,7 +33,7 @@ check-group-requires c κs = search rules
 
 returns : tie.Need-returns
 returns c =
-    ask-refused c.before.before.args.cells.now c.before.before.args.group (λ k. ClassIs.Refused k) (classAnswer c.before.before.args.expr) c.before.check-group.result c.before.check-group.ensures c.if1.true
+    ask_refused c.before.before.args.cells.now c.before.before.args.group (λ k. ClassIs.Refused k) (class_answer c.before.before.args.expr) c.before.check-group.result c.before.check-group.ensures c.if1.true
 
 node-count-requires : tie.Need-node-count-requires
 node-count-requires c κs = search rules
@@ -44,7 +44,7 @@ wide-requires c κs = search rules
 returns-2 : tie.Need-returns-2
 returns-2 c =
     let l : length (nodes c.before.before.before.before.before.args.cells.now) ≤ c.before.before.before.before.before.args.expr = omega (arith, length-decode c.before.before.before.before.before.args.cells.now, c.before.before.node-count.ensures, c.before.wide.ensures) in
-    sym ((ask-done c.before.before.before.before.before.args.cells.now c.before.before.before.before.before.args.group (λ k. ClassIs.Refused k) (classAnswer c.before.before.before.before.before.args.expr) (sym c.before.before.before.before.check-group.ensures ∙ c.before.before.before.if1.false)) ∙ class-unknown (nodes c.before.before.before.before.before.args.cells.now) (decode c.before.before.before.before.before.args.group) c.before.before.before.before.before.args.expr l)
+    sym ((ask_done c.before.before.before.before.before.args.cells.now c.before.before.before.before.before.args.group (λ k. ClassIs.Refused k) (class_answer c.before.before.before.before.before.args.expr) (sym c.before.before.before.before.check-group.ensures ∙ c.before.before.before.if1.false)) ∙ class-unknown (nodes c.before.before.before.before.before.args.cells.now) (decode c.before.before.before.before.before.args.group) c.before.before.before.before.before.args.expr l)
 
 find-class-requires : tie.Need-find-class-requires
 find-class-requires c κs =
@@ -66,7 +66,7 @@ class-size-requires c κs =
     let mm : length c.before.before.before.before.before.before.before.before.before.args.group.members ≡ 256 = search rules in
     let h = number-held c.before.before.before.before.before.before.before.before.before.args.cells.now c.before.before.before.before.before.before.before.before.before.args.group sz fl vl mm (sym c.before.before.before.before.before.before.before.before.check-group.ensures ∙ c.before.before.before.before.before.before.before.if1.false) in
     let o : class_of (decode c.before.before.before.before.before.before.before.before.before.args.group) c.before.before.before.before.before.before.before.before.before.args.expr ≡ some c.before.i.given.0.0 = place_at _ _ (sym c.before.i.given.1 ∙ c.before.before.before.find-class.ensures) in
-    let w : c.before.i.given.0.0 < c.before.before.before.before.before.before.before.before.before.args.group.count = rw (length-classes c.before.before.before.before.before.before.before.before.before.args.group) at (classOf-some (decode c.before.before.before.before.before.before.before.before.before.args.group) c.before.before.before.before.before.before.before.before.before.args.expr c.before.i.given.0.0 o).0 in
+    let w : c.before.i.given.0.0 < c.before.before.before.before.before.before.before.before.before.args.group.count = rw (length-classes c.before.before.before.before.before.before.before.before.before.args.group) at (class_of-some (decode c.before.before.before.before.before.before.before.before.before.args.group) c.before.before.before.before.before.before.before.before.before.args.expr c.before.i.given.0.0 o).0 in
     (h.coded, w)
 
 first-member-requires : tie.Need-first-member-requires
@@ -77,7 +77,7 @@ first-member-requires c κs =
     let mm : length c.before.before.before.before.before.before.before.before.before.before.args.group.members ≡ 256 = search rules in
     let h = number-held c.before.before.before.before.before.before.before.before.before.before.args.cells.now c.before.before.before.before.before.before.before.before.before.before.args.group sz fl vl mm (sym c.before.before.before.before.before.before.before.before.before.check-group.ensures ∙ c.before.before.before.before.before.before.before.before.if1.false) in
     let o : class_of (decode c.before.before.before.before.before.before.before.before.before.before.args.group) c.before.before.before.before.before.before.before.before.before.before.args.expr ≡ some c.before.before.i.given.0.0 = place_at _ _ (sym c.before.before.i.given.1 ∙ c.before.before.before.before.find-class.ensures) in
-    let w : c.before.before.i.given.0.0 < c.before.before.before.before.before.before.before.before.before.before.args.group.count = rw (length-classes c.before.before.before.before.before.before.before.before.before.before.args.group) at (classOf-some (decode c.before.before.before.before.before.before.before.before.before.before.args.group) c.before.before.before.before.before.before.before.before.before.before.args.expr c.before.before.i.given.0.0 o).0 in
+    let w : c.before.before.i.given.0.0 < c.before.before.before.before.before.before.before.before.before.before.args.group.count = rw (length-classes c.before.before.before.before.before.before.before.before.before.before.args.group) at (class_of-some (decode c.before.before.before.before.before.before.before.before.before.before.args.group) c.before.before.before.before.before.before.before.before.before.before.args.expr c.before.before.i.given.0.0 o).0 in
     let f = h.good.filled c.before.before.i.given.0.0 (rw (length-classes c.before.before.before.before.before.before.before.before.before.before.args.group) w) in
     (h.coded, (w, rw (size_is c.before.before.before.before.before.before.before.before.before.before.args.group h.coded c.before.before.i.given.0.0) f))
 
@@ -89,7 +89,7 @@ mark-of-requires c κs =
     let mm : length c.before.before.before.before.before.before.before.before.before.before.before.args.group.members ≡ 256 = search rules in
     let h = number-held c.before.before.before.before.before.before.before.before.before.before.before.args.cells.now c.before.before.before.before.before.before.before.before.before.before.before.args.group sz fl vl mm (sym c.before.before.before.before.before.before.before.before.before.before.check-group.ensures ∙ c.before.before.before.before.before.before.before.before.before.if1.false) in
     let o : class_of (decode c.before.before.before.before.before.before.before.before.before.before.before.args.group) c.before.before.before.before.before.before.before.before.before.before.before.args.expr ≡ some c.before.before.before.i.given.0.0 = place_at _ _ (sym c.before.before.before.i.given.1 ∙ c.before.before.before.before.before.find-class.ensures) in
-    let w : c.before.before.before.i.given.0.0 < c.before.before.before.before.before.before.before.before.before.before.before.args.group.count = rw (length-classes c.before.before.before.before.before.before.before.before.before.before.before.args.group) at (classOf-some (decode c.before.before.before.before.before.before.before.before.before.before.before.args.group) c.before.before.before.before.before.before.before.before.before.before.before.args.expr c.before.before.before.i.given.0.0 o).0 in
+    let w : c.before.before.before.i.given.0.0 < c.before.before.before.before.before.before.before.before.before.before.before.args.group.count = rw (length-classes c.before.before.before.before.before.before.before.before.before.before.before.args.group) at (class_of-some (decode c.before.before.before.before.before.before.before.before.before.before.before.args.group) c.before.before.before.before.before.before.before.before.before.before.before.args.expr c.before.before.before.i.given.0.0 o).0 in
     (h.coded, w)
 
 enum_told : tie.Need-enum-told
@@ -98,15 +98,15 @@ enum_told c = search rules
 returns-3 : tie.Need-returns-3
 returns-3 c =
     let o : class_of (decode c.before.before.before.before.before.before.before.before.before.before.before.before.args.group) c.before.before.before.before.before.before.before.before.before.before.before.before.args.expr ≡ some c.before.before.before.before.i.given.0.0 = place_at _ _ (sym c.before.before.before.before.i.given.1 ∙ c.before.before.before.before.before.before.find-class.ensures) in
-    let w : c.before.before.before.before.i.given.0.0 < c.before.before.before.before.before.before.before.before.before.before.before.before.args.group.count = rw (length-classes c.before.before.before.before.before.before.before.before.before.before.before.before.args.group) at (classOf-some (decode c.before.before.before.before.before.before.before.before.before.before.before.before.args.group) c.before.before.before.before.before.before.before.before.before.before.before.before.args.expr c.before.before.before.before.i.given.0.0 o).0 in
+    let w : c.before.before.before.before.i.given.0.0 < c.before.before.before.before.before.before.before.before.before.before.before.before.args.group.count = rw (length-classes c.before.before.before.before.before.before.before.before.before.before.before.before.args.group) at (class_of-some (decode c.before.before.before.before.before.before.before.before.before.before.before.before.args.group) c.before.before.before.before.before.before.before.before.before.before.before.before.args.expr c.before.before.before.before.i.given.0.0 o).0 in
     let l : c.before.before.before.before.before.before.before.before.before.before.before.before.args.expr < length (nodes c.before.before.before.before.before.before.before.before.before.before.before.before.args.cells.now) = omega (arith, length-decode c.before.before.before.before.before.before.before.before.before.before.before.before.args.cells.now, c.before.before.before.before.before.before.before.before.before.node-count.ensures, c.before.before.before.before.before.before.before.before.wide.ensures) in
-    rw (c.before.before.class-size.ensures, c.before.first_member.ensures, c.mark_of.ensures) (sym ((ask-done c.before.before.before.before.before.before.before.before.before.before.before.before.args.cells.now c.before.before.before.before.before.before.before.before.before.before.before.before.args.group (λ k. ClassIs.Refused k) (classAnswer c.before.before.before.before.before.before.before.before.before.before.before.before.args.expr) (sym c.before.before.before.before.before.before.before.before.before.before.before.check-group.ensures ∙ c.before.before.before.before.before.before.before.before.before.before.if1.false)) ∙ class-at (nodes c.before.before.before.before.before.before.before.before.before.before.before.before.args.cells.now) (decode c.before.before.before.before.before.before.before.before.before.before.before.before.args.group) c.before.before.before.before.before.before.before.before.before.before.before.before.args.expr l c.before.before.before.before.i.given.0.0 o))
+    rw (c.before.before.class-size.ensures, c.before.first_member.ensures, c.mark_of.ensures) (sym ((ask_done c.before.before.before.before.before.before.before.before.before.before.before.before.args.cells.now c.before.before.before.before.before.before.before.before.before.before.before.before.args.group (λ k. ClassIs.Refused k) (class_answer c.before.before.before.before.before.before.before.before.before.before.before.before.args.expr) (sym c.before.before.before.before.before.before.before.before.before.before.before.check-group.ensures ∙ c.before.before.before.before.before.before.before.before.before.before.if1.false)) ∙ class-at (nodes c.before.before.before.before.before.before.before.before.before.before.before.before.args.cells.now) (decode c.before.before.before.before.before.before.before.before.before.before.before.before.args.group) c.before.before.before.before.before.before.before.before.before.before.before.before.args.expr l c.before.before.before.before.i.given.0.0 o))
 
 returns-4 : tie.Need-returns-4
 returns-4 c =
     let o : class_of (decode c.before.before.before.before.before.before.before.before.args.group) c.before.before.before.before.before.before.before.before.args.expr ≡ none = place-nowhere _ (sym c.enum_told.given.1 ∙ c.before.before.find-class.ensures) in
     let l : c.before.before.before.before.before.before.before.before.args.expr < length (nodes c.before.before.before.before.before.before.before.before.args.cells.now) = omega (arith, length-decode c.before.before.before.before.before.before.before.before.args.cells.now, c.before.before.before.before.before.node-count.ensures, c.before.before.before.before.wide.ensures) in
-    sym ((ask-done c.before.before.before.before.before.before.before.before.args.cells.now c.before.before.before.before.before.before.before.before.args.group (λ k. ClassIs.Refused k) (classAnswer c.before.before.before.before.before.before.before.before.args.expr) (sym c.before.before.before.before.before.before.before.check-group.ensures ∙ c.before.before.before.before.before.before.if1.false)) ∙ class-nowhere (nodes c.before.before.before.before.before.before.before.before.args.cells.now) (decode c.before.before.before.before.before.before.before.before.args.group) c.before.before.before.before.before.before.before.before.args.expr l o)
+    sym ((ask_done c.before.before.before.before.before.before.before.before.args.cells.now c.before.before.before.before.before.before.before.before.args.group (λ k. ClassIs.Refused k) (class_answer c.before.before.before.before.before.before.before.before.args.expr) (sym c.before.before.before.before.before.before.before.check-group.ensures ∙ c.before.before.before.before.before.before.if1.false)) ∙ class-nowhere (nodes c.before.before.before.before.before.before.before.before.args.cells.now) (decode c.before.before.before.before.before.before.before.before.args.group) c.before.before.before.before.before.before.before.before.args.expr l o)
 
 pub get-equivalence-class-spec : {M : Type 1} → statement M
 get-equivalence-class-spec =

@@ -2,7 +2,7 @@
 use mathlib.Core.Path.{sym, ap, ◌∙◌}
 use native.Mathlib.Omega.{arith}
 use borrow.Author.Rules.{rules}
-use Rattle.classes.proofs.Judging.{handedBack, refusal_is}
+use Rattle.classes.proofs.Judging.{handed_back, refusal_is}
 use Rattle.group_checks.proofs.Calling.{opened-none, opened-over, opened_in}
 use Rattle.group_checks.proofs.open_group.Statement.{statement}
 use Rattle.group_checks.proofs.open_group.Tie as tie
@@ -15,7 +15,7 @@ refusal-requires c κs = search rules
 
 returns : tie.Need-returns
 returns c =
-    refusal_is c.refusal.result 12 c.before.empty.result c.refusal.ensures ∙ ap (handedBack 12) c.before.empty.ensures ∙ sym (opened-none c.before.before.before.args.limit c.before.before.if1.true)
+    refusal_is c.refusal.result 12 c.before.empty.result c.refusal.ensures ∙ ap (handed_back 12) c.before.empty.ensures ∙ sym (opened-none c.before.before.before.args.limit c.before.before.if1.true)
 
 empty-requires-2 : tie.Need-empty-requires-2
 empty-requires-2 c κs = search rules
@@ -25,7 +25,7 @@ refusal-requires-2 c κs = search rules
 
 returns-2 : tie.Need-returns-2
 returns-2 c =
-    refusal_is c.refusal2.result 12 c.before.empty2.result c.refusal2.ensures ∙ ap (handedBack 12) c.before.empty2.ensures ∙ sym (opened-over c.before.before.before.before.args.limit (omega (arith, c.before.before.if2.true)))
+    refusal_is c.refusal2.result 12 c.before.empty2.result c.refusal2.ensures ∙ ap (handed_back 12) c.before.empty2.ensures ∙ sym (opened-over c.before.before.before.before.args.limit (omega (arith, c.before.before.if2.true)))
 
 empty-requires-3 : tie.Need-empty-requires-3
 empty-requires-3 c κs = search rules

@@ -4,7 +4,7 @@ use native.Mathlib.Omega.{arith}
 use Prim.Native.Nat.{ℕ, ◌+◌, ◌%◌, ◌<◌}
 use mathlib.Core.List.{◌∷◌, []}
 use Rattle.lines.proofs.Puts.{put-length}
-use Rattle.lines.proofs.Digits.{digit_room, digit-put, more_room, last-room, more-length, more-put}
+use Rattle.lines.proofs.Digits.{digit_room, digit_put, more_room, last-room, more-length, more-put}
 use borrow.Fn.Kinds.{In}
 use borrow.Fn.PlainCycle.{Measures, is, falls, and}
 use Rattle.lines.proofs.put_decimal.Reads as put-decimal
@@ -63,7 +63,7 @@ put-decimal-returns : (t : ℕ) → put-decimal-lts.Need-returns (
   put-decimal-below t,
   put-decimal.Post,
 ) (put-decimal-at t) put-decimal.Post
-put-decimal-returns t c = digit-put c.before.before.before.before.before.before.args.out.now c.before.before.before.before.before.before.args.at c.before.before.before.before.before.before.args.x c.before.before.put_byte.new.0 c.before.before.put_byte.result c.before.before.before.before.if1.true c.before.before.put_byte.ensures
+put-decimal-returns t c = digit_put c.before.before.before.before.before.before.args.out.now c.before.before.before.before.before.before.args.at c.before.before.before.before.before.before.args.x c.before.before.put_byte.new.0 c.before.before.put_byte.result c.before.before.before.before.if1.true c.before.before.put_byte.ensures
 
 put-decimal-put-decimal-requires : (t : ℕ) → put-decimal-lts.Need-put-decimal-requires (
   put-byte-reads.Asked,

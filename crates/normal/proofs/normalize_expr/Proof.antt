@@ -4,10 +4,10 @@ use native.Mathlib.Omega.{arith}
 use lib.ListN.{length}
 use Rattle.arena.specs.declared.Added.TheVariants.{Refused}
 use Rattle.arena.proofs.Layouts.{lawful-holds}
-use Rattle.classes.specs.Calls.{groupNumber}
+use Rattle.classes.specs.Calls.{group_number}
 use Rattle.group_checks.proofs.Calling.{number-known}
 use Rattle.group_checks.proofs.HeldLaws.{number-lawful, number-held}
-use Rattle.normal.specs.Calls.{normalizeExpr}
+use Rattle.normal.specs.Calls.{normalize_expr}
 use Rattle.normal.proofs.Calling.{checked_refused, expr-unknown, expr-known}
 use borrow.Author.Rules.{rules}
 use Rattle.normal.proofs.normalize_expr.Statement.{statement}
@@ -19,7 +19,7 @@ check-group-requires c κs = search rules
 returns : tie.Need-returns
 returns c =
     let b = c.before.before.before in
-    rw c.before.check-group.ensures (checked_refused (groupNumber b.args.cells.now b.args.group) Refused (normalizeExpr b.args.expr) b.args.cells.now b.args.group (λ z. c.if1.true (c.before.check-group.ensures ∙ z)))
+    rw c.before.check-group.ensures (checked_refused (group_number b.args.cells.now b.args.group) Refused (normalize_expr b.args.expr) b.args.cells.now b.args.group (λ z. c.if1.true (c.before.check-group.ensures ∙ z)))
 
 node-count-requires : tie.Need-node-count-requires
 node-count-requires c κs = search rules

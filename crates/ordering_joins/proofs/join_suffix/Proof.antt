@@ -2,7 +2,7 @@
 use Prim.Native.Nat.{ℕ}
 use mathlib.Core.Path.{◌≡◌, sym, ap, ◌∙◌}
 use borrow.Author.Rules.{rules}
-use Rattle.orderings.specs.Calls.{twoNumber}
+use Rattle.orderings.specs.Calls.{two_number}
 use Rattle.orderings.proofs.Appending.{told}
 use Rattle.ordering_joins.proofs.Calling.{join-refused-by, join-passed}
 use Rattle.orderings.proofs.ListChecks.{sized}
@@ -20,7 +20,7 @@ check-two-requires c κs = search rules
 returns : tie.Need-returns
 returns c =
     let s = c.before.before in
-    let k : c.before.check-two.result ≡ twoNumber s.args.cells.now s.args.list s.args.other = c.before.check-two.ensures in
+    let k : c.before.check-two.result ≡ two_number s.args.cells.now s.args.list s.args.other = c.before.check-two.ensures in
     ap (λ (n : ℕ). told n s.args.list) k ∙ sym (join-refused-by s.args.cells.now s.args.list s.args.other (λ z. c.if1.true (k ∙ z)))
 
 join-in-requires : tie.Need-join-in-requires

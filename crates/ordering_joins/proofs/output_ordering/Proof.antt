@@ -3,9 +3,9 @@ use mathlib.Core.List.{List}
 use mathlib.Core.Path.{sym, ap, ◌∙◌}
 use Prim.Native.Nat.{ℕ}
 use borrow.Author.Rules.{rules}
-use Rattle.orderings.specs.Lists.{outputOrdering}
-use Rattle.ordering_joins.specs.Calls.{noOutput, outputOf}
-use Rattle.orderings.proofs.Asking.{ask-refused, ask-passed}
+use Rattle.orderings.specs.Lists.{output_ordering}
+use Rattle.ordering_joins.specs.Calls.{no_output, output_of}
+use Rattle.orderings.proofs.Asking.{ask_refused, ask_passed}
 use Rattle.orderings.proofs.ListChecks.{sized}
 use Rattle.orderings.proofs.ListHeld.{number-held}
 use Rattle.ordering_joins.proofs.output_ordering.Statement.{statement}
@@ -26,8 +26,8 @@ returns : tie.Need-returns
 returns c =
     let s = c.before.before.before in
     let k = c.before.before.check-list.ensures in
-    c.no_output.ensures ∙ ap noOutput k
-    ∙ sym (ask-refused noOutput (λ (os : List (List ℕ)). outputOf (outputOrdering os)) s.args.cells.now s.args.list (λ z. c.before.if1.true (k ∙ z)))
+    c.no_output.ensures ∙ ap no_output k
+    ∙ sym (ask_refused no_output (λ (os : List (List ℕ)). output_of (output_ordering os)) s.args.cells.now s.args.list (λ z. c.before.if1.true (k ∙ z)))
 
 output-in-requires : tie.Need-output-in-requires
 output-in-requires c κs =
@@ -37,8 +37,8 @@ output-in-requires c κs =
 returns-2 : tie.Need-returns-2
 returns-2 c =
     let s = c.before.before.before in
-    c.output-in.ensures
-    ∙ sym (ask-passed noOutput (λ (os : List (List ℕ)). outputOf (outputOrdering os)) s.args.cells.now s.args.list (sym c.before.before.check-list.ensures ∙ c.before.if1.false))
+    c.output_in_lem.ensures
+    ∙ sym (ask_passed no_output (λ (os : List (List ℕ)). output_of (output_ordering os)) s.args.cells.now s.args.list (sym c.before.before.check-list.ensures ∙ c.before.if1.false))
 
 pub output-ordering-spec : {M : Type 1} → statement M
 output-ordering-spec =

@@ -4,9 +4,9 @@ use native.Mathlib.Omega.{arith}
 use borrow.Author.Rules.{rules}
 use Rattle.arena.specs.Layout.{count}
 use Rattle.orderings.specs.Layout.{decode}
-use Rattle.ordering_questions.specs.Calls.{optionsAnswer}
+use Rattle.ordering_questions.specs.Calls.{options_answer}
 use Rattle.ordering_questions.specs.declared.OptionsAre.TheVariants.{Refused}
-use Rattle.orderings.proofs.Asking.{ask-refused, ask-passed}
+use Rattle.orderings.proofs.Asking.{ask_refused, ask_passed}
 use Rattle.ordering_questions.proofs.Asking.{options-unknown, options-known}
 use Rattle.orderings.proofs.ListChecks.{sized}
 use Rattle.orderings.proofs.ListHeld.{number-held}
@@ -26,7 +26,7 @@ returns : tie.Need-returns
 returns c =
     let s = c.before.before in
     let k = c.before.check-list.ensures in
-    ap Refused k ∙ sym (ask-refused (λ k. Refused k) (optionsAnswer (count s.args.cells.now) s.args.expr) s.args.cells.now s.args.list (λ z. c.if1.true (k ∙ z)))
+    ap Refused k ∙ sym (ask_refused (λ k. Refused k) (options_answer (count s.args.cells.now) s.args.expr) s.args.cells.now s.args.list (λ z. c.if1.true (k ∙ z)))
 
 node-count-requires : tie.Need-node-count-requires
 node-count-requires c κs = search rules
@@ -39,7 +39,7 @@ returns-2 c =
     let s = c.before.before.before.before.before in
     let cells = s.args.cells.now in
     let z = sym c.before.before.before.before.check-list.ensures ∙ c.before.before.before.if1.false in
-    sym (ask-passed (λ k. Refused k) (optionsAnswer (count cells) s.args.expr) cells s.args.list z
+    sym (ask_passed (λ k. Refused k) (options_answer (count cells) s.args.expr) cells s.args.list z
     ∙ options-unknown (count cells) s.args.expr (decode s.args.list) (omega (arith, c.before.before.node-count.ensures, c.before.wide.ensures, c.if2.true)))
 
 options-in-requires : tie.Need-options-in-requires
@@ -52,8 +52,8 @@ returns-3 c =
     let s = c.before.before.before.before.before.before in
     let cells = s.args.cells.now in
     let z = sym c.before.before.before.before.before.check-list.ensures ∙ c.before.before.before.before.if1.false in
-    c.options-in.ensures
-    ∙ sym (ask-passed (λ k. Refused k) (optionsAnswer (count cells) s.args.expr) cells s.args.list z
+    c.options_in_lem.ensures
+    ∙ sym (ask_passed (λ k. Refused k) (options_answer (count cells) s.args.expr) cells s.args.list z
     ∙ options-known (count cells) s.args.expr (decode s.args.list) (omega (arith, c.before.before.before.node-count.ensures, c.before.before.wide.ensures, c.before.if2.false)))
 
 pub get-options-spec : {M : Type 1} → statement M

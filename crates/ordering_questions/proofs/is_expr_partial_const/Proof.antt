@@ -4,10 +4,10 @@ use native.Mathlib.Omega.{arith}
 use borrow.Author.Rules.{rules}
 use Rattle.arena.specs.Layout.{count}
 use Rattle.orderings.specs.Layout.{decode}
-use Rattle.ordering_questions.specs.Calls.{partialAnswer}
+use Rattle.ordering_questions.specs.Calls.{partial_answer}
 use Rattle.ordering_questions.specs.declared.PartialIs.TheVariants.{Refused}
-use Rattle.orderings.proofs.Asking.{ask-refused, ask-passed}
-use Rattle.ordering_questions.proofs.Asking.{partial-unknown, partial-yes, partial-no}
+use Rattle.orderings.proofs.Asking.{ask_refused, ask_passed}
+use Rattle.ordering_questions.proofs.Asking.{partial_unknown, partial_yes, partial_no}
 use Rattle.orderings.proofs.ListChecks.{sized}
 use Rattle.orderings.proofs.ListHeld.{number-held}
 use Rattle.ordering_questions.proofs.is_expr_partial_const.Statement.{statement}
@@ -26,7 +26,7 @@ returns : tie.Need-returns
 returns c =
     let s = c.before.before in
     let k = c.before.check-list.ensures in
-    ap Refused k ∙ sym (ask-refused (λ k. Refused k) (partialAnswer (count s.args.cells.now) s.args.expr) s.args.cells.now s.args.list (λ z. c.if1.true (k ∙ z)))
+    ap Refused k ∙ sym (ask_refused (λ k. Refused k) (partial_answer (count s.args.cells.now) s.args.expr) s.args.cells.now s.args.list (λ z. c.if1.true (k ∙ z)))
 
 node-count-requires : tie.Need-node-count-requires
 node-count-requires c κs = search rules
@@ -39,8 +39,8 @@ returns-2 c =
     let s = c.before.before.before.before.before in
     let cells = s.args.cells.now in
     let z = sym c.before.before.before.before.check-list.ensures ∙ c.before.before.before.if1.false in
-    sym (ask-passed (λ k. Refused k) (partialAnswer (count cells) s.args.expr) cells s.args.list z
-    ∙ partial-unknown (count cells) s.args.expr (decode s.args.list) (omega (arith, c.before.before.node-count.ensures, c.before.wide.ensures, c.if2.true)))
+    sym (ask_passed (λ k. Refused k) (partial_answer (count cells) s.args.expr) cells s.args.list z
+    ∙ partial_unknown (count cells) s.args.expr (decode s.args.list) (omega (arith, c.before.before.node-count.ensures, c.before.wide.ensures, c.if2.true)))
 
 partial-in-requires : tie.Need-partial-in-requires
 partial-in-requires c κs =
@@ -52,16 +52,16 @@ returns-3 c =
     let s = c.before.before.before.before.before.before.before in
     let cells = s.args.cells.now in
     let z = sym c.before.before.before.before.before.before.check-list.ensures ∙ c.before.before.before.before.before.if1.false in
-    sym (ask-passed (λ k. Refused k) (partialAnswer (count cells) s.args.expr) cells s.args.list z
-    ∙ partial-yes (count cells) s.args.expr (decode s.args.list) (omega (arith, c.before.before.before.before.node-count.ensures, c.before.before.before.wide.ensures, c.before.before.if2.false)) (sym c.before.partial-in.ensures ∙ c.if3.true))
+    sym (ask_passed (λ k. Refused k) (partial_answer (count cells) s.args.expr) cells s.args.list z
+    ∙ partial_yes (count cells) s.args.expr (decode s.args.list) (omega (arith, c.before.before.before.before.node-count.ensures, c.before.before.before.wide.ensures, c.before.before.if2.false)) (sym c.before.partial_in_lem.ensures ∙ c.if3.true))
 
 returns-4 : tie.Need-returns-4
 returns-4 c =
     let s = c.before.before.before.before.before.before.before in
     let cells = s.args.cells.now in
     let z = sym c.before.before.before.before.before.before.check-list.ensures ∙ c.before.before.before.before.before.if1.false in
-    sym (ask-passed (λ k. Refused k) (partialAnswer (count cells) s.args.expr) cells s.args.list z
-    ∙ partial-no (count cells) s.args.expr (decode s.args.list) (omega (arith, c.before.before.before.before.node-count.ensures, c.before.before.before.wide.ensures, c.before.before.if2.false)) (sym c.before.partial-in.ensures ∙ c.if3.false))
+    sym (ask_passed (λ k. Refused k) (partial_answer (count cells) s.args.expr) cells s.args.list z
+    ∙ partial_no (count cells) s.args.expr (decode s.args.list) (omega (arith, c.before.before.before.before.node-count.ensures, c.before.before.before.wide.ensures, c.before.before.if2.false)) (sym c.before.partial_in_lem.ensures ∙ c.if3.false))
 
 pub is-expr-partial-const-spec : {M : Type 1} → statement M
 is-expr-partial-const-spec =

@@ -4,9 +4,9 @@ use mathlib.Core.List.{List, []}
 use mathlib.Core.Path.{sym, ap, ◌∙◌}
 use borrow.Author.Rules.{rules}
 use Rattle.orderings.specs.Layout.{encode}
-use Rattle.orderings.specs.Calls.{clearAnswer}
+use Rattle.orderings.specs.Calls.{clear_answer}
 use Rattle.orderings.proofs.Appending.{told}
-use Rattle.orderings.proofs.Asking.{ask-refused, ask-passed}
+use Rattle.orderings.proofs.Asking.{ask_refused, ask_passed}
 use Rattle.orderings.proofs.clear.Statement.{statement}
 use Rattle.orderings.proofs.clear.Tie as tie
 use Rattle.orderings.proofs.clear.Reads as reads
@@ -22,12 +22,12 @@ refusal-requires : tie.Need-refusal-requires
 refusal-requires c κs = search rules
 
 returns : tie.Need-returns
-unfolding clearAnswer
+unfolding clear_answer
 returns c =
     let s = c.before.before.before in
     let k = c.before.before.check-list.ensures in
     c.refusal.ensures ∙ ap (λ (n : ℕ). told n s.args.list) k
-    ∙ sym (ask-refused (λ (n : ℕ). told n s.args.list) (λ (os : List (List ℕ)). told 0 (encode [])) s.args.cells.now s.args.list (λ z. c.before.if1.true (k ∙ z)))
+    ∙ sym (ask_refused (λ (n : ℕ). told n s.args.list) (λ (os : List (List ℕ)). told 0 (encode [])) s.args.cells.now s.args.list (λ z. c.before.if1.true (k ∙ z)))
 
 no-orderings-requires : tie.Need-no-orderings-requires
 no-orderings-requires c κs = search rules
@@ -36,11 +36,11 @@ refusal-requires-2 : tie.Need-refusal-requires-2
 refusal-requires-2 c κs = search rules
 
 returns-2 : tie.Need-returns-2
-unfolding clearAnswer
+unfolding clear_answer
 returns-2 c =
     let s = c.before.before.before.before in
     c.refusal2.ensures ∙ ap (told 0) c.before.no-orderings.ensures
-    ∙ sym (ask-passed (λ (n : ℕ). told n s.args.list) (λ (os : List (List ℕ)). told 0 (encode [])) s.args.cells.now s.args.list (sym c.before.before.before.check-list.ensures ∙ c.before.before.if1.false))
+    ∙ sym (ask_passed (λ (n : ℕ). told n s.args.list) (λ (os : List (List ℕ)). told 0 (encode [])) s.args.cells.now s.args.list (sym c.before.before.before.check-list.ensures ∙ c.before.before.if1.false))
 
 pub clear_spec : {M : Type 1} → statement M
 clear_spec = tie.close (tie.spec check-list-requires refusal-requires returns no-orderings-requires refusal-requires-2 returns-2)

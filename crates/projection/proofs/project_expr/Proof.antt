@@ -5,10 +5,10 @@ use lib.ListN.{length}
 use Rattle.group_checks.proofs.Calling.{number-known}
 use Rattle.group_checks.proofs.HeldLaws.{number-held}
 use Rattle.normal.proofs.Calling.{checked_refused}
-use Rattle.mappings.specs.Lent.{mappingLent}
-use Rattle.mappings.specs.Calls.{projectNumber}
+use Rattle.mappings.specs.Lent.{mapping_lent}
+use Rattle.mappings.specs.Calls.{project_number}
 use Rattle.mappings.proofs.MappingChecked.{mapping-whole, group-passes}
-use Rattle.projection.specs.Calls.{projectExpr}
+use Rattle.projection.specs.Calls.{project_expr}
 use Rattle.projection.specs.declared.Projected.TheVariants.{Refused}
 use Rattle.projection.proofs.CallLaws.{lent-checked, expr-unknown, expr-known}
 use borrow.Author.Rules.{rules}
@@ -22,7 +22,7 @@ returns : tie.Need-returns
 returns c =
     let s = c.before.before.before.before in
     rw c.before.project-number.ensures
-    (checked_refused (projectNumber s.args.cells.now s.args.group s.args.mapping.now) Refused (projectExpr s.args.expr (mappingLent s.args.mapping.now)) s.args.cells.now s.args.group (λ w. c.if1.true (c.before.project-number.ensures ∙ w)))
+    (checked_refused (project_number s.args.cells.now s.args.group s.args.mapping.now) Refused (project_expr s.args.expr (mapping_lent s.args.mapping.now)) s.args.cells.now s.args.group (λ w. c.if1.true (c.before.project-number.ensures ∙ w)))
 
 node-count-requires : tie.Need-node-count-requires
 node-count-requires c κs = search rules

@@ -7,10 +7,10 @@ use lib.ListN.{length}
 use Rattle.arena.specs.Layout.{count}
 use Rattle.group_checks.proofs.HeldLaws.{number-held}
 use Rattle.normal.proofs.Calling.{checked_refused}
-use Rattle.mappings.specs.Lent.{mappingLent}
-use Rattle.mappings.specs.Calls.{projectNumber}
+use Rattle.mappings.specs.Lent.{mapping_lent}
+use Rattle.mappings.specs.Calls.{project_number}
 use Rattle.mappings.proofs.MappingChecked.{mapping-whole, group-passes}
-use Rattle.projection.specs.Calls.{projectExpressions}
+use Rattle.projection.specs.Calls.{project_expressions}
 use Rattle.projection.proofs.CallLaws.{all_below, each_below, lent-holds, lent-checked, exprs-unknown, exprs-known}
 use borrow.Author.Rules.{rules}
 use Rattle.projection.proofs.project_expressions.Statement.{statement}
@@ -23,7 +23,7 @@ returns : tie.Need-returns
 returns c =
     let s = c.before.before.before.before.before.before in
     rw c.before.project-number.ensures
-    (checked_refused (projectNumber s.args.cells.now s.args.group s.args.mapping.now) (λ (k : ℕ). (k, s.args.out.now)) (projectExpressions s.args.exprs.now s.args.out.now (mappingLent s.args.mapping.now)) s.args.cells.now s.args.group (λ w. c.if1.true (c.before.project-number.ensures ∙ w)))
+    (checked_refused (project_number s.args.cells.now s.args.group s.args.mapping.now) (λ (k : ℕ). (k, s.args.out.now)) (project_expressions s.args.exprs.now s.args.out.now (mapping_lent s.args.mapping.now)) s.args.cells.now s.args.group (λ w. c.if1.true (c.before.project-number.ensures ∙ w)))
 
 node-count-requires : tie.Need-node-count-requires
 node-count-requires c κs = search rules

@@ -8,8 +8,8 @@ use Rattle.arena.specs.Layout.{decode as nodes}
 use Rattle.arena.proofs.Layouts.{length-decode}
 use Rattle.classes.specs.Layout.{decode}
 use Rattle.group_checks.proofs.HeldLaws.{number-held}
-use Rattle.group_checks.proofs.Calling.{ask-done, ask-refused, number-known}
-use Rattle.questions.specs.Calls.{constantAnswer}
+use Rattle.group_checks.proofs.Calling.{ask_done, ask_refused, number-known}
+use Rattle.questions.specs.Calls.{constant_answer}
 use Rattle.questions.specs.declared.ConstantIs.{ConstantIs}
 use Rattle.questions.specs.declared.ConstantIs.TheVariants.{Is}
 use Rattle.questions.proofs.Calling.{constant-unknown, constant-known}
@@ -21,7 +21,7 @@ check-group-requires c κs = search rules
 
 returns : tie.Need-returns
 returns c =
-    ask-refused c.before.before.args.cells.now c.before.before.args.group (λ k. ConstantIs.Refused k) (constantAnswer c.before.before.args.expr) c.before.check-group.result c.before.check-group.ensures c.if1.true
+    ask_refused c.before.before.args.cells.now c.before.before.args.group (λ k. ConstantIs.Refused k) (constant_answer c.before.before.args.expr) c.before.check-group.result c.before.check-group.ensures c.if1.true
 
 node-count-requires : tie.Need-node-count-requires
 node-count-requires c κs = search rules
@@ -32,7 +32,7 @@ wide-requires c κs = search rules
 returns-2 : tie.Need-returns-2
 returns-2 c =
     let l : length (nodes c.before.before.before.before.before.args.cells.now) ≤ c.before.before.before.before.before.args.expr = omega (arith, length-decode c.before.before.before.before.before.args.cells.now, c.before.before.node-count.ensures, c.before.wide.ensures) in
-    sym ((ask-done c.before.before.before.before.before.args.cells.now c.before.before.before.before.before.args.group (λ k. ConstantIs.Refused k) (constantAnswer c.before.before.before.before.before.args.expr) (sym c.before.before.before.before.check-group.ensures ∙ c.before.before.before.if1.false)) ∙ constant-unknown (nodes c.before.before.before.before.before.args.cells.now) (decode c.before.before.before.before.before.args.group) c.before.before.before.before.before.args.expr l)
+    sym ((ask_done c.before.before.before.before.before.args.cells.now c.before.before.before.before.before.args.group (λ k. ConstantIs.Refused k) (constant_answer c.before.before.before.before.before.args.expr) (sym c.before.before.before.before.check-group.ensures ∙ c.before.before.before.if1.false)) ∙ constant-unknown (nodes c.before.before.before.before.before.args.cells.now) (decode c.before.before.before.before.before.args.group) c.before.before.before.before.before.args.expr l)
 
 constant-in-requires : tie.Need-constant-in-requires
 constant-in-requires c κs =
@@ -46,7 +46,7 @@ constant-in-requires c κs =
 returns-3 : tie.Need-returns-3
 returns-3 c =
     let l : c.before.before.before.before.before.before.args.expr < length (nodes c.before.before.before.before.before.before.args.cells.now) = omega (arith, length-decode c.before.before.before.before.before.before.args.cells.now, c.before.before.before.node-count.ensures, c.before.before.wide.ensures) in
-    ap Is c.constant-in.ensures ∙ sym ((ask-done c.before.before.before.before.before.before.args.cells.now c.before.before.before.before.before.before.args.group (λ k. ConstantIs.Refused k) (constantAnswer c.before.before.before.before.before.before.args.expr) (sym c.before.before.before.before.before.check-group.ensures ∙ c.before.before.before.before.if1.false)) ∙ constant-known (nodes c.before.before.before.before.before.before.args.cells.now) (decode c.before.before.before.before.before.before.args.group) c.before.before.before.before.before.before.args.expr l)
+    ap Is c.constant_in_lem.ensures ∙ sym ((ask_done c.before.before.before.before.before.before.args.cells.now c.before.before.before.before.before.before.args.group (λ k. ConstantIs.Refused k) (constant_answer c.before.before.before.before.before.before.args.expr) (sym c.before.before.before.before.before.check-group.ensures ∙ c.before.before.before.before.if1.false)) ∙ constant-known (nodes c.before.before.before.before.before.before.args.cells.now) (decode c.before.before.before.before.before.before.args.group) c.before.before.before.before.before.before.args.expr l)
 
 pub is-expr-constant-spec : {M : Type 1} → statement M
 is-expr-constant-spec =

@@ -2,7 +2,7 @@
 use mathlib.Core.Logic.{⊎_elim}
 use mathlib.Core.Option.{none}
 use mathlib.Core.Path.{◌≡◌}
-use Rattle.records.specs.Chosen.{side_of, chosenPart, part_of}
+use Rattle.records.specs.Chosen.{side_of, chosen_part, part_of}
 use Rattle.records.proofs.Choices.{side-low, side_left, side_right, side-high}
 use borrow.Author.Rules.{rules}
 use Rattle.records.proofs.chosen.Statement.{statement}
@@ -18,17 +18,17 @@ slice-aggregate-result : tie.Need-slice-aggregate-result
 slice-aggregate-result c = search rules
 
 returns : tie.Need-returns
-unfolding chosenPart part_of
+unfolding chosen_part part_of
 returns c =
     rw (side_left c.before.before.before.before.before.args.kind c.before.before.before.before.before.args.left.now c.before.before.before.before.before.args.right.now c.before.before.if1.false c.before.if2.true) c.group-part.ensures
 
 returns-2 : tie.Need-returns-2
-unfolding chosenPart part_of
+unfolding chosen_part part_of
 returns-2 c =
     rw (side_right c.before.before.before.before.before.before.args.kind c.before.before.before.before.before.before.args.left.now c.before.before.before.before.before.before.args.right.now c.before.before.if2.false c.before.if3.true) c.group-part2.ensures
 
 returns-3 : tie.Need-returns-3
-unfolding chosenPart part_of
+unfolding chosen_part part_of
 returns-3 c =
     let l = c.before.before.before.before.args.left.now in
     let r = c.before.before.before.before.args.right.now in

@@ -1,5 +1,5 @@
 -- `records::chosen_number` meets its contract.
-use Rattle.records.specs.Chosen.{chosenNumber, number_of}
+use Rattle.records.specs.Chosen.{chosen_number, number_of}
 use Rattle.records.proofs.Choices.{side-low, side_left, side_right, side-high}
 use borrow.Author.Rules.{rules}
 use Rattle.records.proofs.chosen_number.Statement.{statement}
@@ -12,22 +12,22 @@ group-number-requires-2 : tie.Need-group-number-requires-2
 group-number-requires-2 c κs = search rules
 
 returns : tie.Need-returns
-unfolding chosenNumber
+unfolding chosen_number
 returns c =
     rw (side_left c.before.before.before.before.before.args.kind c.before.before.before.before.before.args.left.now c.before.before.before.before.before.args.right.now c.before.before.if1.false c.before.if2.true) c.group-number.ensures
 
 returns-2 : tie.Need-returns-2
-unfolding chosenNumber
+unfolding chosen_number
 returns-2 c =
     rw (side_right c.before.before.before.before.before.before.args.kind c.before.before.before.before.before.before.args.left.now c.before.before.before.before.before.before.args.right.now c.before.before.if2.false c.before.if3.true) c.group-number2.ensures
 
 returns-3 : tie.Need-returns-3
-unfolding chosenNumber number_of
+unfolding chosen_number number_of
 returns-3 c =
     rw (side-low c.before.before.before.args.kind c.before.before.before.args.left.now c.before.before.before.args.right.now c.if1.true)
 
 returns-4 : tie.Need-returns-4
-unfolding chosenNumber number_of
+unfolding chosen_number number_of
 returns-4 c =
     rw (side-high c.before.before.before.before.before.args.kind c.before.before.before.before.before.args.left.now c.before.before.before.before.before.args.right.now c.if3.false)
 

@@ -4,7 +4,7 @@ use mathlib.Core.List.{List, ◌++◌}
 use mathlib.Core.Path.{sym, ap, ◌∙◌}
 use borrow.Author.Rules.{rules}
 use Rattle.orderings.specs.Layout.{decode}
-use Rattle.reduction.specs.Calls.{reducedList}
+use Rattle.reduction.specs.Calls.{reduced_list}
 use Rattle.reduction.proofs.Adding.{built-lent}
 use Rattle.orderings.proofs.Appending.{told}
 use Rattle.reduction.proofs.Calling.{extend-refused-by, extend-passed}
@@ -47,7 +47,7 @@ returns-2 c =
     let g = s.args.list in
     let ns = s.args.numbers.now in
     c.add-in.ensures
-    ∙ ap (λ (t : List (List ℕ)). reducedList g (decode g ++ t)) (built-lent ns (lent-options cells g ns (extend-lent cells g ns z)) (extend-orderings cells g ns z))
+    ∙ ap (λ (t : List (List ℕ)). reduced_list g (decode g ++ t)) (built-lent ns (lent-options cells g ns (extend-lent cells g ns z)) (extend-orderings cells g ns z))
     ∙ sym (extend-passed cells g ns z)
 
 pub extend-spec : {M : Type 1} → statement M

@@ -1,7 +1,7 @@
 -- `reduction::new` meets its contract.
 use mathlib.Core.Path.{ap, ◌∙◌}
 use borrow.Author.Rules.{rules}
-use Rattle.reduction.specs.Calls.{addAnswer}
+use Rattle.reduction.specs.Calls.{add_answer}
 use Rattle.orderings.specs.declared.Orderings.{Orderings}
 use Rattle.reduction.proofs.new.Statement.{statement}
 use Rattle.reduction.proofs.new.Tie as tie
@@ -19,7 +19,7 @@ add-orderings-requires c κs = search rules
 returns : tie.Need-returns
 returns c =
     let x = c.before.before.before.args in
-    c.add-orderings.ensures ∙ ap (λ (g : Orderings). addAnswer x.cells.now g x.numbers.now) c.before.no-orderings.ensures
+    c.add-orderings.ensures ∙ ap (λ (g : Orderings). add_answer x.cells.now g x.numbers.now) c.before.no-orderings.ensures
 
 pub new_spec : {M : Type 1} → statement M
 new_spec = tie.close (tie.spec no-orderings-requires add-orderings-requires returns)

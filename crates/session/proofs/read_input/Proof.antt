@@ -30,8 +30,8 @@ part-read-start : tie.Need-slice-bounds-read-start invariant-loop decreases-loop
 part-read-start c = search rules
 
 -- src/main.rt:38:34
-part-read-end : tie.Need-slice-bounds-read-end invariant-loop decreases-loop
-part-read-end c = search rules
+part_read_end : tie.Need-slice-bounds-read-end invariant-loop decreases-loop
+part_read_end c = search rules
 
 -- src/main.rt:38:13
 read-requires : tie.Need-read-requires invariant-loop decreases-loop
@@ -54,8 +54,8 @@ part-count-start : tie.Need-slice-bounds-count-start invariant-loop decreases-lo
 part-count-start c = search rules
 
 -- src/main.rt:42:32
-part-count-end : tie.Need-slice-bounds-count-end invariant-loop decreases-loop
-part-count-end c = search rules
+part_count_end : tie.Need-slice-bounds-count-end invariant-loop decreases-loop
+part_count_end c = search rules
 
 -- src/main.rt:42:13
 count-requires : tie.Need-count-requires invariant-loop decreases-loop
@@ -98,13 +98,13 @@ read-input-spec =
     loop-holds
     sub_read
     part-read-start
-    part-read-end
+    part_read_end
     read-requires
     same_length
     returns
     sub-count
     part-count-start
-    part-count-end
+    part_count_end
     count-requires
     same-length-2
     returns-2

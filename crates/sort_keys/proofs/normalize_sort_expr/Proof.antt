@@ -4,7 +4,7 @@ use mathlib.Core.List.{List}
 use mathlib.Core.Path.{ap, ◌∙◌}
 use native.Mathlib.Omega.{arith}
 use Rattle.arena.specs.declared.Added.{Added}
-use Rattle.sort_keys.specs.Calls.{keyIs}
+use Rattle.sort_keys.specs.Calls.{key_is}
 use Rattle.sort_keys.specs.declared.KeyIs.{KeyIs}
 use Rattle.sort_keys.proofs.KeyCalls.{options-refused, key-normalized}
 use borrow.Author.Rules.{rules}
@@ -25,7 +25,7 @@ key-is-requires c κs = search rules
 returns-2 : tie.Need-returns-2
 returns-2 c =
     let b = c.before.before.before.before in
-    rw c.key-is.ensures (ap {B = KeyIs × List ℕ} (λ (o : Added × List ℕ). (keyIs b.args.options o.0, o.1)) c.before.normalize-expr.ensures ∙ key-normalized b.args.expr b.args.options b.args.cells.now b.args.group (omega (arith, c.before.before.before.if1.false)))
+    rw c.key-is.ensures (ap {B = KeyIs × List ℕ} (λ (o : Added × List ℕ). (key_is b.args.options o.0, o.1)) c.before.normalize-expr.ensures ∙ key-normalized b.args.expr b.args.options b.args.cells.now b.args.group (omega (arith, c.before.before.before.if1.false)))
 
 pub normalize-sort-expr-spec : {M : Type 1} → statement M
 normalize-sort-expr-spec =

@@ -4,7 +4,7 @@ use Prim.Native.Nat.{◌-◌}
 use mathlib.Core.Path.{sym, ◌∙◌}
 use native.Mathlib.Omega.{arith}
 use lib.ListN.{length}
-use Rattle.transcript.proofs.Running.{Ran, run-begins, end-room, end-length, run_ends, stop-room, stop-end-room, stop-length, run-stops, size_low, size-high, header-there, said-room, run-goes-on}
+use Rattle.transcript.proofs.Running.{Ran, run-begins, end_room, end_length, run_ends, stop-room, stop_end_room, stop-length, run-stops, size_low, size-high, header-there, said-room, run-goes_on}
 use Rattle.transcript.proofs.run.Statement.{statement}
 use Rattle.transcript.proofs.run.Tie as tie
 
@@ -46,7 +46,7 @@ put-refusal-requires c κs =
 
 put-end-requires : tie.Need-put-end-requires invariant-loop decreases-loop
 put-end-requires c κs =
-    stop-end-room c.before.before.before.before.before.before.before.before.before.before.before.before.before.before.before.args.input.now c.before.before.before.before.before.before.before.before.before.before.before.before.before.before.before.args.output.now c.before.before.before.before.before.before.before.before.before.before.loop.output c.before.before.before.before.before.before.before.before.before.before.loop.cells c.before.before.before.before.before.before.before.before.before.before.loop.state c.before.before.before.before.before.before.before.before.before.before.loop.done c.before.before.before.before.before.before.before.before.before.before.loop.at c.before.before.before.before.before.before.before.before.before.before.loop.k c.before.before.before.before.before.before.before.before.before.before.before.before.before.before.before.requires.0 c.before.before.before.before.before.before.before.before.before.before.before.before.before.before.before.requires.1 c.before.before.before.before.before.before.before.before.before.before.loop.invariant c.before.before.before.before.before.before.before.before.before.loop-test.true c.before.before.before.before.before.before.before.read-record.result c.before.before.before.before.before.before.before.read-record.ensures (sym c.before.before.before.before.before.before.is-malformed.ensures ∙ c.before.before.before.before.before.if1.true) c.before.before.before.put-refusal.new.0 c.before.before.before.put-refusal.result c.before.before.before.put-refusal.ensures
+    stop_end_room c.before.before.before.before.before.before.before.before.before.before.before.before.before.before.before.args.input.now c.before.before.before.before.before.before.before.before.before.before.before.before.before.before.before.args.output.now c.before.before.before.before.before.before.before.before.before.before.loop.output c.before.before.before.before.before.before.before.before.before.before.loop.cells c.before.before.before.before.before.before.before.before.before.before.loop.state c.before.before.before.before.before.before.before.before.before.before.loop.done c.before.before.before.before.before.before.before.before.before.before.loop.at c.before.before.before.before.before.before.before.before.before.before.loop.k c.before.before.before.before.before.before.before.before.before.before.before.before.before.before.before.requires.0 c.before.before.before.before.before.before.before.before.before.before.before.before.before.before.before.requires.1 c.before.before.before.before.before.before.before.before.before.before.loop.invariant c.before.before.before.before.before.before.before.before.before.loop-test.true c.before.before.before.before.before.before.before.read-record.result c.before.before.before.before.before.before.before.read-record.ensures (sym c.before.before.before.before.before.before.is-malformed.ensures ∙ c.before.before.before.before.before.if1.true) c.before.before.before.put-refusal.new.0 c.before.before.before.put-refusal.result c.before.before.before.put-refusal.ensures
 
 same_length : tie.Need-same-length invariant-loop decreases-loop
 same_length c =
@@ -102,15 +102,15 @@ loop-less c =
 
 loop-again : tie.Need-loop-preserved invariant-loop decreases-loop
 loop-again c =
-    run-goes-on c.before.before.before.before.before.before.before.before.before.before.before.before.before.before.before.before.before.before.before.before.args.input.now c.before.before.before.before.before.before.before.before.before.before.before.before.before.before.before.before.before.before.before.before.args.output.now c.before.before.before.before.before.before.before.before.before.before.before.before.before.before.before.loop.output c.before.before.before.before.before.before.before.before.before.before.before.before.before.before.before.loop.cells c.before.before.before.before.before.before.before.before.before.before.before.before.before.before.before.loop.state c.before.before.before.before.before.before.before.before.before.before.before.before.before.before.before.loop.done c.before.before.before.before.before.before.before.before.before.before.before.before.before.before.before.loop.at c.before.before.before.before.before.before.before.before.before.before.before.before.before.before.before.loop.k c.before.before.before.before.before.before.before.before.before.before.before.before.before.before.before.before.before.before.before.before.requires.0 c.before.before.before.before.before.before.before.before.before.before.before.before.before.before.before.before.before.before.before.before.requires.1 c.before.before.before.before.before.before.before.before.before.before.before.before.before.before.before.loop.invariant c.before.before.before.before.before.before.before.before.before.before.before.before.before.before.loop-test.true c.before.before.before.before.before.before.before.before.before.before.before.before.read-record.result c.before.before.before.before.before.before.before.before.before.before.before.before.read-record.ensures (sym c.before.before.before.before.before.before.before.before.before.before.before.is-malformed.ensures ∙ c.before.before.before.before.before.before.before.before.before.before.if1.false) c.before.before.before.before.before.before.before.step.new.0 c.before.before.before.before.before.before.before.step.result c.before.before.before.before.before.before.before.step.ensures c.before.before.before.before.before.put-said.new.0 c.before.before.before.before.before.put-said.result c.before.before.before.before.before.put-said.ensures c.record-size.result c.record-size.ensures
+    run-goes_on c.before.before.before.before.before.before.before.before.before.before.before.before.before.before.before.before.before.before.before.before.args.input.now c.before.before.before.before.before.before.before.before.before.before.before.before.before.before.before.before.before.before.before.before.args.output.now c.before.before.before.before.before.before.before.before.before.before.before.before.before.before.before.loop.output c.before.before.before.before.before.before.before.before.before.before.before.before.before.before.before.loop.cells c.before.before.before.before.before.before.before.before.before.before.before.before.before.before.before.loop.state c.before.before.before.before.before.before.before.before.before.before.before.before.before.before.before.loop.done c.before.before.before.before.before.before.before.before.before.before.before.before.before.before.before.loop.at c.before.before.before.before.before.before.before.before.before.before.before.before.before.before.before.loop.k c.before.before.before.before.before.before.before.before.before.before.before.before.before.before.before.before.before.before.before.before.requires.0 c.before.before.before.before.before.before.before.before.before.before.before.before.before.before.before.before.before.before.before.before.requires.1 c.before.before.before.before.before.before.before.before.before.before.before.before.before.before.before.loop.invariant c.before.before.before.before.before.before.before.before.before.before.before.before.before.before.loop-test.true c.before.before.before.before.before.before.before.before.before.before.before.before.read-record.result c.before.before.before.before.before.before.before.before.before.before.before.before.read-record.ensures (sym c.before.before.before.before.before.before.before.before.before.before.before.is-malformed.ensures ∙ c.before.before.before.before.before.before.before.before.before.before.if1.false) c.before.before.before.before.before.before.before.step.new.0 c.before.before.before.before.before.before.before.step.result c.before.before.before.before.before.before.before.step.ensures c.before.before.before.before.before.put-said.new.0 c.before.before.before.before.before.put-said.result c.before.before.before.before.before.put-said.ensures c.record-size.result c.record-size.ensures
 
 put-end-requires-2 : tie.Need-put-end-requires-2 invariant-loop decreases-loop
 put-end-requires-2 c κs =
-    end-room c.before.before.before.before.before.before.before.args.input.now c.before.before.before.before.before.before.before.args.output.now c.before.before.loop.output c.before.before.loop.cells c.before.before.loop.state c.before.before.loop.done c.before.before.loop.at c.before.before.loop.k c.before.before.before.before.before.before.before.requires.0 c.before.before.before.before.before.before.before.requires.1 c.before.before.loop.invariant c.before.loop-test.false
+    end_room c.before.before.before.before.before.before.before.args.input.now c.before.before.before.before.before.before.before.args.output.now c.before.before.loop.output c.before.before.loop.cells c.before.before.loop.state c.before.before.loop.done c.before.before.loop.at c.before.before.loop.k c.before.before.before.before.before.before.before.requires.0 c.before.before.before.before.before.before.before.requires.1 c.before.before.loop.invariant c.before.loop-test.false
 
 same-length-2 : tie.Need-same-length-2 invariant-loop decreases-loop
 same-length-2 c =
-    end-length c.before.before.before.before.before.before.before.before.before.before.args.input.now c.before.before.before.before.before.before.before.before.before.before.args.output.now c.before.before.before.before.before.loop.output c.before.before.before.before.before.loop.cells c.before.before.before.before.before.loop.state c.before.before.before.before.before.loop.done c.before.before.before.before.before.loop.at c.before.before.before.before.before.loop.k c.before.before.before.before.before.before.before.before.before.before.requires.0 c.before.before.before.before.before.before.before.before.before.before.requires.1 c.before.before.before.before.before.loop.invariant c.before.before.before.before.loop-test.false c.before.before.put-end2.new.0 c.before.before.put-end2.result c.before.before.put-end2.ensures
+    end_length c.before.before.before.before.before.before.before.before.before.before.args.input.now c.before.before.before.before.before.before.before.before.before.before.args.output.now c.before.before.before.before.before.loop.output c.before.before.before.before.before.loop.cells c.before.before.before.before.before.loop.state c.before.before.before.before.before.loop.done c.before.before.before.before.before.loop.at c.before.before.before.before.before.loop.k c.before.before.before.before.before.before.before.before.before.before.requires.0 c.before.before.before.before.before.before.before.before.before.before.requires.1 c.before.before.before.before.before.loop.invariant c.before.before.before.before.loop-test.false c.before.before.put-end2.new.0 c.before.before.put-end2.result c.before.before.put-end2.ensures
 
 returns-2 : tie.Need-returns-2 invariant-loop decreases-loop
 returns-2 c =

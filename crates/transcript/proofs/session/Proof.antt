@@ -1,5 +1,5 @@
 -- `transcript::session` meets its contract.
-use Rattle.transcript.specs.Session.{sessionText}
+use Rattle.transcript.specs.Session.{session_text}
 use Rattle.transcript.proofs.Transcribing.{put-reaches, session-refused, session-done}
 use borrow.Author.Rules.{rules}
 use Rattle.transcript.proofs.session.Statement.{statement}
@@ -20,7 +20,7 @@ slice-aggregate-copy c = search rules
 
 copy-requires : tie.Need-copy-requires
 copy-requires c κs =
-    (put-reaches _ (sessionText c.before.before.before.before.before.before.before.before.args.input.now) c.before.before.before.before.transcribe.new.1.0 c.before.before.before.before.transcribe.result c.before.before.before.before.transcribe.ensures, c.before.before.if1.false)
+    (put-reaches _ (session_text c.before.before.before.before.before.before.before.before.args.input.now) c.before.before.before.before.transcribe.new.1.0 c.before.before.before.before.transcribe.result c.before.before.before.before.transcribe.ensures, c.before.before.if1.false)
 
 same_length : tie.Need-same-length
 same_length c = search rules

@@ -1,5 +1,5 @@
 -- `transcript::transcribe` meets its contract.
-use Rattle.transcript.proofs.Transcribing.{over-room, over-end-room, over-put, within-put}
+use Rattle.transcript.proofs.Transcribing.{over-room, over_end_room, over-put, within-put}
 use borrow.Author.Rules.{rules}
 use Rattle.transcript.proofs.transcribe.Statement.{statement}
 use Rattle.transcript.proofs.transcribe.Tie as tie
@@ -13,7 +13,7 @@ opened-requires c κs = search rules
 
 put-end-requires : tie.Need-put-end-requires
 put-end-requires c κs =
-    over-end-room c.before.before.before.before.before.before.before.before.before.args.input.now c.before.before.before.before.before.before.before.before.before.args.output.now c.before.before.before.before.before.before.before.before.before.requires c.opened.result c.opened.ensures c.before.before.before.before.put-refusal.new.0 c.before.before.before.before.put-refusal.result c.before.before.before.before.put-refusal.ensures
+    over_end_room c.before.before.before.before.before.before.before.before.before.args.input.now c.before.before.before.before.before.before.before.before.before.args.output.now c.before.before.before.before.before.before.before.before.before.requires c.opened.result c.opened.ensures c.before.before.before.before.put-refusal.new.0 c.before.before.before.before.put-refusal.result c.before.before.before.before.put-refusal.ensures
 
 same_length : tie.Need-same-length
 same_length c = search rules

@@ -2,13 +2,13 @@
 use mathlib.Core.Path.{sym, ap, subst, ◌∙◌}
 use Rattle.arena.specs.Layout.{decode as nodes}
 use Rattle.classes.specs.Calls.{changed}
-use Rattle.classes.specs.Group.{equalCondition}
+use Rattle.classes.specs.Group.{equal_condition}
 use Rattle.classes.specs.Inner.{Held}
 use Rattle.classes.specs.Layout.{decode}
 use Rattle.classes.specs.Steps.{judged}
 use Rattle.classes.specs.declared.Group.{Group}
 use Rattle.classes.specs.declared.Changed.{Changed}
-use Rattle.group_states.specs.Groups.{storedGroup}
+use Rattle.group_states.specs.Groups.{stored_group}
 use Rattle.group_states.specs.Inner.{FitsIfDone}
 use Rattle.unchecked.proofs.Carried.{judged-fits}
 use borrow.Author.Rules.{rules}
@@ -29,13 +29,13 @@ store-group-requires c κs =
     let x = s.args in
     let g = c.before.before.load-group.result in
     let h = subst (Held (nodes x.arena.now)) (sym c.before.before.load-group.ensures) s.requires.0 in
-    subst FitsIfDone (sym c.before.equal-condition-in.ensures) (judged-fits g.limit (decode g) (equalCondition (nodes x.arena.now) (decode g) x.left x.right) h.high)
+    subst FitsIfDone (sym c.before.equal-condition-in.ensures) (judged-fits g.limit (decode g) (equal_condition (nodes x.arena.now) (decode g) x.left x.right) h.high)
 
 returns : tie.Need-returns
 returns c =
     let x = c.before.before.before.before.before.args in
-    let is : Group → Changed = λ g. changed g.limit (judged g.limit (decode g) (equalCondition (nodes x.arena.now) (decode g) x.left x.right)) in
-    c.store-group.ensures ∙ ap (storedGroup x.group.now) (c.before.before.equal-condition-in.ensures ∙ ap is c.before.before.before.load-group.ensures)
+    let is : Group → Changed = λ g. changed g.limit (judged g.limit (decode g) (equal_condition (nodes x.arena.now) (decode g) x.left x.right)) in
+    c.store-group.ensures ∙ ap (stored_group x.group.now) (c.before.before.equal-condition-in.ensures ∙ ap is c.before.before.before.load-group.ensures)
 
 pub unchecked-add-equal-conditions-spec : {M : Type 1} → statement M
 unchecked-add-equal-conditions-spec =

@@ -4,8 +4,8 @@ use Rattle.arena.specs.Layout.{decode as nodes}
 use Rattle.classes.specs.Inner.{Coded}
 use Rattle.classes.specs.Layout.{decode}
 use Rattle.classes.specs.declared.Group.{Group}
-use Rattle.questions.specs.Questions.{exprsEqual}
-use Rattle.unchecked.proofs.Carried.{bit-yes, bit-no}
+use Rattle.questions.specs.Questions.{exprs_equal}
+use Rattle.unchecked.proofs.Carried.{bit_yes, bit_no}
 use borrow.Author.Rules.{rules}
 use Rattle.unchecked.proofs.unchecked_exprs_equal.Statement.{statement}
 use Rattle.unchecked.proofs.unchecked_exprs_equal.Tie as tie
@@ -19,12 +19,12 @@ equal-in-requires c κs = (c.before.requires.0, subst Coded (sym c.load-group.en
 returns : tie.Need-returns
 returns c =
     let x = c.before.before.before.args in
-    bit-yes _ (ap (λ (g : Group). exprsEqual (nodes x.arena.now) (decode g) x.left x.right) (sym c.before.before.load-group.ensures) ∙ sym c.before.equal-in.ensures ∙ c.if1.true)
+    bit_yes _ (ap (λ (g : Group). exprs_equal (nodes x.arena.now) (decode g) x.left x.right) (sym c.before.before.load-group.ensures) ∙ sym c.before.equal-in.ensures ∙ c.if1.true)
 
 returns-2 : tie.Need-returns-2
 returns-2 c =
     let x = c.before.before.before.args in
-    bit-no _ (ap (λ (g : Group). exprsEqual (nodes x.arena.now) (decode g) x.left x.right) (sym c.before.before.load-group.ensures) ∙ sym c.before.equal-in.ensures ∙ c.if1.false)
+    bit_no _ (ap (λ (g : Group). exprs_equal (nodes x.arena.now) (decode g) x.left x.right) (sym c.before.before.load-group.ensures) ∙ sym c.before.equal-in.ensures ∙ c.if1.false)
 
 pub unchecked-exprs-equal-spec : {M : Type 1} → statement M
 unchecked-exprs-equal-spec =

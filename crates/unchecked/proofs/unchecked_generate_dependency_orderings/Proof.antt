@@ -8,9 +8,9 @@ use Rattle.dependencies.specs.Inner.{Held}
 use Rattle.dependencies.specs.Layout.{decode}
 use Rattle.dependencies.specs.declared.DependencyMap.{DependencyMap}
 use Rattle.products.specs.Generate.{contributing}
-use Rattle.dependency_orderings.specs.Calls.{gatheredAnswer, different}
+use Rattle.dependency_orderings.specs.Calls.{gathered_answer, different}
 use Rattle.dependency_orderings.specs.declared.Enumerated.{Enumerated}
-use Rattle.answers.specs.Answers.{enumeratedIn}
+use Rattle.answers.specs.Answers.{enumerated_in}
 use Rattle.unchecked.proofs.Carried.{put_first}
 use borrow.Author.Rules.{rules}
 use Rattle.unchecked.proofs.unchecked_generate_dependency_orderings.Statement.{statement}
@@ -42,8 +42,8 @@ returns c =
     let a = c.before.before.before.before.answer-gathered in
     let m = c.before.before.before.before.before.before.before.load-map in
     let p = c.put-enumerated in
-    let is : DependencyMap → Enumerated × List ℕ = λ d. gatheredAnswer (contributing (decode d) (different ks)) (length (different ks)) x.output.now in
-    put_first (enumeratedIn x.answer.now) a.result (p.result, p.new.1.0) a.new.1.0 _ p.ensures (a.ensures m.result (map packed (keys_of ks)) c.before.before.before.before.before.before.gather.ensures ∙ ap is m.ensures)
+    let is : DependencyMap → Enumerated × List ℕ = λ d. gathered_answer (contributing (decode d) (different ks)) (length (different ks)) x.output.now in
+    put_first (enumerated_in x.answer.now) a.result (p.result, p.new.1.0) a.new.1.0 _ p.ensures (a.ensures m.result (map packed (keys_of ks)) c.before.before.before.before.before.before.gather.ensures ∙ ap is m.ensures)
 
 pub unchecked-generate-dependency-orderings-spec : {M : Type 1} → statement M
 unchecked-generate-dependency-orderings-spec =

@@ -1,7 +1,7 @@
 -- `arena::cells::row_of` meets its contract.
 use borrow.Author.Rules.{rules}
 use Rattle.laws.specs.Lists.{table}
-use Rattle.arena.specs.Layout.{rowOf}
+use Rattle.arena.specs.Layout.{row_of}
 use Rattle.arena.proofs.cells.row_of.Statement.{statement}
 use Rattle.arena.proofs.cells.row_of.Tie as tie
 
@@ -39,7 +39,7 @@ cell-of-requires-11 : tie.Need-cell-of-requires-11
 cell-of-requires-11 c κs = search rules
 
 returns : tie.Need-returns
-unfolding rowOf table
+unfolding row_of table
 returns c =
     cc
 

@@ -9,7 +9,7 @@ use borrow.Author.Tests.{eq-eqb, ne_eqb}
 use Rattle.laws.specs.Tests.{each}
 use Rattle.laws.proofs.Each.{each_none, each_more, each-stops, each-ends}
 use borrow.Author.Rules.{rules}
-use Rattle.arena.specs.Layout.{cellsUnused}
+use Rattle.arena.specs.Layout.{cells_unused}
 use Rattle.arena.proofs.checking.cells_unused.Statement.{statement}
 use Rattle.arena.proofs.checking.cells_unused.Tie as tie
 
@@ -49,7 +49,7 @@ element-copy-out-if1 : tie.Need-element-copy-out-if1 invariant-loop decreases-lo
 element-copy-out-if1 c = search rules
 
 returns : tie.Need-returns invariant-loop decreases-loop
-unfolding cellsUnused
+unfolding cells_unused
 returns c =
     each-stops (Unused c.before.before.before.before.args.cells.now c.before.before.before.before.args.n) (11264 - 11 * c.before.before.before.before.args.n) c.before.before.before.loop.k (search rules) (ne_eqb _ _ c.if1.true)
 
@@ -64,7 +64,7 @@ loop-again c =
     (search rules, each_more (Unused c.before.before.before.before.args.cells.now c.before.before.before.before.args.n) c.before.before.before.loop.k c.before.before.before.loop.invariant.1 (eq-eqb _ _ c.if1.false))
 
 returns-2 : tie.Need-returns-2 invariant-loop decreases-loop
-unfolding cellsUnused
+unfolding cells_unused
 returns-2 c =
     each-ends (Unused c.before.before.args.cells.now c.before.before.args.n) (11264 - 11 * c.before.before.args.n) c.before.loop.k (search rules) (search rules) c.before.loop.invariant.1
 

@@ -10,7 +10,7 @@ use borrow.Author.Tests.{lt-ltb, le-ltb}
 use Rattle.laws.specs.Tests.{each}
 use Rattle.laws.proofs.Each.{each_none, each_more, each-stops, each-ends}
 use borrow.Author.Rules.{rules}
-use Rattle.arena.specs.Layout.{childrenBelow}
+use Rattle.arena.specs.Layout.{children_below}
 use Rattle.arena.proofs.checking.children_below.Statement.{statement}
 use Rattle.arena.proofs.checking.children_below.Tie as tie
 
@@ -41,7 +41,7 @@ wide-requires : tie.Need-wide-requires invariant-loop decreases-loop
 wide-requires c κs = search rules
 
 returns : tie.Need-returns invariant-loop decreases-loop
-unfolding childrenBelow
+unfolding children_below
 returns c =
     each-stops (Below c.before.before.before.before.before.args.row.now c.before.before.before.before.before.args.i) c.before.before.before.before.before.args.n c.before.before.before.before.loop.k (search rules) (le-ltb (get_or c.before.before.before.before.before.args.row.now (3 + c.before.before.before.before.loop.k) 0) c.before.before.before.before.before.args.i (omega (arith, c.before.wide.ensures)))
 
@@ -56,7 +56,7 @@ loop-again c =
     (search rules, each_more (Below c.before.before.before.before.before.args.row.now c.before.before.before.before.before.args.i) c.before.before.before.before.loop.k c.before.before.before.before.loop.invariant.1 (lt-ltb (get_or c.before.before.before.before.before.args.row.now (3 + c.before.before.before.before.loop.k) 0) c.before.before.before.before.before.args.i (omega (arith, c.before.wide.ensures))))
 
 returns-2 : tie.Need-returns-2 invariant-loop decreases-loop
-unfolding childrenBelow
+unfolding children_below
 returns-2 c =
     each-ends (Below c.before.before.args.row.now c.before.before.args.i) c.before.before.args.n c.before.loop.k (search rules) (search rules) c.before.loop.invariant.1
 

@@ -8,7 +8,7 @@ use borrow.Author.Tests.{not-true, not-false, le-leb, lt-leb}
 use lib.Dec.{eqb, leb}
 use lib.ListN.{length}
 use Rattle.laws.specs.Tests.{each}
-use Rattle.arena.specs.Layout.{count, lawfulNode, cellsUnused, lawful}
+use Rattle.arena.specs.Layout.{count, lawful_node, cells_unused, lawful}
 use Rattle.arena.proofs.checking.lawful_arena.Statement.{statement}
 use Rattle.arena.proofs.checking.lawful_arena.Tie as tie
 
@@ -39,7 +39,7 @@ unfolding lawful
 returns-3 c =
     let z : eqb (length c.before.before.before.before.before.before.before.args.cells.now) 11265 ≡ true = sym c.before.before.before.before.before.sized.ensures ∙ not-false _ c.before.before.before.before.if1.false in
     let f : leb (count c.before.before.before.before.before.before.before.args.cells.now) 1024 ≡ true = le-leb (count c.before.before.before.before.before.before.before.args.cells.now) 1024 (omega (arith, c.before.before.before.node-count.ensures)) in
-    let n : each (λ i. lawfulNode c.before.before.before.before.before.before.before.args.cells.now i) (count c.before.before.before.before.before.before.before.args.cells.now) ≡ false = ap (each (λ i. lawfulNode c.before.before.before.before.before.before.before.args.cells.now i)) (sym c.before.before.before.node-count.ensures) ∙ sym c.before.lawful-nodes.ensures ∙ not-true _ c.if3.true in
+    let n : each (λ i. lawful_node c.before.before.before.before.before.before.before.args.cells.now i) (count c.before.before.before.before.before.before.before.args.cells.now) ≡ false = ap (each (λ i. lawful_node c.before.before.before.before.before.before.before.args.cells.now i)) (sym c.before.before.before.node-count.ensures) ∙ sym c.before.lawful-nodes.ensures ∙ not-true _ c.if3.true in
     rw (z, f, n)
 
 cells-unused-requires : tie.Need-cells-unused-requires
@@ -50,8 +50,8 @@ unfolding lawful
 returns-4 c =
     let z : eqb (length c.before.before.before.before.before.before.before.before.args.cells.now) 11265 ≡ true = sym c.before.before.before.before.before.before.sized.ensures ∙ not-false _ c.before.before.before.before.before.if1.false in
     let f : leb (count c.before.before.before.before.before.before.before.before.args.cells.now) 1024 ≡ true = le-leb (count c.before.before.before.before.before.before.before.before.args.cells.now) 1024 (omega (arith, c.before.before.before.before.node-count.ensures)) in
-    let n : each (λ i. lawfulNode c.before.before.before.before.before.before.before.before.args.cells.now i) (count c.before.before.before.before.before.before.before.before.args.cells.now) ≡ true = ap (each (λ i. lawfulNode c.before.before.before.before.before.before.before.before.args.cells.now i)) (sym c.before.before.before.before.node-count.ensures) ∙ sym c.before.before.lawful-nodes.ensures ∙ not-false _ c.before.if3.false in
-    rw (z, f, n) (c.cells-unused.ensures ∙ ap (λ (m : ℕ). cellsUnused m c.before.before.before.before.before.before.before.before.args.cells.now) c.before.before.before.before.node-count.ensures)
+    let n : each (λ i. lawful_node c.before.before.before.before.before.before.before.before.args.cells.now i) (count c.before.before.before.before.before.before.before.before.args.cells.now) ≡ true = ap (each (λ i. lawful_node c.before.before.before.before.before.before.before.before.args.cells.now i)) (sym c.before.before.before.before.node-count.ensures) ∙ sym c.before.before.lawful-nodes.ensures ∙ not-false _ c.before.if3.false in
+    rw (z, f, n) (c.cells-unused.ensures ∙ ap (λ (m : ℕ). cells_unused m c.before.before.before.before.before.before.before.before.args.cells.now) c.before.before.before.before.node-count.ensures)
 
 pub lawful-arena-spec : {M : Type 1} → statement M
 lawful-arena-spec =

@@ -6,7 +6,7 @@ use native.Mathlib.Omega.{arith}
 use lib.ListN.{get_or}
 use borrow.Author.Rules.{rules}
 use borrow.Author.Tests.{not-true, not-false}
-use Rattle.arena.specs.Layout.{lawfulKind, childrenBelow, placesUnused, lawfulRow}
+use Rattle.arena.specs.Layout.{lawful_kind, children_below, places_unused, lawful_row}
 use Rattle.arena.proofs.Rows.{kind-few}
 use Rattle.arena.proofs.checking.lawful_row.Statement.{statement}
 use Rattle.arena.proofs.checking.lawful_row.Tie as tie
@@ -21,9 +21,9 @@ lawful-kind-requires : tie.Need-lawful-kind-requires
 lawful-kind-requires c κs = search rules
 
 returns : tie.Need-returns
-unfolding lawfulRow
+unfolding lawful_row
 returns c =
-    let k : lawfulKind (get_or c.before.before.before.before.args.row.now 0 0) (get_or c.before.before.before.before.args.row.now 2 0) ≡ false = sym c.before.lawful-kind.ensures ∙ not-true _ c.if1.true in
+    let k : lawful_kind (get_or c.before.before.before.before.args.row.now 0 0) (get_or c.before.before.before.before.args.row.now 2 0) ≡ false = sym c.before.lawful-kind.ensures ∙ not-true _ c.if1.true in
     rw k
 
 wide-requires : tie.Need-wide-requires
@@ -31,14 +31,14 @@ wide-requires c κs = search rules
 
 children-below-requires : tie.Need-children-below-requires
 children-below-requires c κs =
-    let k : lawfulKind (get_or c.before.before.before.before.before.args.row.now 0 0) (get_or c.before.before.before.before.before.args.row.now 2 0) ≡ true = sym c.before.before.lawful-kind.ensures ∙ not-false _ c.before.if1.false in
+    let k : lawful_kind (get_or c.before.before.before.before.before.args.row.now 0 0) (get_or c.before.before.before.before.before.args.row.now 2 0) ≡ true = sym c.before.before.lawful-kind.ensures ∙ not-false _ c.before.if1.false in
     omega (arith, kind-few _ _ k, c.wide.ensures)
 
 returns-2 : tie.Need-returns-2
-unfolding lawfulRow
+unfolding lawful_row
 returns-2 c =
-    let k : lawfulKind (get_or c.before.before.before.before.before.before.before.args.row.now 0 0) (get_or c.before.before.before.before.before.before.before.args.row.now 2 0) ≡ true = sym c.before.before.before.before.lawful-kind.ensures ∙ not-false _ c.before.before.before.if1.false in
-    let b : childrenBelow c.before.before.before.before.before.before.before.args.i (get_or c.before.before.before.before.before.before.before.args.row.now 2 0) c.before.before.before.before.before.before.before.args.row.now ≡ false = ap (λ (m : ℕ). childrenBelow c.before.before.before.before.before.before.before.args.i m c.before.before.before.before.before.before.before.args.row.now) (sym c.before.before.wide.ensures) ∙ sym c.before.children-below.ensures ∙ not-true _ c.if2.true in
+    let k : lawful_kind (get_or c.before.before.before.before.before.before.before.args.row.now 0 0) (get_or c.before.before.before.before.before.before.before.args.row.now 2 0) ≡ true = sym c.before.before.before.before.lawful-kind.ensures ∙ not-false _ c.before.before.before.if1.false in
+    let b : children_below c.before.before.before.before.before.before.before.args.i (get_or c.before.before.before.before.before.before.before.args.row.now 2 0) c.before.before.before.before.before.before.before.args.row.now ≡ false = ap (λ (m : ℕ). children_below c.before.before.before.before.before.before.before.args.i m c.before.before.before.before.before.before.before.args.row.now) (sym c.before.before.wide.ensures) ∙ sym c.before.children-below.ensures ∙ not-true _ c.if2.true in
     rw (k, b)
 
 wide-requires-2 : tie.Need-wide-requires-2
@@ -46,15 +46,15 @@ wide-requires-2 c κs = search rules
 
 places-unused-requires : tie.Need-places-unused-requires
 places-unused-requires c κs =
-    let k : lawfulKind (get_or c.before.before.before.before.before.before.before.before.args.row.now 0 0) (get_or c.before.before.before.before.before.before.before.before.args.row.now 2 0) ≡ true = sym c.before.before.before.before.before.lawful-kind.ensures ∙ not-false _ c.before.before.before.before.if1.false in
+    let k : lawful_kind (get_or c.before.before.before.before.before.before.before.before.args.row.now 0 0) (get_or c.before.before.before.before.before.before.before.before.args.row.now 2 0) ≡ true = sym c.before.before.before.before.before.lawful-kind.ensures ∙ not-false _ c.before.before.before.before.if1.false in
     omega (arith, kind-few _ _ k, c.wide2.ensures)
 
 returns-3 : tie.Need-returns-3
-unfolding lawfulRow
+unfolding lawful_row
 returns-3 c =
-    let k : lawfulKind (get_or c.before.before.before.before.before.before.before.before.before.args.row.now 0 0) (get_or c.before.before.before.before.before.before.before.before.before.args.row.now 2 0) ≡ true = sym c.before.before.before.before.before.before.lawful-kind.ensures ∙ not-false _ c.before.before.before.before.before.if1.false in
-    let b : childrenBelow c.before.before.before.before.before.before.before.before.before.args.i (get_or c.before.before.before.before.before.before.before.before.before.args.row.now 2 0) c.before.before.before.before.before.before.before.before.before.args.row.now ≡ true = ap (λ (m : ℕ). childrenBelow c.before.before.before.before.before.before.before.before.before.args.i m c.before.before.before.before.before.before.before.before.before.args.row.now) (sym c.before.before.before.before.wide.ensures) ∙ sym c.before.before.before.children-below.ensures ∙ not-false _ c.before.before.if2.false in
-    let u : c.places-unused.result ≡ placesUnused (get_or c.before.before.before.before.before.before.before.before.before.args.row.now 2 0) c.before.before.before.before.before.before.before.before.before.args.row.now = c.places-unused.ensures ∙ ap (λ (m : ℕ). placesUnused m c.before.before.before.before.before.before.before.before.before.args.row.now) c.before.wide2.ensures in
+    let k : lawful_kind (get_or c.before.before.before.before.before.before.before.before.before.args.row.now 0 0) (get_or c.before.before.before.before.before.before.before.before.before.args.row.now 2 0) ≡ true = sym c.before.before.before.before.before.before.lawful-kind.ensures ∙ not-false _ c.before.before.before.before.before.if1.false in
+    let b : children_below c.before.before.before.before.before.before.before.before.before.args.i (get_or c.before.before.before.before.before.before.before.before.before.args.row.now 2 0) c.before.before.before.before.before.before.before.before.before.args.row.now ≡ true = ap (λ (m : ℕ). children_below c.before.before.before.before.before.before.before.before.before.args.i m c.before.before.before.before.before.before.before.before.before.args.row.now) (sym c.before.before.before.before.wide.ensures) ∙ sym c.before.before.before.children-below.ensures ∙ not-false _ c.before.before.if2.false in
+    let u : c.places-unused.result ≡ places_unused (get_or c.before.before.before.before.before.before.before.before.before.args.row.now 2 0) c.before.before.before.before.before.before.before.before.before.args.row.now = c.places-unused.ensures ∙ ap (λ (m : ℕ). places_unused m c.before.before.before.before.before.before.before.before.before.args.row.now) c.before.wide2.ensures in
     rw (k, b) u
 
 pub lawful-row-spec : {M : Type 1} → statement M

@@ -4,25 +4,25 @@ use mathlib.Core.Bool.{Bool}
 use mathlib.Core.List.{List}
 use mathlib.Core.Path.{◌≡◌, sym, ap, ◌∙◌}
 use borrow.Author.Rules.{rules}
-use Rattle.laws.specs.Tests.{firstFrom}
+use Rattle.laws.specs.Tests.{first_from}
 use Rattle.laws.proofs.First.{first-begins, first-hit, first_on, first_ends}
-use Rattle.arena.specs.Layout.{sameRow, rowBelow}
+use Rattle.arena.specs.Layout.{same_row, row_below}
 use Rattle.arena.specs.Inner.{found_at}
 use Rattle.arena.proofs.checking.row_below.Statement.{statement}
 use Rattle.arena.proofs.checking.row_below.Tie as tie
 
 -- node i has the row
 abbrev Same : List ℕ → List ℕ → ℕ → Bool
-Same cells row i = sameRow cells i row
+Same cells row i = same_row cells i row
 
 abbrev invariant-loop : tie.invariant-loop
-invariant-loop cells n row i₀ i = (i ≤ n) × (rowBelow cells n row ≡ firstFrom (Same cells row) (n - i) i)
+invariant-loop cells n row i₀ i = (i ≤ n) × (row_below cells n row ≡ first_from (Same cells row) (n - i) i)
 
 abbrev decreases-loop : tie.decreases-loop
 decreases-loop cells n row i₀ i = n - i
 
 loop-holds : tie.Need-loop-init invariant-loop decreases-loop
-unfolding rowBelow
+unfolding row_below
 loop-holds c =
     (search rules, first-begins (Same c.args.cells.now c.args.row.now) c.args.n)
 

@@ -9,7 +9,7 @@ use borrow.Author.Tests.{eq-eqb, ne_eqb}
 use Rattle.laws.specs.Tests.{each}
 use Rattle.laws.proofs.Each.{each_none, each_more, each-stops, each-ends}
 use borrow.Author.Rules.{rules}
-use Rattle.arena.specs.Layout.{cell_of, sameRow}
+use Rattle.arena.specs.Layout.{cell_of, same_row}
 use Rattle.arena.proofs.checking.same_row.Statement.{statement}
 use Rattle.arena.proofs.checking.same_row.Tie as tie
 
@@ -37,7 +37,7 @@ element-copy-out-if1 : tie.Need-element-copy-out-if1 invariant-loop decreases-lo
 element-copy-out-if1 c = search rules
 
 returns : tie.Need-returns invariant-loop decreases-loop
-unfolding sameRow
+unfolding same_row
 returns c =
     each-stops (Cell c.before.before.before.before.before.args.cells.now c.before.before.before.before.before.args.i c.before.before.before.before.before.args.row.now) 11 c.before.before.before.before.loop.j (search rules) (ne_eqb _ _ (λ e. c.if1.true (c.before.before.cell-of.ensures ∙ e)))
 
@@ -52,7 +52,7 @@ loop-again c =
     (search rules, each_more (Cell c.before.before.before.before.before.args.cells.now c.before.before.before.before.before.args.i c.before.before.before.before.before.args.row.now) c.before.before.before.before.loop.j c.before.before.before.before.loop.invariant.1 (eq-eqb _ _ (sym c.before.before.cell-of.ensures ∙ c.if1.false)))
 
 returns-2 : tie.Need-returns-2 invariant-loop decreases-loop
-unfolding sameRow
+unfolding same_row
 returns-2 c =
     each-ends (Cell c.before.before.args.cells.now c.before.before.args.i c.before.before.args.row.now) 11 c.before.loop.j (search rules) (search rules) c.before.loop.invariant.1
 

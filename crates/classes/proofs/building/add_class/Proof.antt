@@ -13,7 +13,7 @@ element-copy-out-size c = search rules
 class-start-requires : tie.Need-class-start-requires
 class-start-requires c κs =
     let s = c.before.before in
-    start-inside s.args.t2 s.requires.0.src-coded s.args.j s.requires.0.there
+    start-inside s.args.t2 s.requires.0.src_coded s.args.j s.requires.0.there
 
 mul-flavour : tie.Need-overflow-mul-flavour
 mul-flavour c = search rules

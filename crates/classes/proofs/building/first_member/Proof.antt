@@ -6,7 +6,7 @@ use native.Mathlib.Omega.{arith}
 use borrow.Author.Rules.{rules}
 use lib.ListN.{get_or}
 use Rattle.laws.specs.Lists.{table}
-use Rattle.laws.proofs.Table.{getD-table}
+use Rattle.laws.proofs.Table.{get_or-table}
 use Rattle.classes.specs.Layout.{sum_to}
 use Rattle.classes.proofs.Codec.{class-inside, members-part}
 use Rattle.classes.proofs.building.first_member.Statement.{statement}
@@ -31,7 +31,7 @@ returns : tie.Need-returns
 returns c =
     let g = c.before.before.before.args.t1 in
     let i = c.before.before.before.args.i in
-    let t : get_or (table (λ k. get_or g.members (sum_to g.sizes i + k) 0) (get_or g.sizes i 0)) 0 0 ≡ get_or g.members (sum_to g.sizes i + 0) 0 = getD-table (λ k. get_or g.members (sum_to g.sizes i + k) 0) (get_or g.sizes i 0) 0 0 c.before.before.before.requires.1.1 in
+    let t : get_or (table (λ k. get_or g.members (sum_to g.sizes i + k) 0) (get_or g.sizes i 0)) 0 0 ≡ get_or g.members (sum_to g.sizes i + 0) 0 = get_or-table (λ k. get_or g.members (sum_to g.sizes i + k) 0) (get_or g.sizes i 0) 0 0 c.before.before.before.requires.1.1 in
     let a : c.before.class-start.result ≡ sum_to g.sizes i + 0 = omega (arith, c.before.class-start.ensures) in
     ◌∙◌ {b = get_or g.members (sum_to g.sizes i + 0) 0} (search a) (sym t ∙ ap (λ (l : List ℕ). get_or l 0 0) (members-part g c.before.before.before.requires.0 i))
 

@@ -2,7 +2,7 @@
 use Prim.Native.Nat.{◌-◌, ◌≤◌}
 use mathlib.Core.Path.{◌≡◌}
 use lib.ListN.{take}
-use Rattle.classes.specs.Group.{class_at, mergedAt}
+use Rattle.classes.specs.Group.{class_at, merged_at}
 use Rattle.classes.specs.Layout.{encode, decode}
 use Rattle.classes.proofs.Turns.{merged-asks, merged-next, merged-done}
 use borrow.Author.Rules.{rules}
@@ -10,7 +10,7 @@ use Rattle.classes.proofs.building.merge_class_at_idx.Statement.{statement}
 use Rattle.classes.proofs.building.merge_class_at_idx.Tie as tie
 
 abbrev invariant-loop : tie.invariant-loop
-invariant-loop g i src j out₀ k₀ out k = (k ≤ g.count) × (out ≡ encode g.limit (take k (mergedAt (decode g) i (class_at (decode src) j))))
+invariant-loop g i src j out₀ k₀ out k = (k ≤ g.count) × (out ≡ encode g.limit (take k (merged_at (decode g) i (class_at (decode src) j))))
 
 abbrev decreases-loop : tie.decreases-loop
 decreases-loop g i src j out₀ k₀ out k = g.count - k

@@ -1,7 +1,7 @@
 -- `classes::building::merge_last` meets its contract.
 use Prim.Native.Nat.{◌-◌}
 use native.Mathlib.Omega.{arith}
-use Rattle.classes.proofs.Rebuilding.{start-inside, copy-inside, grown-fits, merge-made}
+use Rattle.classes.proofs.Rebuilding.{start-inside, copy-inside, grown-fits, merge_made}
 use borrow.Author.Rules.{rules}
 use Rattle.classes.proofs.building.merge_last.Statement.{statement}
 use Rattle.classes.proofs.building.merge_last.Tie as tie
@@ -15,7 +15,7 @@ element-copy-out-size c = search rules
 class-start-requires : tie.Need-class-start-requires
 class-start-requires c κs =
     let s = c.before.before in
-    start-inside s.args.t2 s.requires.0.src-coded s.args.j s.requires.0.there
+    start-inside s.args.t2 s.requires.0.src_coded s.args.j s.requires.0.there
 
 sub-last : tie.Need-overflow-sub-last
 sub-last c = search rules
@@ -24,7 +24,7 @@ mark-of-requires : tie.Need-mark-of-requires
 mark-of-requires c κs = (c.before.before.before.requires.0.out-coded, omega (arith, c.before.before.before.requires.1))
 
 mark-of-requires-2 : tie.Need-mark-of-requires-2
-mark-of-requires-2 c κs = (c.before.before.before.before.requires.0.src-coded, c.before.before.before.before.requires.0.there)
+mark-of-requires-2 c κs = (c.before.before.before.before.requires.0.src_coded, c.before.before.before.before.requires.0.there)
 
 taken-over-requires : tie.Need-taken-over-requires
 taken-over-requires c κs = search rules
@@ -69,7 +69,7 @@ add-next c = search rules
 returns : tie.Need-returns
 returns c =
     let s = c.before.before.before.before.before.before.before.before.before.before in
-    merge-made s.args.t1 s.args.t2 s.args.j s.requires.0 c.before.before.before.before.before.before.before.class-start.result c.before.copy-members.result c.before.before.before.before.taken-over.result c.before.before.before.before.before.before.mark_of.result c.before.before.before.before.before.mark-of2.result s.requires.1 c.before.before.before.before.before.before.before.class-start.ensures c.before.copy-members.ensures c.before.before.before.before.before.before.mark_of.ensures c.before.before.before.before.before.mark-of2.ensures c.before.before.before.before.taken-over.ensures
+    merge_made s.args.t1 s.args.t2 s.args.j s.requires.0 c.before.before.before.before.before.before.before.class-start.result c.before.copy-members.result c.before.before.before.before.taken-over.result c.before.before.before.before.before.before.mark_of.result c.before.before.before.before.before.mark-of2.result s.requires.1 c.before.before.before.before.before.before.before.class-start.ensures c.before.copy-members.ensures c.before.before.before.before.before.before.mark_of.ensures c.before.before.before.before.before.mark-of2.ensures c.before.before.before.before.taken-over.ensures
 
 pub merge-last-spec : {M : Type 1} → statement M
 merge-last-spec =

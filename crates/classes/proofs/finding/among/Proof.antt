@@ -5,7 +5,7 @@ use mathlib.Core.List.{List}
 use mathlib.Core.Path.{◌≡◌}
 use lib.ListN.{get_or}
 use Rattle.laws.specs.Lists.{table}
-use Rattle.classes.specs.Group.{among as isAmong}
+use Rattle.classes.specs.Group.{among as is_among}
 use borrow.Author.Rules.{rules}
 use Rattle.classes.proofs.Members.{among_none, among-more, among-hit, among-ends}
 use Rattle.classes.proofs.finding.among.Statement.{statement}
@@ -16,7 +16,7 @@ abbrev Part : List ℕ → ℕ → ℕ → ℕ
 Part members start k = get_or members (start + k) 0
 
 abbrev invariant-loop : tie.invariant-loop
-invariant-loop members start n e k₀ k = (k ≤ n) × (isAmong e (table (Part members start) k) ≡ false)
+invariant-loop members start n e k₀ k = (k ≤ n) × (is_among e (table (Part members start) k) ≡ false)
 
 abbrev decreases-loop : tie.decreases-loop
 decreases-loop members start n e k₀ k = n - k

@@ -2,7 +2,7 @@
 use Prim.Native.Nat.{◌-◌, ◌≤◌}
 use mathlib.Core.Path.{◌≡◌, sym, ap, ◌∙◌}
 use native.Mathlib.Omega.{arith}
-use Rattle.laws.specs.Tests.{firstFrom}
+use Rattle.laws.specs.Tests.{first_from}
 use Rattle.laws.proofs.First.{first-hit, first_on, first_ends}
 use Rattle.classes.specs.Group.{class_of}
 use Rattle.classes.specs.Layout.{sum_to, decode}
@@ -15,7 +15,7 @@ use Rattle.classes.proofs.finding.find_class.Statement.{statement}
 use Rattle.classes.proofs.finding.find_class.Tie as tie
 
 abbrev invariant-loop : tie.invariant-loop
-invariant-loop e g members start₀ i₀ start i = (i ≤ g.count) × ((start ≡ sum_to g.sizes i) × (class_of (decode g) e ≡ firstFrom (Holds g e) (g.count - i) i))
+invariant-loop e g members start₀ i₀ start i = (i ≤ g.count) × ((start ≡ sum_to g.sizes i) × (class_of (decode g) e ≡ first_from (Holds g e) (g.count - i) i))
 
 abbrev decreases-loop : tie.decreases-loop
 decreases-loop e g members start₀ i₀ start i = g.count - i

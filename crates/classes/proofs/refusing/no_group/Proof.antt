@@ -1,5 +1,5 @@
 -- `classes::refusing::no_group` meets its contract.
-use Rattle.classes.proofs.Judging.{no-group-is}
+use Rattle.classes.proofs.Judging.{no_group-is}
 use borrow.Author.Rules.{rules}
 use Rattle.classes.proofs.refusing.no_group.Statement.{statement}
 use Rattle.classes.proofs.refusing.no_group.Tie as tie
@@ -12,7 +12,7 @@ refusal-requires c κs = search rules
 
 returns : tie.Need-returns
 returns c =
-    no-group-is c.before.before.args.number c.refusal.result c.before.empty.result c.before.empty.ensures c.refusal.ensures
+    no_group-is c.before.before.args.number c.refusal.result c.before.empty.result c.before.empty.ensures c.refusal.ensures
 
 pub no-group-spec : {M : Type 1} → statement M
 no-group-spec = tie.close (tie.spec empty-requires refusal-requires returns)

@@ -1,5 +1,5 @@
 -- `classes::single::one_class` meets its contract.
-use Rattle.classes.specs.Layout.{constantFrom}
+use Rattle.classes.specs.Layout.{constant_from}
 use Rattle.classes.proofs.OneClass.{one-built}
 use borrow.Author.Rules.{rules}
 use Rattle.classes.proofs.single.one_class.Statement.{statement}
@@ -26,7 +26,7 @@ element-write-g-4 c = search rules
 returns : tie.Need-returns
 returns c =
     let s = c.before.before in
-    one-built c.empty.result c.before.mark-from.result s.args.e (constantFrom s.args.mark.flavour s.args.mark.value) c.empty.ensures c.before.mark-from.ensures
+    one-built c.empty.result c.before.mark-from.result s.args.e (constant_from s.args.mark.flavour s.args.mark.value) c.empty.ensures c.before.mark-from.ensures
 
 pub one-class-spec : {M : Type 1} → statement M
 one-class-spec =

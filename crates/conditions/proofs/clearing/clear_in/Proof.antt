@@ -2,7 +2,7 @@
 use Prim.Native.Nat.{◌-◌, ◌≤◌}
 use mathlib.Core.Path.{◌≡◌, refl, ◌∙◌}
 use native.Mathlib.Omega.{arith}
-use Rattle.classes.specs.Group.{cleared, clearRest}
+use Rattle.classes.specs.Group.{cleared, clear_rest}
 use Rattle.classes.specs.Layout.{decode}
 use Rattle.classes.specs.Inner.{Coded}
 use Rattle.conditions.proofs.ClearLaws.{clear-begins, clear-ends}
@@ -10,7 +10,7 @@ use Rattle.conditions.proofs.clearing.clear_in.Statement.{statement}
 use Rattle.conditions.proofs.clearing.clear_in.Tie as tie
 
 abbrev invariant-loop : tie.invariant-loop
-invariant-loop g₀ i₀ any₀ g i any = ((Coded g × (g.limit ≡ g₀.limit)) × (i ≤ g.count)) × (cleared (decode g₀) ≡ clearRest i any (decode g))
+invariant-loop g₀ i₀ any₀ g i any = ((Coded g × (g.limit ≡ g₀.limit)) × (i ≤ g.count)) × (cleared (decode g₀) ≡ clear_rest i any (decode g))
 
 abbrev decreases-loop : tie.decreases-loop
 decreases-loop g₀ i₀ any₀ g i any = g.count - i

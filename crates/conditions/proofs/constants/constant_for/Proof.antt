@@ -4,11 +4,11 @@ use mathlib.Core.List.{List}
 use mathlib.Core.Path.{sym, ap, ◌∙◌}
 use borrow.Author.Rules.{rules}
 use Rattle.classes.specs.Class.{Class}
-use Rattle.classes.specs.Group.{classLike}
+use Rattle.classes.specs.Group.{class_like}
 use Rattle.classes.specs.Steps.{judged}
-use Rattle.classes.specs.Layout.{constantFrom, decode}
+use Rattle.classes.specs.Layout.{constant_from, decode}
 use Rattle.classes.specs.Calls.{changed}
-use Rattle.conditions.proofs.ConstantLaws.{like-below, place_at, place-nowhere, for_some, for-none}
+use Rattle.conditions.proofs.ConstantLaws.{like-below, place_at, place-nowhere, for_some, for_none}
 use Rattle.conditions.proofs.constants.constant_for.Statement.{statement}
 use Rattle.conditions.proofs.constants.constant_for.Tie as tie
 
@@ -22,8 +22,8 @@ push-constant-requires : tie.Need-push-constant-requires
 push-constant-requires c κs =
     let s = c.before.before.before.before in
     let i = c.before.i.given in
-    let k = constantFrom s.args.mark.flavour s.args.mark.value in
-    let f = place_at (classLike true (decode s.args.g) k) i.0.0 (sym c.before.before.before.find-like.ensures ∙ i.1) in
+    let k = constant_from s.args.mark.flavour s.args.mark.value in
+    let f = place_at (class_like true (decode s.args.g) k) i.0.0 (sym c.before.before.before.find-like.ensures ∙ i.1) in
     ((s.requires.0.0, like-below s.args.g k i.0.0 f), s.requires.0.1)
 
 enum_told : tie.Need-enum-told
@@ -37,8 +37,8 @@ returns c =
     let s = c.before.before.before.before.before in
     let g = s.args.g in
     let i = c.before.before.i.given in
-    let k = constantFrom s.args.mark.flavour s.args.mark.value in
-    let o = classLike true (decode g) k in
+    let k = constant_from s.args.mark.flavour s.args.mark.value in
+    let o = class_like true (decode g) k in
     let f = place_at o i.0.0 (sym c.before.before.before.before.find-like.ensures ∙ i.1) in
     c.push-constant.ensures
     ∙ ap (λ (ds : List Class). changed g.limit (judged g.limit (decode g) (false, ds))) (sym (for_some (decode g) s.args.e k i.0.0 o f))
@@ -47,11 +47,11 @@ returns-2 : tie.Need-returns-2
 returns-2 c =
     let s = c.before.before.before.before in
     let g = s.args.g in
-    let k = constantFrom s.args.mark.flavour s.args.mark.value in
-    let o = classLike true (decode g) k in
+    let k = constant_from s.args.mark.flavour s.args.mark.value in
+    let o = class_like true (decode g) k in
     let f = place-nowhere o (sym c.before.before.before.find-like.ensures ∙ c.before.enum_told.given.1) in
     c.open-constant.ensures
-    ∙ ap (λ (ds : List Class). changed g.limit (judged g.limit (decode g) (false, ds))) (sym (for-none (decode g) s.args.e k o f))
+    ∙ ap (λ (ds : List Class). changed g.limit (judged g.limit (decode g) (false, ds))) (sym (for_none (decode g) s.args.e k o f))
 
 pub constant-for-spec : {M : Type 1} → statement M
 constant-for-spec =

@@ -3,7 +3,7 @@ use mathlib.Core.Bool.{true}
 use mathlib.Core.List.{[], ◌∷◌, ◌++◌}
 use mathlib.Core.Path.{sym, ap, ◌∙◌}
 use native.Mathlib.Omega.{arith}
-use Rattle.arena.specs.Node.{nodeAt}
+use Rattle.arena.specs.Node.{node_at}
 use Rattle.arena.specs.Layout.{decode as nodes}
 use Rattle.classes.specs.Class.{Class, carried, single}
 use Rattle.classes.specs.Group.{pair}
@@ -50,10 +50,10 @@ add-class-requires c κs =
     let h = s.requires.0 in
     let ns = nodes s.args.cells.now in
     let pr = pair ns s.args.a s.args.b in
-    let k = carried (nodeAt ns s.args.a) in
+    let k = carried (node_at ns s.args.a) in
     let o = c.single-group.result in
     let p = c.single-group.ensures in
-    (record { out-coded = h.coded; src-coded = one-coded o s.args.a k p; there = one-count o s.args.a k p; members = omega (arith, one_size o s.args.a k p, c.before.if2.false, h.high) }, c.before.before.before.if1.false)
+    (record { out-coded = h.coded; src_coded = one-coded o s.args.a k p; there = one-count o s.args.a k p; members = omega (arith, one_size o s.args.a k p, c.before.if2.false, h.high) }, c.before.before.before.if1.false)
 
 returns-3 : tie.Need-returns-3
 unfolding single
@@ -63,7 +63,7 @@ returns-3 c =
     let h = s.requires.0 in
     let ns = nodes s.args.cells.now in
     let pr = pair ns s.args.a s.args.b in
-    let k = carried (nodeAt ns s.args.a) in
+    let k = carried (node_at ns s.args.a) in
     let o = c.before.before.single-group in
     let q = one-is o.result s.args.a k o.ensures ∙ sym (pair_same ns s.args.a s.args.b c.if3.true) in
     accepted-is g h.coded true (decode g ++ (pr ∷ [])) c.before.add-class.result (more_room g h.coded pr c.before.before.before.before.before.if1.false (omega (arith, pair_one ns s.args.a s.args.b c.if3.true, c.before.before.before.if2.false))) (c.before.add-class.ensures ∙ ap (λ (d : Class). encode g.limit (decode g ++ (d ∷ []))) q)
@@ -94,8 +94,8 @@ merge-last-requires c κs =
     let h = s.requires.0 in
     let ns = nodes s.args.cells.now in
     let pr = pair ns s.args.a s.args.b in
-    let k = carried (nodeAt ns s.args.a) in
-    let m = carried (nodeAt ns s.args.b) in
+    let k = carried (node_at ns s.args.a) in
+    let m = carried (node_at ns s.args.b) in
     let o = c.before.before.before.before.before.before.single-group in
     let t = c.before.before.before.before.before.add-class in
     let q = one-is o.result s.args.a k o.ensures in
@@ -110,8 +110,8 @@ returns-5 c =
     let h = s.requires.0 in
     let ns = nodes s.args.cells.now in
     let pr = pair ns s.args.a s.args.b in
-    let k = carried (nodeAt ns s.args.a) in
-    let m = carried (nodeAt ns s.args.b) in
+    let k = carried (node_at ns s.args.a) in
+    let m = carried (node_at ns s.args.b) in
     let o = c.before.before.before.before.before.before.before.single-group in
     let t = c.before.before.before.before.before.before.add-class in
     let q = one-is o.result s.args.a k o.ensures in

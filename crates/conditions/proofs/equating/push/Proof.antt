@@ -2,10 +2,10 @@
 use mathlib.Core.Bool.{false}
 use mathlib.Core.Path.{ap, ◌∙◌}
 use native.Mathlib.Omega.{arith}
-use Rattle.arena.specs.Node.{nodeAt}
+use Rattle.arena.specs.Node.{node_at}
 use Rattle.arena.specs.Layout.{decode as nodes}
 use Rattle.classes.specs.Class.{Class, carried, single}
-use Rattle.classes.specs.Group.{mergedAt}
+use Rattle.classes.specs.Group.{merged_at}
 use Rattle.classes.specs.Layout.{encode, decode}
 use Rattle.classes.proofs.OneClass.{alone, one-coded, one-count, one_size, one-is}
 use Rattle.conditions.proofs.ConstantLaws.{refusal_is, accepted-is, push-full, push-room}
@@ -21,8 +21,8 @@ unfolding single
 returns c =
     let s = c.before.before.before in
     let h = s.requires.0.0 in
-    let k = carried (nodeAt (nodes s.args.cells.now) s.args.e) in
-    refusal_is s.args.g h.coded c.refusal.result false (mergedAt (decode s.args.g) s.args.i (alone s.args.e k)) c.refusal.ensures (push-full s.args.g h.coded s.args.i s.requires.0.1 s.args.e k c.before.if1.true)
+    let k = carried (node_at (nodes s.args.cells.now) s.args.e) in
+    refusal_is s.args.g h.coded c.refusal.result false (merged_at (decode s.args.g) s.args.i (alone s.args.e k)) c.refusal.ensures (push-full s.args.g h.coded s.args.i s.requires.0.1 s.args.e k c.before.if1.true)
 
 single-group-requires : tie.Need-single-group-requires
 single-group-requires c κs = search rules
@@ -32,7 +32,7 @@ unfolding single
 merge-class-at-idx-requires c κs =
     let s = c.before.before.before in
     let h = s.requires.0.0 in
-    let k = carried (nodeAt (nodes s.args.cells.now) s.args.e) in
+    let k = carried (node_at (nodes s.args.cells.now) s.args.e) in
     let o = c.single-group.result in
     let p = c.single-group.ensures in
     ((h.coded, s.requires.0.1), ((one-coded o s.args.e k p, one-count o s.args.e k p), omega (arith, one_size o s.args.e k p, c.before.if1.false, h.high)))
@@ -42,9 +42,9 @@ unfolding single
 returns-2 c =
     let s = c.before.before.before.before in
     let h = s.requires.0.0 in
-    let k = carried (nodeAt (nodes s.args.cells.now) s.args.e) in
+    let k = carried (node_at (nodes s.args.cells.now) s.args.e) in
     let q = one-is c.before.single-group.result s.args.e k c.before.single-group.ensures in
-    accepted-is s.args.g h.coded false (mergedAt (decode s.args.g) s.args.i (alone s.args.e k)) c.merge-class-at-idx.result (push-room s.args.g h.coded s.args.i s.requires.0.1 s.args.e k c.before.before.if1.false) (c.merge-class-at-idx.ensures ∙ ap (λ (d : Class). encode s.args.g.limit (mergedAt (decode s.args.g) s.args.i d)) q)
+    accepted-is s.args.g h.coded false (merged_at (decode s.args.g) s.args.i (alone s.args.e k)) c.merge-class-at-idx.result (push-room s.args.g h.coded s.args.i s.requires.0.1 s.args.e k c.before.before.if1.false) (c.merge-class-at-idx.ensures ∙ ap (λ (d : Class). encode s.args.g.limit (merged_at (decode s.args.g) s.args.i d)) q)
 
 pub push_spec : {M : Type 1} → statement M
 push_spec =

@@ -4,8 +4,8 @@ use mathlib.Core.Bool.{true, false}
 use mathlib.Core.Path.{◌≡◌, sym, ap, ◌∙◌}
 use borrow.Author.Tests.{not-true, not-false}
 use Rattle.arena.specs.Layout.{count, lawful}
-use Rattle.dependencies.specs.Layout.{lawfulMap, keysInside}
-use Rattle.dependencies.specs.Calls.{mapNumber}
+use Rattle.dependencies.specs.Layout.{lawful_map, keys_inside}
+use Rattle.dependencies.specs.Calls.{map_number}
 use borrow.Author.Rules.{rules}
 use Rattle.dependencies.proofs.checking.check_map.Statement.{statement}
 use Rattle.dependencies.proofs.checking.check_map.Tie as tie
@@ -14,7 +14,7 @@ lawful-arena-requires : tie.Need-lawful-arena-requires
 lawful-arena-requires c κs = search rules
 
 returns : tie.Need-returns
-unfolding mapNumber
+unfolding map_number
 returns c =
     let x = c.before.before.args in
     let a : lawful x.cells.now ≡ false = sym c.before.lawful-arena.ensures ∙ not-true _ c.if1.true in
@@ -24,11 +24,11 @@ lawful-map-requires : tie.Need-lawful-map-requires
 lawful-map-requires c κs = search rules
 
 returns-2 : tie.Need-returns-2
-unfolding mapNumber
+unfolding map_number
 returns-2 c =
     let x = c.before.before.before.before.args in
     let a : lawful x.cells.now ≡ true = sym c.before.before.before.lawful-arena.ensures ∙ not-false _ c.before.before.if1.false in
-    let l : lawfulMap x.m ≡ false = sym c.before.lawful-map.ensures ∙ not-true _ c.if2.true in
+    let l : lawful_map x.m ≡ false = sym c.before.lawful-map.ensures ∙ not-true _ c.if2.true in
     rw (a, l)
 
 node-count-requires : tie.Need-node-count-requires
@@ -38,21 +38,21 @@ keys-below-requires : tie.Need-keys-below-requires
 keys-below-requires c κs = sym c.before.before.lawful-map.ensures ∙ not-false _ c.before.if2.false
 
 returns-3 : tie.Need-returns-3
-unfolding mapNumber
+unfolding map_number
 returns-3 c =
     let x = c.before.before.before.before.before.before.before.args in
     let a : lawful x.cells.now ≡ true = sym c.before.before.before.before.before.before.lawful-arena.ensures ∙ not-false _ c.before.before.before.before.before.if1.false in
-    let l : lawfulMap x.m ≡ true = sym c.before.before.before.before.lawful-map.ensures ∙ not-false _ c.before.before.before.if2.false in
-    let k : keysInside (count x.cells.now) x.m ≡ false = ap (λ (n : ℕ). keysInside n x.m) (sym c.before.before.node-count.ensures) ∙ sym c.before.keys_below.ensures ∙ not-true _ c.if3.true in
+    let l : lawful_map x.m ≡ true = sym c.before.before.before.before.lawful-map.ensures ∙ not-false _ c.before.before.before.if2.false in
+    let k : keys_inside (count x.cells.now) x.m ≡ false = ap (λ (n : ℕ). keys_inside n x.m) (sym c.before.before.node-count.ensures) ∙ sym c.before.keys_below.ensures ∙ not-true _ c.if3.true in
     rw (a, l, k)
 
 returns-4 : tie.Need-returns-4
-unfolding mapNumber
+unfolding map_number
 returns-4 c =
     let x = c.before.before.before.before.before.before.before.args in
     let a : lawful x.cells.now ≡ true = sym c.before.before.before.before.before.before.lawful-arena.ensures ∙ not-false _ c.before.before.before.before.before.if1.false in
-    let l : lawfulMap x.m ≡ true = sym c.before.before.before.before.lawful-map.ensures ∙ not-false _ c.before.before.before.if2.false in
-    let k : keysInside (count x.cells.now) x.m ≡ true = ap (λ (n : ℕ). keysInside n x.m) (sym c.before.before.node-count.ensures) ∙ sym c.before.keys_below.ensures ∙ not-false _ c.if3.false in
+    let l : lawful_map x.m ≡ true = sym c.before.before.before.before.lawful-map.ensures ∙ not-false _ c.before.before.before.if2.false in
+    let k : keys_inside (count x.cells.now) x.m ≡ true = ap (λ (n : ℕ). keys_inside n x.m) (sym c.before.before.node-count.ensures) ∙ sym c.before.keys_below.ensures ∙ not-false _ c.if3.false in
     rw (a, l, k)
 
 pub check-map-spec : {M : Type 1} → statement M

@@ -7,7 +7,7 @@ use lib.ListN.{get_or}
 use borrow.Author.Tests.{lt-ltb, le-ltb}
 use Rattle.laws.specs.Tests.{each}
 use Rattle.laws.proofs.Each.{each_none, each_more, each-stops, each-ends}
-use Rattle.orderings.specs.Ordering.{exprOf}
+use Rattle.orderings.specs.Ordering.{expr_of}
 use Rattle.dependencies.proofs.MapChecks.{Below}
 use borrow.Author.Rules.{rules}
 use Rattle.dependencies.proofs.checking.dependencies_below.Statement.{statement}
@@ -36,7 +36,7 @@ returns c =
     let x = c.before.before.before.before.before.args in
     let k = c.before.before.before.before.loop.k in
     each-stops (Below x.t1 x.n) x.t1.size k (search rules)
-    (le-ltb (exprOf (get_or x.t1.dependencies k 0)) x.n (omega (arith, c.before.expr-of.ensures)))
+    (le-ltb (expr_of (get_or x.t1.dependencies k 0)) x.n (omega (arith, c.before.expr-of.ensures)))
 
 add-k : tie.Need-overflow-add-k invariant-loop decreases-loop
 add-k c = search rules
@@ -50,7 +50,7 @@ loop-again c =
     let k = c.before.before.before.before.loop.k in (
       search rules,
       each_more (Below x.t1 x.n) k c.before.before.before.before.loop.invariant.1
-          (lt-ltb (exprOf (get_or x.t1.dependencies k 0)) x.n (omega (arith, c.before.expr-of.ensures))),
+          (lt-ltb (expr_of (get_or x.t1.dependencies k 0)) x.n (omega (arith, c.before.expr-of.ensures))),
     )
 
 returns-2 : tie.Need-returns-2 invariant-loop decreases-loop

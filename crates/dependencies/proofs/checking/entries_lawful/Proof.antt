@@ -5,7 +5,7 @@ use mathlib.Core.Path.{◌≡◌, sym, ◌∙◌}
 use borrow.Author.Tests.{not-true, not-false}
 use Rattle.laws.specs.Tests.{each}
 use Rattle.laws.proofs.Each.{each_none, each_more, each-stops, each-ends}
-use Rattle.dependencies.specs.Layout.{lawfulEntry}
+use Rattle.dependencies.specs.Layout.{lawful_entry}
 use Rattle.dependencies.proofs.MapChecks.{LawfulAt, at_place, sized}
 use borrow.Author.Rules.{rules}
 use Rattle.dependencies.proofs.checking.entries_lawful.Statement.{statement}
@@ -35,7 +35,7 @@ returns c =
     let i = c.before.before.before.before.loop.i in
     let z = sized m _ c.before.before.before.before.before.well-formed.0 in
     each-stops (LawfulAt m) m.count i (search rules)
-    (at_place lawfulEntry false m z i (search rules) (sym c.before.lawful-entry.ensures ∙ not-true _ c.if1.true))
+    (at_place lawful_entry false m z i (search rules) (sym c.before.lawful-entry.ensures ∙ not-true _ c.if1.true))
 
 add-i : tie.Need-overflow-add-i invariant-loop decreases-loop
 add-i c = search rules
@@ -50,7 +50,7 @@ loop-again c =
     let z = sized m _ c.before.before.before.before.before.well-formed.0 in (
       search rules,
       each_more (LawfulAt m) i c.before.before.before.before.loop.invariant.1
-          (at_place lawfulEntry true m z i (search rules) (sym c.before.lawful-entry.ensures ∙ not-false _ c.if1.false)),
+          (at_place lawful_entry true m z i (search rules) (sym c.before.lawful-entry.ensures ∙ not-false _ c.if1.false)),
     )
 
 returns-2 : tie.Need-returns-2 invariant-loop decreases-loop

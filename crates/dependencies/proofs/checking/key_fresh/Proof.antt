@@ -4,7 +4,7 @@ use mathlib.Core.Bool.{true}
 use mathlib.Core.Path.{◌≡◌}
 use Rattle.laws.specs.Tests.{each}
 use Rattle.laws.proofs.Each.{each_none, each_more, each-stops, each-ends}
-use Rattle.dependencies.specs.Layout.{freshKey}
+use Rattle.dependencies.specs.Layout.{fresh_key}
 use Rattle.dependencies.proofs.MapChecks.{Unlike, like-read, unlike-read, sized}
 use borrow.Author.Rules.{rules}
 use Rattle.dependencies.proofs.checking.key_fresh.Statement.{statement}
@@ -32,7 +32,7 @@ element-copy-out-if1-2 : tie.Need-element-copy-out-if1-2 invariant-loop decrease
 element-copy-out-if1-2 c = search rules
 
 returns : tie.Need-returns invariant-loop decreases-loop
-unfolding freshKey
+unfolding fresh_key
 returns c =
     let x = c.before.before.before.args in
     let i = c.before.before.loop.i in
@@ -53,7 +53,7 @@ loop-again c =
     (search rules, each_more (Unlike x.t1 x.k) i c.before.before.loop.invariant.1 (unlike-read x.t1 z x.k i (search rules) (search rules) c.if1.false))
 
 returns-2 : tie.Need-returns-2 invariant-loop decreases-loop
-unfolding freshKey
+unfolding fresh_key
 returns-2 c =
     let x = c.before.before.args in
     each-ends (Unlike x.t1 x.k) x.k c.before.loop.i (search rules) (search rules) c.before.loop.invariant.1

@@ -5,7 +5,7 @@ use mathlib.Core.Path.{◌≡◌, sym, ◌∙◌}
 use borrow.Author.Tests.{not-true, not-false}
 use Rattle.laws.specs.Tests.{each}
 use Rattle.laws.proofs.Each.{each_none, each_more, each-stops, each-ends}
-use Rattle.dependencies.specs.Layout.{entryInside, keysInside}
+use Rattle.dependencies.specs.Layout.{entry_inside, keys_inside}
 use Rattle.dependencies.proofs.MapChecks.{InsideAt, at_place, sized, lawful-few, read-size}
 use borrow.Author.Rules.{rules}
 use Rattle.dependencies.proofs.checking.keys_below.Statement.{statement}
@@ -32,14 +32,14 @@ entry-below-requires c κs =
     read-size m (sized m _ c.before.before.before.well-formed.0) c.before.before.before.requires c.before.before.loop.i (search rules)
 
 returns : tie.Need-returns invariant-loop decreases-loop
-unfolding keysInside
+unfolding keys_inside
 returns c =
     let x = c.before.before.before.before.before.args in
     let i = c.before.before.before.before.loop.i in
     let w = lawful-few x.t1 c.before.before.before.before.before.requires in
     let z = sized x.t1 _ c.before.before.before.before.before.well-formed.0 in
     each-stops (InsideAt x.n x.t1) x.t1.count i (search rules)
-    (at_place (entryInside x.n) false x.t1 z i (search rules) (sym c.before.entry-below.ensures ∙ not-true _ c.if1.true))
+    (at_place (entry_inside x.n) false x.t1 z i (search rules) (sym c.before.entry-below.ensures ∙ not-true _ c.if1.true))
 
 add-i : tie.Need-overflow-add-i invariant-loop decreases-loop
 add-i c = let w = lawful-few c.before.before.before.before.before.args.t1 c.before.before.before.before.before.requires in search rules
@@ -55,11 +55,11 @@ loop-again c =
     let z = sized x.t1 _ c.before.before.before.before.before.well-formed.0 in (
       search rules,
       each_more (InsideAt x.n x.t1) i c.before.before.before.before.loop.invariant.1
-          (at_place (entryInside x.n) true x.t1 z i (search rules) (sym c.before.entry-below.ensures ∙ not-false _ c.if1.false)),
+          (at_place (entry_inside x.n) true x.t1 z i (search rules) (sym c.before.entry-below.ensures ∙ not-false _ c.if1.false)),
     )
 
 returns-2 : tie.Need-returns-2 invariant-loop decreases-loop
-unfolding keysInside
+unfolding keys_inside
 returns-2 c =
     let x = c.before.before.args in
     each-ends (InsideAt x.n x.t1) x.t1.count c.before.loop.i (search rules) (search rules) c.before.loop.invariant.1

@@ -4,14 +4,14 @@ use mathlib.Core.Path.{◌≡◌, sym, ◌∙◌}
 use borrow.Author.Tests.{not-true, not-false, le-leb, lt-leb}
 use lib.Dec.{eqb, leb}
 use Rattle.laws.specs.Tests.{each}
-use Rattle.dependencies.specs.Layout.{lawfulEntry}
+use Rattle.dependencies.specs.Layout.{lawful_entry}
 use Rattle.dependencies.proofs.MapChecks.{Fresh}
 use borrow.Author.Rules.{rules}
 use Rattle.dependencies.proofs.checking.lawful_entry.Statement.{statement}
 use Rattle.dependencies.proofs.checking.lawful_entry.Tie as tie
 
 returns : tie.Need-returns
-unfolding lawfulEntry
+unfolding lawful_entry
 returns c =
     let r = c.before.before.args.r in
     let a : leb r.size 16 ≡ false = lt-leb r.size 16 (search rules) in
@@ -21,7 +21,7 @@ dependencies-fresh-requires : tie.Need-dependencies-fresh-requires
 dependencies-fresh-requires c κs = search rules
 
 returns-2 : tie.Need-returns-2
-unfolding lawfulEntry
+unfolding lawful_entry
 returns-2 c =
     let r = c.before.before.before.before.args.r in
     let a : leb r.size 16 ≡ true = le-leb r.size 16 (search rules) in
@@ -32,7 +32,7 @@ target-told-requires : tie.Need-target-told-requires
 target-told-requires c κs = search rules
 
 returns-3 : tie.Need-returns-3
-unfolding lawfulEntry
+unfolding lawful_entry
 returns-3 c =
     let r = c.before.before.before.before.before.before.args.r in
     let a : leb r.size 16 ≡ true = le-leb r.size 16 (search rules) in
@@ -44,7 +44,7 @@ rest-unused-requires : tie.Need-rest-unused-requires
 rest-unused-requires c κs = search rules
 
 returns-4 : tie.Need-returns-4
-unfolding lawfulEntry
+unfolding lawful_entry
 returns-4 c =
     let r = c.before.before.before.before.before.before.before.args.r in
     let a : leb r.size 16 ≡ true = le-leb r.size 16 (search rules) in

@@ -4,14 +4,14 @@ use mathlib.Core.Path.{◌≡◌, sym, ◌∙◌}
 use borrow.Author.Tests.{not-true, not-false, le-leb, lt-leb}
 use lib.Dec.{leb}
 use Rattle.laws.specs.Tests.{each}
-use Rattle.dependencies.specs.Layout.{lawfulMap}
+use Rattle.dependencies.specs.Layout.{lawful_map}
 use Rattle.dependencies.proofs.MapChecks.{LawfulAt, FreshAt}
 use borrow.Author.Rules.{rules}
 use Rattle.dependencies.proofs.checking.lawful_map.Statement.{statement}
 use Rattle.dependencies.proofs.checking.lawful_map.Tie as tie
 
 returns : tie.Need-returns
-unfolding lawfulMap
+unfolding lawful_map
 returns c =
     let m = c.before.before.args.m in
     let a : leb m.count 64 ≡ false = lt-leb m.count 64 (search rules) in
@@ -21,7 +21,7 @@ entries-lawful-requires : tie.Need-entries-lawful-requires
 entries-lawful-requires c κs = search rules
 
 returns-2 : tie.Need-returns-2
-unfolding lawfulMap
+unfolding lawful_map
 returns-2 c =
     let m = c.before.before.before.before.args.m in
     let a : leb m.count 64 ≡ true = le-leb m.count 64 (search rules) in
@@ -32,7 +32,7 @@ keys-fresh-requires : tie.Need-keys-fresh-requires
 keys-fresh-requires c κs = search rules
 
 returns-3 : tie.Need-returns-3
-unfolding lawfulMap
+unfolding lawful_map
 returns-3 c =
     let m = c.before.before.before.before.before.before.args.m in
     let a : leb m.count 64 ≡ true = le-leb m.count 64 (search rules) in
@@ -44,7 +44,7 @@ places-unused-requires : tie.Need-places-unused-requires
 places-unused-requires c κs = search rules
 
 returns-4 : tie.Need-returns-4
-unfolding lawfulMap
+unfolding lawful_map
 returns-4 c =
     let m = c.before.before.before.before.before.before.before.args.m in
     let a : leb m.count 64 ≡ true = le-leb m.count 64 (search rules) in

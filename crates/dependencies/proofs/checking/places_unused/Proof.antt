@@ -5,7 +5,7 @@ use mathlib.Core.Path.{◌≡◌, sym, ◌∙◌}
 use borrow.Author.Tests.{not-true, not-false}
 use Rattle.laws.specs.Tests.{each}
 use Rattle.laws.proofs.Each.{each_none, each_more, each-stops, each-ends}
-use Rattle.dependencies.specs.Layout.{unusedEntry}
+use Rattle.dependencies.specs.Layout.{unused_entry}
 use Rattle.dependencies.proofs.MapChecks.{UnusedAt, at_place, sized}
 use borrow.Author.Rules.{rules}
 use Rattle.dependencies.proofs.checking.places_unused.Statement.{statement}
@@ -41,7 +41,7 @@ returns c =
     let i = c.before.before.before.before.loop.i in
     let z = sized m _ c.before.before.before.before.before.well-formed.0 in
     each-stops (UnusedAt m) ((64 - m.count)) i (search rules)
-    (at_place unusedEntry false m z (m.count + i) (search rules) (sym c.before.unused-entry.ensures ∙ not-true _ c.if1.true))
+    (at_place unused_entry false m z (m.count + i) (search rules) (sym c.before.unused-entry.ensures ∙ not-true _ c.if1.true))
 
 add-i : tie.Need-overflow-add-i invariant-loop decreases-loop
 add-i c = search rules
@@ -56,7 +56,7 @@ loop-again c =
     let z = sized m _ c.before.before.before.before.before.well-formed.0 in (
       search rules,
       each_more (UnusedAt m) i c.before.before.before.before.loop.invariant.1
-          (at_place unusedEntry true m z (m.count + i) (search rules) (sym c.before.unused-entry.ensures ∙ not-false _ c.if1.false)),
+          (at_place unused_entry true m z (m.count + i) (search rules) (sym c.before.unused-entry.ensures ∙ not-false _ c.if1.false)),
     )
 
 returns-2 : tie.Need-returns-2 invariant-loop decreases-loop

@@ -5,7 +5,7 @@ use mathlib.Core.Path.{◌≡◌}
 use borrow.Author.Tests.{eq-eqb, ne_eqb}
 use Rattle.laws.specs.Tests.{each}
 use Rattle.laws.proofs.Each.{each_none, each_more, each-stops, each-ends}
-use Rattle.dependencies.specs.Layout.{restUnused}
+use Rattle.dependencies.specs.Layout.{rest_unused}
 use Rattle.dependencies.proofs.MapChecks.{Unused}
 use borrow.Author.Rules.{rules}
 use Rattle.dependencies.proofs.checking.rest_unused.Statement.{statement}
@@ -33,7 +33,7 @@ element-copy-out-if1 : tie.Need-element-copy-out-if1 invariant-loop decreases-lo
 element-copy-out-if1 c = search rules
 
 returns : tie.Need-returns invariant-loop decreases-loop
-unfolding restUnused
+unfolding rest_unused
 returns c =
     let r = c.before.before.before.before.args.t1 in
     each-stops (Unused r) (16 - r.size) c.before.before.before.loop.k (search rules) (ne_eqb _ _ c.if1.true)
@@ -50,7 +50,7 @@ loop-again c =
     (search rules, each_more (Unused r) c.before.before.before.loop.k c.before.before.before.loop.invariant.1 (eq-eqb _ _ c.if1.false))
 
 returns-2 : tie.Need-returns-2 invariant-loop decreases-loop
-unfolding restUnused
+unfolding rest_unused
 returns-2 c =
     let r = c.before.before.args.t1 in
     each-ends (Unused r) (16 - r.size) c.before.loop.k (search rules) (search rules) c.before.loop.invariant.1

@@ -3,20 +3,20 @@ use mathlib.Core.Bool.{true, false, not}
 use mathlib.Core.Path.{◌≡◌, ap}
 use borrow.Author.Tests.{eq-eqb, ne_eqb}
 use lib.Dec.{eqb}
-use Rattle.dependencies.specs.Layout.{unusedEntry}
+use Rattle.dependencies.specs.Layout.{unused_entry}
 use borrow.Author.Rules.{rules}
 use Rattle.dependencies.proofs.checking.unused_entry.Statement.{statement}
 use Rattle.dependencies.proofs.checking.unused_entry.Tie as tie
 
 returns : tie.Need-returns
-unfolding unusedEntry
+unfolding unused_entry
 returns c =
     let r = c.before.before.args.r in
     let k : eqb r.key 0 ≡ false = ne_eqb _ _ c.if1.true in
     rw k
 
 returns-2 : tie.Need-returns-2
-unfolding unusedEntry
+unfolding unused_entry
 returns-2 c =
     let r = c.before.before.before.args.r in
     let k : eqb r.key 0 ≡ true = eq-eqb _ _ c.before.if1.false in
@@ -24,7 +24,7 @@ returns-2 c =
     rw (k, p)
 
 returns-3 : tie.Need-returns-3
-unfolding unusedEntry
+unfolding unused_entry
 returns-3 c =
     let r = c.before.before.before.before.before.args.r in
     let k : eqb r.key 0 ≡ true = eq-eqb _ _ c.before.before.before.if1.false in
@@ -33,7 +33,7 @@ returns-3 c =
     rw (k, p, t)
 
 returns-4 : tie.Need-returns-4
-unfolding unusedEntry
+unfolding unused_entry
 returns-4 c =
     let r = c.before.before.before.before.before.before.before.args.r in
     let k : eqb r.key 0 ≡ true = eq-eqb _ _ c.before.before.before.before.before.if1.false in
@@ -46,7 +46,7 @@ rest-unused-requires : tie.Need-rest-unused-requires
 rest-unused-requires c κs = search rules
 
 returns-5 : tie.Need-returns-5
-unfolding unusedEntry
+unfolding unused_entry
 returns-5 c =
     let r = c.before.before.before.before.before.before.before.before.args.r in
     let k : eqb r.key 0 ≡ true = eq-eqb _ _ c.before.before.before.before.before.before.if1.false in

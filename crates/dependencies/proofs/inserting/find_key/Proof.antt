@@ -2,7 +2,7 @@
 use Prim.Native.Nat.{◌-◌, ◌<◌}
 use mathlib.Core.Path.{◌≡◌, sym, ap, ◌∙◌}
 use native.Mathlib.Omega.{arith}
-use Rattle.laws.specs.Tests.{firstFrom}
+use Rattle.laws.specs.Tests.{first_from}
 use Rattle.dependencies.specs.Map.{place_of}
 use Rattle.dependencies.specs.Layout.{decode}
 use Rattle.dependencies.specs.declared.DependencyNode.{DependencyNode}
@@ -15,7 +15,7 @@ use Rattle.dependencies.proofs.inserting.find_key.Reads as reads
 use Rattle.dependencies.proofs.inserting.find_key.Lts as lts
 
 abbrev invariant-loop : tie.invariant-loop
-invariant-loop key m n i₀ i = place_of (decode m) key ≡ firstFrom (KeyAt m key) (m.count - i) i
+invariant-loop key m n i₀ i = place_of (decode m) key ≡ first_from (KeyAt m key) (m.count - i) i
 
 abbrev decreases-loop : tie.decreases-loop
 decreases-loop key m n i₀ i = n - i

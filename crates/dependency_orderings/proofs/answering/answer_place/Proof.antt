@@ -3,7 +3,7 @@ use mathlib.Core.Path.{sym, ap, ◌∙◌, subst}
 use mathlib.Core.List.{[]}
 use Rattle.dependencies.specs.Map.{entry_at}
 use Rattle.dependencies.specs.Layout.{decode}
-use Rattle.enumeration.specs.Walk.{overStart}
+use Rattle.enumeration.specs.Walk.{over_start}
 use Rattle.enumeration.specs.Inner.{Room, Rows}
 use Rattle.enumeration.specs.declared.Found.{Found}
 use Rattle.enumeration.proofs.Keeps.{room-none, rows_none}
@@ -25,7 +25,7 @@ refused-requires c κs = search rules
 returns : tie.Need-returns
 returns c =
     let s = c.before.before.before.before.before.before in
-    let w = overStart (decode s.args.m) (entry_at (decode s.args.m) s.args.place).dependencies [] in
+    let w = over_start (decode s.args.m) (entry_at (decode s.args.m) s.args.place).dependencies [] in
     let n = c.before.before.before.prefixes-at in
     let came = n.ensures.came [] (subst (λ (f : Found). Rows f []) (sym c.before.before.before.before.nothing-found.ensures) rows_none) in
     ap (λ (r : Enumerated). (r, s.args.out.now)) c.refused.ensures ∙ walk-stopped w n.result.number n.result.found came s.args.out.now c.before.if1.true
@@ -33,7 +33,7 @@ returns c =
 answer-found-requires : tie.Need-answer-found-requires
 answer-found-requires c κs =
     let s = c.before.before.before.before.before.before in
-    let w = overStart (decode s.args.m) (entry_at (decode s.args.m) s.args.place).dependencies [] in
+    let w = over_start (decode s.args.m) (entry_at (decode s.args.m) s.args.place).dependencies [] in
     let n = c.before.before.before.prefixes-at in
     let came = n.ensures.came [] (subst (λ (f : Found). Rows f []) (sym c.before.before.before.before.nothing-found.ensures) rows_none) in
     (n.ensures.room, walk_rows w n.result.number n.result.found came s.args.out.now c.before.if1.false)
@@ -44,7 +44,7 @@ same_length c = search rules
 returns-2 : tie.Need-returns-2
 returns-2 c =
     let s = c.before.before.before.before.before.before.before.before.before in
-    let w = overStart (decode s.args.m) (entry_at (decode s.args.m) s.args.place).dependencies [] in
+    let w = over_start (decode s.args.m) (entry_at (decode s.args.m) s.args.place).dependencies [] in
     let n = c.before.before.before.before.before.before.prefixes-at in
     let came = n.ensures.came [] (subst (λ (f : Found). Rows f []) (sym c.before.before.before.before.before.before.before.nothing-found.ensures) rows_none) in
     let a = c.before.before.answer-found in

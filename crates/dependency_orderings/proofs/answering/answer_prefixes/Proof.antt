@@ -4,7 +4,7 @@ use Rattle.classes.proofs.ClassPlaces.{place_at, place-nowhere}
 use Rattle.dependencies.specs.Layout.{decode}
 use Rattle.dependencies.proofs.MapInserts.{key-inside}
 use Rattle.enumeration.specs.Walk.{Walk}
-use Rattle.dependency_orderings.specs.Calls.{walkAnswer}
+use Rattle.dependency_orderings.specs.Calls.{walk_answer}
 use Rattle.dependency_orderings.specs.declared.Enumerated.{Enumerated}
 use Rattle.dependency_orderings.proofs.AnswerLaws.{nowhere-answered}
 use Rattle.enumeration.proofs.WalkLaws.{prefix-there}
@@ -37,7 +37,7 @@ returns : tie.Need-returns
 returns c =
     let s = c.before.before.before.before.before.before.before.before.before in
     let i = c.before.before.before.before.before.i.given in
-    c.before.before.answer-place.ensures ∙ ap (λ (w : Walk). walkAnswer w s.args.out.now) (sym (prefix-there (decode s.args.m) s.args.key i.0.0 (place_at _ i.0.0 (sym i.1 ∙ c.before.before.before.before.before.before.before.find-key.ensures))))
+    c.before.before.answer-place.ensures ∙ ap (λ (w : Walk). walk_answer w s.args.out.now) (sym (prefix-there (decode s.args.m) s.args.key i.0.0 (place_at _ i.0.0 (sym i.1 ∙ c.before.before.before.before.before.before.before.find-key.ensures))))
 
 returns-2 : tie.Need-returns-2
 returns-2 c =

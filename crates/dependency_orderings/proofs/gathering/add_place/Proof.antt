@@ -3,7 +3,7 @@ use mathlib.Core.Path.{ap}
 use native.Mathlib.Omega.{arith}
 use borrow.Author.Rules.{rules}
 use Rattle.dependency_orderings.specs.declared.Gathered.{Gathered}
-use Rattle.dependency_orderings.proofs.GatherLaws.{standing-key, steps-walked, steps-halt, steps-found}
+use Rattle.dependency_orderings.proofs.GatherLaws.{standing-key, steps-walked, steps_halt, steps-found}
 use Rattle.dependency_orderings.proofs.gathering.add_place.Statement.{statement}
 use Rattle.dependency_orderings.proofs.gathering.add_place.Tie as tie
 
@@ -25,7 +25,7 @@ returns-2 : tie.Need-returns-2
 returns-2 c =
     let s = c.before.before.before.before.before.before.before in
     let x = c.before.before.before.prefixes-at in
-    λ k p. steps-halt s.args.m s.args.t2 k s.requires.1 s.args.place p x.result x.ensures c.stopped-with.result (ap (λ (r : Gathered). r.number) c.stopped-with.ensures) c.before.if2.true
+    λ k p. steps_halt s.args.m s.args.t2 k s.requires.1 s.args.place p x.result x.ensures c.stopped-with.result (ap (λ (r : Gathered). r.number) c.stopped-with.ensures) c.before.if2.true
 
 note-key-requires : tie.Need-note-key-requires
 note-key-requires c κs = let s = c.before.before.before.before.before.before in omega (arith, s.requires.0.0.few, s.requires.0.1)

@@ -1,6 +1,6 @@
 -- `dependency_orderings::gathering::note_key` meets its contract.
 use borrow.Author.Rules.{rules}
-use Rattle.dependency_orderings.specs.Inner.{withKey}
+use Rattle.dependency_orderings.specs.Inner.{with_key}
 use Rattle.dependency_orderings.proofs.gathering.note_key.Statement.{statement}
 use Rattle.dependency_orderings.proofs.gathering.note_key.Tie as tie
 
@@ -11,7 +11,7 @@ count-key-requires : tie.Need-count-key-requires
 count-key-requires c κs = search rules
 
 returns : tie.Need-returns
-unfolding withKey
+unfolding with_key
 returns c = rw c.count-key.ensures
 
 pub note-key-spec : {M : Type 1} → statement M

@@ -4,26 +4,26 @@ use native.Mathlib.Omega.{arith}
 use borrow.Author.Tests.{not-true, not-false}
 use lib.ListN.{drop}
 use Rattle.products.specs.Orders.{product}
-use Rattle.products.specs.Generate.{inAllOrders, allOrders}
+use Rattle.products.specs.Generate.{in_all_orders, all_orders}
 use Rattle.products.specs.Inner.{choice_of, lists_of}
-use Rattle.dependency_orderings.proofs.Measures.{Measuring, measuring-begins, measuring-on, measuring-stops, measuring-ends, ready-few, ready-in, ready-chosen, ready-next, ready-done}
+use Rattle.dependency_orderings.proofs.Measures.{Measuring, measuring_begins, measuring_on, measuring_stops, measuring_ends, ready-few, ready_in, ready-chosen, ready-next, ready-done}
 use Rattle.dependency_orderings.proofs.writing.measure_all.Statement.{statement}
 use Rattle.dependency_orderings.proofs.writing.measure_all.Tie as tie
 
 abbrev invariant-loop : tie.invariant-loop
 invariant-loop l n total₀ k₀ total k =
-    (k ≤ n) × (Measuring (allOrders (product (lists_of l))) (allOrders (drop k (product (lists_of l)))) total × (total ≤ 23760 * k))
+    (k ≤ n) × (Measuring (all_orders (product (lists_of l))) (all_orders (drop k (product (lists_of l)))) total × (total ≤ 23760 * k))
 
 abbrev decreases-loop : tie.decreases-loop
 decreases-loop l n total₀ k₀ total k = n - k
 
 loop-holds : tie.Need-loop-init invariant-loop decreases-loop
-loop-holds c = (omega arith, (measuring-begins (allOrders (product (lists_of c.args.l))), omega arith))
+loop-holds c = (omega arith, (measuring_begins (all_orders (product (lists_of c.args.l))), omega arith))
 
 choice-at-requires : tie.Need-choice-at-requires invariant-loop decreases-loop
 choice-at-requires c κs =
     let s = c.before.before in
-    (s.requires.laid, (omega (arith, s.requires.number, ready-few s.args.l s.args.n s.requires), ready-in s.args.l s.args.n s.requires c.before.loop.k c.loop-test.true))
+    (s.requires.laid, (omega (arith, s.requires.number, ready-few s.args.l s.args.n s.requires), ready_in s.args.l s.args.n s.requires c.before.loop.k c.loop-test.true))
 
 measure-choice-requires : tie.Need-measure-choice-requires invariant-loop decreases-loop
 measure-choice-requires c κs =
@@ -37,7 +37,7 @@ returns c =
     let x = c.before.before.before.choice-at in
     let w = c.before.before.measure-choice in
     let cs = product (lists_of s.args.l) in
-    measuring-stops (allOrders cs) (allOrders (drop o.k cs)) (inAllOrders (choice_of x.result)) (allOrders (drop (o.k + 1) cs)) o.total o.invariant.1.0
+    measuring_stops (all_orders cs) (all_orders (drop o.k cs)) (in_all_orders (choice_of x.result)) (all_orders (drop (o.k + 1) cs)) o.total o.invariant.1.0
     (ready-next s.args.l s.args.n s.requires o.k c.before.before.before.before.loop-test.true x.result x.ensures) w.result w.ensures.0 (not-true w.result.fits c.if1.true)
 
 add_total : tie.Need-overflow-add-total invariant-loop decreases-loop
@@ -58,7 +58,7 @@ loop-again c =
     let cs = product (lists_of s.args.l) in (
       omega (arith, c.before.before.before.before.before.loop-test.true),
       (
-        measuring-on (allOrders cs) (allOrders (drop o.k cs)) (inAllOrders (choice_of x.result)) (allOrders (drop (o.k + 1) cs)) o.total o.invariant.1.0
+        measuring_on (all_orders cs) (all_orders (drop o.k cs)) (in_all_orders (choice_of x.result)) (all_orders (drop (o.k + 1) cs)) o.total o.invariant.1.0
             (ready-next s.args.l s.args.n s.requires o.k c.before.before.before.before.before.loop-test.true x.result x.ensures) w.result w.ensures.0 (not-false w.result.fits c.before.if1.false),
         omega (arith, o.invariant.1.1, w.ensures.1),
       ),
@@ -69,7 +69,7 @@ returns-2 c =
     let s = c.before.before in
     let o = c.before.loop in
     let cs = product (lists_of s.args.l) in
-    measuring-ends (allOrders cs) (allOrders (drop o.k cs)) o.total o.invariant.1.0 (ready-done s.args.l s.args.n s.requires o.k (omega (arith, c.loop-test.false)))
+    measuring_ends (all_orders cs) (all_orders (drop o.k cs)) o.total o.invariant.1.0 (ready-done s.args.l s.args.n s.requires o.k (omega (arith, c.loop-test.false)))
 
 pub measure-all-spec : {M : Type 1} → statement M
 measure-all-spec =

@@ -4,12 +4,12 @@ use mathlib.Core.List.{List}
 use mathlib.Core.Path.{◌≡◌, ap, ◌∙◌}
 use native.Mathlib.Omega.{arith}
 use lib.ListN.{length, get_or, set, length-set}
-use Rattle.dependency_orderings.proofs.WrittenLaws.{begunTo, begun-begins, begun-length, begun-next, begun-ends}
+use Rattle.dependency_orderings.proofs.WrittenLaws.{begun_to, begun-begins, begun-length, begun-next, begun-ends}
 use Rattle.dependency_orderings.proofs.writing.write_ordering.Statement.{statement}
 use Rattle.dependency_orderings.proofs.writing.write_ordering.Tie as tie
 
 abbrev invariant-loop : tie.invariant-loop
-invariant-loop out₀ o n k₀ out k = (k ≤ n) × (out ≡ begunTo o out₀ k)
+invariant-loop out₀ o n k₀ out k = (k ≤ n) × (out ≡ begun_to o out₀ k)
 
 abbrev decreases-loop : tie.decreases-loop
 decreases-loop out₀ o n k₀ out k = n - k

@@ -2,14 +2,14 @@
 use Prim.Native.Nat.{◌-◌}
 use Rattle.dependencies.specs.Layout.{place_in}
 use Rattle.dependencies.proofs.MapChecks.{sized}
-use Rattle.enumeration.specs.Inner.{unmarked, seen_at, markedNode, marked}
+use Rattle.enumeration.specs.Inner.{unmarked, seen_at, marked_node, marked}
 use Rattle.enumeration.proofs.Marks.{Filled, filled_none, filled_more, filled-all, seen-sized, marked-read}
 use borrow.Author.Rules.{rules}
 use Rattle.enumeration.proofs.marking.mark.Statement.{statement}
 use Rattle.enumeration.proofs.marking.mark.Tie as tie
 
 abbrev invariant-loop : tie.invariant-loop
-invariant-loop target dependency m walk seen₀ i₀ seen i = Filled (λ j. markedNode (place_in m j) (seen_at walk j) target dependency) unmarked 64 i seen
+invariant-loop target dependency m walk seen₀ i₀ seen i = Filled (λ j. marked_node (place_in m j) (seen_at walk j) target dependency) unmarked 64 i seen
 
 abbrev decreases-loop : tie.decreases-loop
 decreases-loop target dependency m walk seen₀ i₀ seen i = 64 - i
@@ -17,7 +17,7 @@ decreases-loop target dependency m walk seen₀ i₀ seen i = 64 - i
 loop-holds : tie.Need-loop-init invariant-loop decreases-loop
 loop-holds c =
     let x = c.args in
-    filled_none (λ j. markedNode (place_in x.t1 j) (seen_at x.t2 j) x.target x.dependency) unmarked 64 unmarked
+    filled_none (λ j. marked_node (place_in x.t1 j) (seen_at x.t2 j) x.target x.dependency) unmarked 64 unmarked
 
 mul-mark-node : tie.Need-overflow-mul-mark-node invariant-loop decreases-loop
 mul-mark-node c = search rules
@@ -51,7 +51,7 @@ loop-again c =
     let x = c.before.before.before.before.before.args in
     let g = c.before.before.before.before.before.well-formed in
     let s = c.before.before.before.before.loop in
-    filled_more (λ j. markedNode (place_in x.t1 j) (seen_at x.t2 j) x.target x.dependency) unmarked 64 s.i s.seen c.mark-node.result (search rules) s.invariant
+    filled_more (λ j. marked_node (place_in x.t1 j) (seen_at x.t2 j) x.target x.dependency) unmarked 64 s.i s.seen c.mark-node.result (search rules) s.invariant
     (marked-read x.t1 x.t2 x.target x.dependency s.i c.mark-node.result (sized x.t1 _ g.0) (seen-sized x.t2 _ g.1.0) (search rules) c.mark-node.ensures)
 
 returns : tie.Need-returns invariant-loop decreases-loop
@@ -62,7 +62,7 @@ returns c =
     λ t. record {
       depth = x.t2.depth;
       frames = x.t2.frames;
-      seen = filled-all (λ j. markedNode (place_in x.t1 j) (seen_at x.t2 j) x.target x.dependency) unmarked 64 s.i s.seen (search rules) s.invariant t;
+      seen = filled-all (λ j. marked_node (place_in x.t1 j) (seen_at x.t2 j) x.target x.dependency) unmarked 64 s.i s.seen (search rules) s.invariant t;
     }
 
 pub mark_spec : {M : Type 1} → statement M

@@ -2,7 +2,7 @@
 use Prim.Native.Nat.{◌-◌}
 use mathlib.Core.Bool.{false, ◌||◌}
 use lib.ListN.{get_or}
-use Rattle.enumeration.specs.Inner.{hits, markedNode}
+use Rattle.enumeration.specs.Inner.{hits, marked_node}
 use Rattle.enumeration.proofs.Marks.{Filled, filled_none, filled_more, filled-all}
 use borrow.Author.Rules.{rules}
 use Rattle.enumeration.proofs.marking.mark_node.Statement.{statement}
@@ -38,7 +38,7 @@ loop-again c =
     filled_more (λ j. get_or x.seen.told j false || hits x.node j x.target x.dependency) false 16 s.k s.out.told c.told-after.result (search rules) s.invariant c.told-after.ensures
 
 returns : tie.Need-returns invariant-loop decreases-loop
-unfolding markedNode
+unfolding marked_node
 returns c =
     let x = c.before.before.args in
     let s = c.before.loop in

@@ -3,7 +3,7 @@ use Prim.Native.Nat.{◌-◌}
 use native.Mathlib.Omega.{arith}
 use borrow.Author.Rules.{rules}
 use lib.ListN.{get_or}
-use Rattle.dependencies.proofs.MapChecks.{noPlace}
+use Rattle.dependencies.proofs.MapChecks.{no_place}
 use Rattle.enumeration.proofs.Turns.{node-is}
 use Rattle.enumeration.proofs.Walks.{node-short, Starts, starts_first, starts-next, starts-stop, starts-last}
 use Rattle.enumeration.proofs.prefixes.prefixes_at.Statement.{statement}
@@ -51,7 +51,7 @@ returns c =
     let e = node-is s.args.t1 s.requires.0.0 s.args.place s.requires.0.1 in
     let l = c.before.before.before.before.before.before.loop in
     let r = c.before.before.before.construct-orderings in
-    starts-stop s.args.t1 s.args.place (get_or s.args.t1.list s.args.place noPlace) s.requires.0.1 e s.args.found l.walk l.rows l.k l.invariant r.result c.before.before.before.before.before.loop-test.true r.ensures c.if1.true
+    starts-stop s.args.t1 s.args.place (get_or s.args.t1.list s.args.place no_place) s.requires.0.1 e s.args.found l.walk l.rows l.k l.invariant r.result c.before.before.before.before.before.loop-test.true r.ensures c.if1.true
 
 add-k : tie.Need-overflow-add-k invariant-loop decreases-loop
 add-k c =
@@ -68,14 +68,14 @@ loop-again c =
     let e = node-is s.args.t1 s.requires.0.0 s.args.place s.requires.0.1 in
     let l = c.before.before.before.before.before.before.before.loop in
     let r = c.before.before.before.before.construct-orderings in
-    starts-next s.args.t1 s.args.place (get_or s.args.t1.list s.args.place noPlace) s.requires.0.1 e s.args.found l.walk l.rows l.k l.invariant r.result c.before.before.before.before.before.before.loop-test.true r.ensures c.before.if1.false
+    starts-next s.args.t1 s.args.place (get_or s.args.t1.list s.args.place no_place) s.requires.0.1 e s.args.found l.walk l.rows l.k l.invariant r.result c.before.before.before.before.before.before.loop-test.true r.ensures c.before.if1.false
 
 returns-2 : tie.Need-returns-2 invariant-loop decreases-loop
 returns-2 c =
     let s = c.before.before.before.before in
     let e = node-is s.args.t1 s.requires.0.0 s.args.place s.requires.0.1 in
     let l = c.before.loop in
-    starts-last s.args.t1 s.args.place (get_or s.args.t1.list s.args.place noPlace) s.requires.0.1 e s.args.found l.walk l.rows l.k l.invariant c.loop-test.false
+    starts-last s.args.t1 s.args.place (get_or s.args.t1.list s.args.place no_place) s.requires.0.1 e s.args.found l.walk l.rows l.k l.invariant c.loop-test.false
 
 pub prefixes-at-spec : {M : Type 1} → statement M
 prefixes-at-spec =

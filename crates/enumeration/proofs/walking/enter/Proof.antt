@@ -3,7 +3,7 @@ use mathlib.Core.Path.{sym, ◌∙◌, subst}
 use Rattle.classes.proofs.ClassPlaces.{place_at, place-nowhere}
 use Rattle.dependencies.proofs.MapInserts.{key-inside}
 use Rattle.enumeration.specs.Inner.{Entered}
-use Rattle.enumeration.proofs.Turns.{entered-there, entered-nowhere}
+use Rattle.enumeration.proofs.Turns.{entered_there, entered_nowhere}
 use borrow.Author.Rules.{rules}
 use Rattle.enumeration.proofs.walking.enter.Statement.{statement}
 use Rattle.enumeration.proofs.walking.enter.Tie as tie
@@ -30,13 +30,13 @@ returns : tie.Need-returns
 returns c =
     let s = c.before.before.before.before.before in
     let i = c.before.before.i.given in
-    entered-there s.args.m s.args.walk s.args.key i.0.0 c.visit.result (place_at _ i.0.0 (sym i.1 ∙ c.before.before.before.before.find-key.ensures)) c.visit.ensures
+    entered_there s.args.m s.args.walk s.args.key i.0.0 c.visit.result (place_at _ i.0.0 (sym i.1 ∙ c.before.before.before.before.find-key.ensures)) c.visit.ensures
 
 returns-2 : tie.Need-returns-2
 returns-2 c =
     let s = c.before.before.before.before in
     subst (Entered s.args.m s.args.walk s.args.key) (sym c.stop.ensures)
-    (entered-nowhere s.args.m s.args.walk s.args.key s.requires.0 (place-nowhere _ (sym c.before.enum_told.given.1 ∙ c.before.before.before.find-key.ensures)))
+    (entered_nowhere s.args.m s.args.walk s.args.key s.requires.0 (place-nowhere _ (sym c.before.enum_told.given.1 ∙ c.before.before.before.find-key.ensures)))
 
 pub enter_spec : {M : Type 1} → statement M
 enter_spec =

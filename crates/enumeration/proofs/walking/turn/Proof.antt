@@ -4,7 +4,7 @@ use mathlib.Core.Path.{sym, ap, subst}
 use native.Mathlib.Omega.{arith}
 use Rattle.dependencies.specs.declared.DependencyNode.{DependencyNode}
 use Rattle.enumeration.specs.Inner.{frame_at, Went}
-use Rattle.enumeration.proofs.Turns.{frame_below, depth-few, top-framed, top-node, marks-are, opened-is, went_up, read-asks, went-read}
+use Rattle.enumeration.proofs.Turns.{frame_below, depth_few, top-framed, top-node, marks-are, opened-is, went_up, read-asks, went-read}
 use borrow.Author.Rules.{rules}
 use Rattle.enumeration.proofs.walking.turn.Statement.{statement}
 use Rattle.enumeration.proofs.walking.turn.Tie as tie
@@ -13,10 +13,10 @@ sub_at : tie.Need-overflow-sub-at
 sub_at c = search rules
 
 mul-top : tie.Need-overflow-mul-top
-mul-top c = omega (arith, depth-few c.args.t1 c.args.t2 c.requires.0)
+mul-top c = omega (arith, depth_few c.args.t1 c.args.t2 c.requires.0)
 
 element-copy-out-top : tie.Need-element-copy-out-top
-element-copy-out-top c = omega (arith, depth-few c.args.t1 c.args.t2 c.requires.0, c.requires.1)
+element-copy-out-top c = omega (arith, depth_few c.args.t1 c.args.t2 c.requires.0, c.requires.1)
 
 mul-node : tie.Need-overflow-mul-node
 mul-node c =
@@ -120,7 +120,7 @@ mul-t23 c =
     let e = s.args.t2 in
     let w = s.requires.0 in
     let up = s.requires.1 in
-    omega (arith, depth-few m e w)
+    omega (arith, depth_few m e w)
 
 element-set-from-next : tie.Need-element-set-from-next
 element-set-from-next c =
@@ -129,7 +129,7 @@ element-set-from-next c =
     let e = s.args.t2 in
     let w = s.requires.0 in
     let up = s.requires.1 in
-    omega (arith, depth-few m e w, up)
+    omega (arith, depth_few m e w, up)
 
 enter-requires : tie.Need-enter-requires
 enter-requires c κs =

@@ -3,10 +3,10 @@ use mathlib.Core.List.{[], ◌∷◌}
 use mathlib.Core.Path.{sym, ap, ◌∙◌, subst}
 use native.Mathlib.Omega.{arith}
 use borrow.Author.Tests.{not-true, not-false}
-use Rattle.orderings.specs.Inner.{extendedOf}
+use Rattle.orderings.specs.Inner.{extended_of}
 use Rattle.dependencies.specs.declared.DependencyNode.{DependencyNode}
-use Rattle.enumeration.specs.Inner.{upAll, way_of, Visited}
-use Rattle.enumeration.proofs.Turns.{node-is, visited-bare, visited-leaf, visited-open}
+use Rattle.enumeration.specs.Inner.{up_all, way_of, Visited}
+use Rattle.enumeration.proofs.Turns.{node-is, visited_bare, visited_leaf, visited_open}
 use borrow.Author.Rules.{rules}
 use Rattle.enumeration.proofs.walking.visit.Statement.{statement}
 use Rattle.enumeration.proofs.walking.visit.Tie as tie
@@ -28,7 +28,7 @@ returns c =
     let w = s.requires.0.0 in
     let q = node-is m w.map i s.requires.1 in
     subst (Visited m s.args.walk i) (sym c.stop.ensures)
-    (visited-bare m i s.requires.1 s.args.walk w (ap (λ (r : DependencyNode). r.projected) (sym q) ∙ not-true _ c.before.if1.true))
+    (visited_bare m i s.requires.1 s.args.walk w (ap (λ (r : DependencyNode). r.projected) (sym q) ∙ not-true _ c.before.if1.true))
 
 way-up-requires : tie.Need-way-up-requires
 way-up-requires c κs = c.before.before.before.before.before.requires.0.0
@@ -40,9 +40,9 @@ returns-2 c =
     let i = s.args.place in
     let w = s.requires.0.0 in
     let q = node-is m w.map i s.requires.1 in
-    visited-leaf m i s.requires.1 s.args.walk w c.Way-up.result (ap (λ (r : DependencyNode). r.projected) (sym q) ∙ not-false _ c.before.before.before.if1.false)
+    visited_leaf m i s.requires.1 s.args.walk w c.Way-up.result (ap (λ (r : DependencyNode). r.projected) (sym q) ∙ not-false _ c.before.before.before.if1.false)
     (ap (λ (r : DependencyNode). r.size) (sym q) ∙ c.before.if2.true)
-    (c.Way-up.ensures ∙ ap (λ (r : DependencyNode). extendedOf (upAll (way_of m s.args.walk) (r.target ∷ []))) q)
+    (c.Way-up.ensures ∙ ap (λ (r : DependencyNode). extended_of (up_all (way_of m s.args.walk) (r.target ∷ []))) q)
 
 go-down-requires : tie.Need-go-down-requires
 go-down-requires c κs = let s = c.before.before.before.before.before in omega (arith, s.requires.0.1)
@@ -55,7 +55,7 @@ returns-3 c =
     let w = s.requires.0.0 in
     let q = node-is m w.map i s.requires.1 in
     subst (Visited m s.args.walk i) (sym c.go-down.ensures)
-    (visited-open m i s.requires.1 s.args.walk w s.requires.0.1 (ap (λ (r : DependencyNode). r.projected) (sym q) ∙ not-false _ c.before.before.before.if1.false)
+    (visited_open m i s.requires.1 s.args.walk w s.requires.0.1 (ap (λ (r : DependencyNode). r.projected) (sym q) ∙ not-false _ c.before.before.before.if1.false)
     (λ z. c.before.if2.false (ap (λ (r : DependencyNode). r.size) q ∙ z)))
 
 pub visit-spec : {M : Type 1} → statement M

@@ -7,7 +7,7 @@ use borrow.Author.Tests.{not-true, not-false}
 use Rattle.orderings.proofs.Extending.{row-short}
 use Rattle.dependencies.specs.declared.DependencyNode.{DependencyNode}
 use Rattle.enumeration.specs.Inner.{frame_at}
-use Rattle.enumeration.proofs.Turns.{node-is, frame_below, depth-few, Climbing, climbing-begins, climbing-on, climbing-stops, climbing-ends}
+use Rattle.enumeration.proofs.Turns.{node-is, frame_below, depth_few, Climbing, climbing_begins, climbing_on, climbing_stops, climbing_ends}
 use borrow.Author.Rules.{rules}
 use Rattle.enumeration.proofs.walking.way_up.Statement.{statement}
 use Rattle.enumeration.proofs.walking.way_up.Tie as tie
@@ -27,7 +27,7 @@ push-requires c κs = rw c.nothing.ensures (row-short [] (omega arith))
 loop-holds : tie.Need-loop-init invariant-loop decreases-loop
 loop-holds c =
     let s = c.before.before.before in
-    climbing-begins s.args.t1 s.args.t2 s.args.target c.before.before.nothing.result c.before.push.result c.before.before.nothing.ensures c.before.push.ensures
+    climbing_begins s.args.t1 s.args.t2 s.args.target c.before.before.nothing.result c.before.push.result c.before.before.nothing.ensures c.before.push.ensures
 
 sub-i : tie.Need-overflow-sub-i invariant-loop decreases-loop
 sub-i c = search rules
@@ -35,12 +35,12 @@ sub-i c = search rules
 mul-frame : tie.Need-overflow-mul-frame invariant-loop decreases-loop
 mul-frame c =
     let s = c.before.before.before.before.before in
-    omega (arith, c.before.loop.invariant.below, depth-few s.args.t1 s.args.t2 s.requires)
+    omega (arith, c.before.loop.invariant.below, depth_few s.args.t1 s.args.t2 s.requires)
 
 element-copy-out-frame : tie.Need-element-copy-out-frame invariant-loop decreases-loop
 element-copy-out-frame c =
     let s = c.before.before.before.before.before in
-    omega (arith, c.before.loop.invariant.below, depth-few s.args.t1 s.args.t2 s.requires)
+    omega (arith, c.before.loop.invariant.below, depth_few s.args.t1 s.args.t2 s.requires)
 
 mul-node : tie.Need-overflow-mul-node invariant-loop decreases-loop
 mul-node c =
@@ -63,7 +63,7 @@ returns c =
     let up : 0 < l.i = search rules in
     let f = s.requires.framed (l.i - 1) (omega (arith, l.invariant.below)) in
     let target = sym (ap (λ (r : DependencyNode). r.target) (node-is s.args.t1 s.requires.map (frame_at s.args.t2 (l.i - 1)).place f.there)) in
-    climbing-stops s.args.t1 s.args.t2 s.args.target l.i l.out l.invariant up e.result _ target e.ensures (not-true e.result.fits c.if1.true)
+    climbing_stops s.args.t1 s.args.t2 s.args.target l.i l.out l.invariant up e.result _ target e.ensures (not-true e.result.fits c.if1.true)
 
 loop-less : tie.Need-loop-smaller invariant-loop decreases-loop
 loop-less c = search rules
@@ -76,13 +76,13 @@ loop-again c =
     let up : 0 < l.i = search rules in
     let f = s.requires.framed (l.i - 1) (omega (arith, l.invariant.below)) in
     let target = sym (ap (λ (r : DependencyNode). r.target) (node-is s.args.t1 s.requires.map (frame_at s.args.t2 (l.i - 1)).place f.there)) in
-    climbing-on s.args.t1 s.args.t2 s.args.target l.i l.out l.invariant up e.result _ target e.ensures (not-false e.result.fits c.before.if1.false)
+    climbing_on s.args.t1 s.args.t2 s.args.target l.i l.out l.invariant up e.result _ target e.ensures (not-false e.result.fits c.before.if1.false)
 
 returns-2 : tie.Need-returns-2 invariant-loop decreases-loop
 returns-2 c =
     let s = c.before.before.before.before.before in
     let l = c.before.loop in
-    climbing-ends s.args.t1 s.args.t2 s.args.target l.i l.out l.invariant (search rules)
+    climbing_ends s.args.t1 s.args.t2 s.args.target l.i l.out l.invariant (search rules)
 
 pub way-up-spec : {M : Type 1} → statement M
 way-up-spec =

@@ -12,7 +12,7 @@ put-added-requires : tie.Need-put-added-requires
 put-added-requires c κs = search rules
 
 returns : tie.Need-returns
-returns c = on-first _ _ _ _ _ (rw (to_z-of_z c.before.before.before.before.ranges.offset) at c.before.before.add-offset-to-expr.ensures) c.put-added.ensures
+returns c = on-first _ _ _ _ _ (rw (to_z-of_z c.before.before.before.before.ranges.offset) at c.before.before.add_offset-to-expr.ensures) c.put-added.ensures
 
 pub galthumir-add-offset-to-expr-spec : {M : Type 1} → statement M
 galthumir-add-offset-to-expr-spec =

@@ -13,10 +13,10 @@ add-equal-conditions-requires : tie.Need-add-equal-conditions-requires
 add-equal-conditions-requires c κs = search rules
 
 put-changed-requires : tie.Need-put-changed-requires
-put-changed-requires c κs = subst FitsIfDone (sym c.before.before.add-equal-conditions.ensures) (equal-fits _ _ _ _)
+put-changed-requires c κs = subst FitsIfDone (sym c.before.before.add_equal-conditions.ensures) (equal-fits _ _ _ _)
 
 returns : tie.Need-returns
-returns c = rw (c.before.before.before.add-equal-conditions.ensures, c.before.before.before.before.load-group.ensures) at c.put-changed.ensures
+returns c = rw (c.before.before.before.add_equal-conditions.ensures, c.before.before.before.before.load-group.ensures) at c.put-changed.ensures
 
 pub galthumir-add-equal-conditions-spec : {M : Type 1} → statement M
 galthumir-add-equal-conditions-spec =

@@ -13,10 +13,10 @@ clear-per-partition-constants-requires : tie.Need-clear-per-partition-constants-
 clear-per-partition-constants-requires c κs = search rules
 
 put-changed-requires : tie.Need-put-changed-requires
-put-changed-requires c κs = subst FitsIfDone (sym c.before.before.clear-per-partition-constants.ensures) (clear-fits _ _)
+put-changed-requires c κs = subst FitsIfDone (sym c.before.before.clear_per_partition_constants_lem.ensures) (clear-fits _ _)
 
 returns : tie.Need-returns
-returns c = rw (c.before.before.before.clear-per-partition-constants.ensures, c.before.before.before.before.load-group.ensures) at c.put-changed.ensures
+returns c = rw (c.before.before.before.clear_per_partition_constants_lem.ensures, c.before.before.before.before.load-group.ensures) at c.put-changed.ensures
 
 pub galthumir-clear-per-partition-constants-spec : {M : Type 1} → statement M
 galthumir-clear-per-partition-constants-spec =

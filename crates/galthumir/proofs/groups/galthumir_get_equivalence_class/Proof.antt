@@ -13,7 +13,7 @@ put-class-is-requires : tie.Need-put-class-is-requires
 put-class-is-requires c κs = search rules
 
 returns : tie.Need-returns
-returns c = rw (c.before.before.get-equivalence-class.ensures, c.before.before.before.load-group.ensures) at c.put-class-is.ensures
+returns c = rw (c.before.before.get_equivalence_class_lem.ensures, c.before.before.before.load-group.ensures) at c.put-class-is.ensures
 
 pub galthumir-get-equivalence-class-spec : {M : Type 1} → statement M
 galthumir-get-equivalence-class-spec =

@@ -13,7 +13,7 @@ put-constant-requires : tie.Need-put-constant-requires
 put-constant-requires c κs = search rules
 
 returns : tie.Need-returns
-returns c = rw (c.before.before.is-expr-constant.ensures, c.before.before.before.load-group.ensures) at c.put-constant.ensures
+returns c = rw (c.before.before.is-expr_constant.ensures, c.before.before.before.load-group.ensures) at c.put-constant.ensures
 
 pub galthumir-is-expr-constant-spec : {M : Type 1} → statement M
 galthumir-is-expr-constant-spec =

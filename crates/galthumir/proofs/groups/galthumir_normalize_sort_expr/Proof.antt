@@ -14,7 +14,7 @@ put-key-requires : tie.Need-put-key-requires
 put-key-requires c κs = search rules
 
 returns : tie.Need-returns
-returns c = on-first _ _ _ _ _ (rw c.before.before.before.load-group.ensures at c.before.before.normalize-sort-expr.ensures) c.put-key.ensures
+returns c = on-first _ _ _ _ _ (rw c.before.before.before.load-group.ensures at c.before.before.normalize_sort_expr_lem.ensures) c.put-key.ensures
 
 pub galthumir-normalize-sort-expr-spec : {M : Type 1} → statement M
 galthumir-normalize-sort-expr-spec =

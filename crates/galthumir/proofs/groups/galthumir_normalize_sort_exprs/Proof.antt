@@ -16,10 +16,10 @@ normalize-sort-exprs-requires : tie.Need-normalize-sort-exprs-requires
 normalize-sort-exprs-requires c κs = search rules
 
 put-sorted-requires : tie.Need-put-sorted-requires
-put-sorted-requires c κs = subst (λ (o : Sorted × List ℕ). o.0.size < 65536) (sym c.before.normalize-sort-exprs.ensures) (sorted-fits _ _ _)
+put-sorted-requires c κs = subst (λ (o : Sorted × List ℕ). o.0.size < 65536) (sym c.before.normalize_sort_exprs_lem.ensures) (sorted-fits _ _ _)
 
 returns : tie.Need-returns
-returns c = on-first _ _ _ _ _ (rw c.before.before.before.load-group.ensures at c.before.before.normalize-sort-exprs.ensures) c.put-sorted.ensures
+returns c = on-first _ _ _ _ _ (rw c.before.before.before.load-group.ensures at c.before.before.normalize_sort_exprs_lem.ensures) c.put-sorted.ensures
 
 pub galthumir-normalize-sort-exprs-spec : {M : Type 1} → statement M
 galthumir-normalize-sort-exprs-spec =

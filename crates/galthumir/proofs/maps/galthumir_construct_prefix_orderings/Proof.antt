@@ -17,7 +17,7 @@ same_length : tie.Need-same-length
 same_length c = search rules
 
 returns : tie.Need-returns
-returns c = on-first _ _ _ _ _ (rw c.before.before.before.before.before.before.load-map.ensures at c.before.before.before.before.construct-prefix-orderings.ensures) c.put-enumerated.ensures
+returns c = on-first _ _ _ _ _ (rw c.before.before.before.before.before.before.load-map.ensures at c.before.before.before.before.construct_prefix_orderings_lem.ensures) c.put-enumerated.ensures
 
 pub galthumir-construct-prefix-orderings-spec : {M : Type 1} → statement M
 galthumir-construct-prefix-orderings-spec =

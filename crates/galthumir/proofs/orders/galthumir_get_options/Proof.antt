@@ -13,7 +13,7 @@ put-options-requires : tie.Need-put-options-requires
 put-options-requires c κs = search rules
 
 returns : tie.Need-returns
-returns c = rw (c.before.before.get-options.ensures, c.before.before.before.load-orderings.ensures) at c.put-options.ensures
+returns c = rw (c.before.before.get_options_lem.ensures, c.before.before.before.load-orderings.ensures) at c.put-options.ensures
 
 pub galthumir-get-options-spec : {M : Type 1} → statement M
 galthumir-get-options-spec =

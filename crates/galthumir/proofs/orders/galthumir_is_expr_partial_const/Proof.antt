@@ -13,7 +13,7 @@ put-partial-requires : tie.Need-put-partial-requires
 put-partial-requires c κs = search rules
 
 returns : tie.Need-returns
-returns c = rw (c.before.before.is-expr-partial-const.ensures, c.before.before.before.load-orderings.ensures) at c.put-partial.ensures
+returns c = rw (c.before.before.is-expr-partial_const.ensures, c.before.before.before.load-orderings.ensures) at c.put-partial.ensures
 
 pub galthumir-is-expr-partial-const-spec : {M : Type 1} → statement M
 galthumir-is-expr-partial-const-spec =

@@ -2,13 +2,13 @@
 use mathlib.Core.Path.{sym}
 use native.Mathlib.Omega.{arith}
 use borrow.Author.Rules.{rules}
-use Rattle.galthumir.proofs.Shapes.{chosen-large, chosen-refused, chosen-done}
+use Rattle.galthumir.proofs.Shapes.{chosen_large, chosen-refused, chosen-done}
 use Rattle.galthumir.proofs.sessions.galthumir_chosen.Statement.{statement}
 use Rattle.galthumir.proofs.sessions.galthumir_chosen.Tie as tie
 
 returns : tie.Need-returns
 returns c = let s = c.before.before.before in
-    chosen-refused s.args.answer.now s.args.kind s.args.left.now s.args.right.now 12 (sym (chosen-large s.args.kind s.args.left.now s.args.right.now c.if1.true)) (λ z. omega arith)
+    chosen-refused s.args.answer.now s.args.kind s.args.left.now s.args.right.now 12 (sym (chosen_large s.args.kind s.args.left.now s.args.right.now c.if1.true)) (λ z. omega arith)
 
 wide-requires : tie.Need-wide-requires
 wide-requires c κs = search rules

@@ -8,20 +8,20 @@ use borrow.Author.Tests.{not-true, not-false}
 use Rattle.laws.specs.Tests.{each}
 use Rattle.laws.proofs.Each.{each_none, each_more, each-stops, each-ends}
 use Rattle.arena.specs.Layout.{decode as nodes}
-use Rattle.classes.specs.Layout.{sum_to, uniformAt}
+use Rattle.classes.specs.Layout.{sum_to, uniform_at}
 use Rattle.classes.proofs.Numbers.{sum-none, sum-next, sum-holds}
 use Rattle.group_checks.proofs.checking.classes_uniform.Statement.{statement}
 use Rattle.group_checks.proofs.checking.classes_uniform.Tie as tie
 
 abbrev invariant-loop : tie.invariant-loop
-invariant-loop cells g start₀ j₀ start j = (j ≤ g.count) × ((start ≡ sum_to g.sizes j) × (each (λ j. uniformAt (nodes cells) g j) j ≡ true))
+invariant-loop cells g start₀ j₀ start j = (j ≤ g.count) × ((start ≡ sum_to g.sizes j) × (each (λ j. uniform_at (nodes cells) g j) j ≡ true))
 
 abbrev decreases-loop : tie.decreases-loop
 decreases-loop cells g start₀ j₀ start j = g.count - j
 
 loop-holds : tie.Need-loop-init invariant-loop decreases-loop
 loop-holds c =
-    (search rules, (sym (sum-none c.args.t2.sizes), each_none (λ j. uniformAt (nodes c.args.cells.now) c.args.t2 j)))
+    (search rules, (sym (sum-none c.args.t2.sizes), each_none (λ j. uniform_at (nodes c.args.cells.now) c.args.t2 j)))
 
 uniform-class-requires : tie.Need-uniform-class-requires invariant-loop decreases-loop
 uniform-class-requires c κs =
@@ -30,7 +30,7 @@ uniform-class-requires c κs =
 returns : tie.Need-returns invariant-loop decreases-loop
 returns c =
     let x = c.before.before.before.before.args in
-    each-stops (λ j. uniformAt (nodes x.cells.now) x.t2 j) x.t2.count c.before.before.before.loop.j (search rules) (sym c.before.uniform-class.ensures ∙ not-true _ c.if1.true)
+    each-stops (λ j. uniform_at (nodes x.cells.now) x.t2 j) x.t2.count c.before.before.before.loop.j (search rules) (sym c.before.uniform-class.ensures ∙ not-true _ c.if1.true)
 
 mul-start : tie.Need-overflow-mul-start invariant-loop decreases-loop
 mul-start c = search rules
@@ -51,12 +51,12 @@ loop-less c = search rules
 loop-again : tie.Need-loop-preserved invariant-loop decreases-loop
 loop-again c =
     let x = c.before.before.before.before.before.args in
-    (search rules, (omega (arith, sum-next x.t2.sizes c.before.before.before.before.loop.j), each_more (λ j. uniformAt (nodes x.cells.now) x.t2 j) c.before.before.before.before.loop.j c.before.before.before.before.loop.invariant.1.1 (sym c.before.before.uniform-class.ensures ∙ not-false _ c.before.if1.false)))
+    (search rules, (omega (arith, sum-next x.t2.sizes c.before.before.before.before.loop.j), each_more (λ j. uniform_at (nodes x.cells.now) x.t2 j) c.before.before.before.before.loop.j c.before.before.before.before.loop.invariant.1.1 (sym c.before.before.uniform-class.ensures ∙ not-false _ c.before.if1.false)))
 
 returns-2 : tie.Need-returns-2 invariant-loop decreases-loop
 returns-2 c =
     let x = c.before.before.args in
-    each-ends (λ j. uniformAt (nodes x.cells.now) x.t2 j) x.t2.count c.before.loop.j (search rules) (search rules) c.before.loop.invariant.1.1
+    each-ends (λ j. uniform_at (nodes x.cells.now) x.t2 j) x.t2.count c.before.loop.j (search rules) (search rules) c.before.loop.invariant.1.1
 
 pub classes-uniform-spec : {M : Type 1} → statement M
 classes-uniform-spec =

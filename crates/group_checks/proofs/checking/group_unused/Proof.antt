@@ -3,7 +3,7 @@ use mathlib.Core.Bool.{true, false}
 use mathlib.Core.Path.{◌≡◌, sym, ◌∙◌}
 use borrow.Author.Rules.{rules}
 use borrow.Author.Tests.{not-true, not-false}
-use Rattle.classes.specs.Layout.{unusedFrom}
+use Rattle.classes.specs.Layout.{unused_from}
 use Rattle.group_checks.proofs.checking.group_unused.Statement.{statement}
 use Rattle.group_checks.proofs.checking.group_unused.Tie as tie
 
@@ -12,7 +12,7 @@ sizes-unused-requires c κs = search rules
 
 returns : tie.Need-returns
 returns c =
-    let a : unusedFrom c.before.before.before.args.g.count 64 c.before.before.before.args.g.sizes ≡ false = sym c.before.sizes-unused.ensures ∙ not-true _ c.if1.true in
+    let a : unused_from c.before.before.before.args.g.count 64 c.before.before.before.args.g.sizes ≡ false = sym c.before.sizes-unused.ensures ∙ not-true _ c.if1.true in
     rw a
 
 marks-unused-requires : tie.Need-marks-unused-requires
@@ -21,8 +21,8 @@ marks-unused-requires c κs = search rules
 returns-2 : tie.Need-returns-2
 returns-2 c =
     let x = c.before.before.before.before.before.before.args in
-    let a : unusedFrom x.g.count 64 x.g.sizes ≡ true = sym c.before.before.before.before.sizes-unused.ensures ∙ not-false _ c.before.before.before.if1.false in
-    let b : unusedFrom x.g.count 64 x.g.flavours ≡ false = sym c.before.marks-unused.ensures ∙ not-true _ c.if2.true in
+    let a : unused_from x.g.count 64 x.g.sizes ≡ true = sym c.before.before.before.before.sizes-unused.ensures ∙ not-false _ c.before.before.before.if1.false in
+    let b : unused_from x.g.count 64 x.g.flavours ≡ false = sym c.before.marks-unused.ensures ∙ not-true _ c.if2.true in
     rw (a, b)
 
 marks-unused-requires-2 : tie.Need-marks-unused-requires-2
@@ -31,9 +31,9 @@ marks-unused-requires-2 c κs = search rules
 returns-3 : tie.Need-returns-3
 returns-3 c =
     let x = c.before.before.before.before.before.before.before.before.before.args in
-    let a : unusedFrom x.g.count 64 x.g.sizes ≡ true = sym c.before.before.before.before.before.before.before.sizes-unused.ensures ∙ not-false _ c.before.before.before.before.before.before.if1.false in
-    let b : unusedFrom x.g.count 64 x.g.flavours ≡ true = sym c.before.before.before.before.marks-unused.ensures ∙ not-false _ c.before.before.before.if2.false in
-    let v : unusedFrom x.g.count 64 x.g.values ≡ false = sym c.before.marks-unused2.ensures ∙ not-true _ c.if3.true in
+    let a : unused_from x.g.count 64 x.g.sizes ≡ true = sym c.before.before.before.before.before.before.before.sizes-unused.ensures ∙ not-false _ c.before.before.before.before.before.before.if1.false in
+    let b : unused_from x.g.count 64 x.g.flavours ≡ true = sym c.before.before.before.before.marks-unused.ensures ∙ not-false _ c.before.before.before.if2.false in
+    let v : unused_from x.g.count 64 x.g.values ≡ false = sym c.before.marks-unused2.ensures ∙ not-true _ c.if3.true in
     rw (a, b, v)
 
 members-unused-requires : tie.Need-members-unused-requires
@@ -42,9 +42,9 @@ members-unused-requires c κs = search rules
 returns-4 : tie.Need-returns-4
 returns-4 c =
     let x = c.before.before.before.before.before.before.before.before.before.before.before.args in
-    let a : unusedFrom x.g.count 64 x.g.sizes ≡ true = sym c.before.before.before.before.before.before.before.before.before.sizes-unused.ensures ∙ not-false _ c.before.before.before.before.before.before.before.before.if1.false in
-    let b : unusedFrom x.g.count 64 x.g.flavours ≡ true = sym c.before.before.before.before.before.before.marks-unused.ensures ∙ not-false _ c.before.before.before.before.before.if2.false in
-    let v : unusedFrom x.g.count 64 x.g.values ≡ true = sym c.before.before.before.marks-unused2.ensures ∙ not-false _ c.before.before.if3.false in
+    let a : unused_from x.g.count 64 x.g.sizes ≡ true = sym c.before.before.before.before.before.before.before.before.before.sizes-unused.ensures ∙ not-false _ c.before.before.before.before.before.before.before.before.if1.false in
+    let b : unused_from x.g.count 64 x.g.flavours ≡ true = sym c.before.before.before.before.before.before.marks-unused.ensures ∙ not-false _ c.before.before.before.before.before.if2.false in
+    let v : unused_from x.g.count 64 x.g.values ≡ true = sym c.before.before.before.marks-unused2.ensures ∙ not-false _ c.before.before.if3.false in
     rw (a, b, v) c.members-unused.ensures
 
 pub group-unused-spec : {M : Type 1} → statement M

@@ -9,14 +9,14 @@ use borrow.Author.Rules.{rules}
 use borrow.Author.Tests.{lt-ltb, le-ltb, le-leb, lt-leb, not-true, not-false}
 use Rattle.laws.specs.Tests.{each}
 use Rattle.laws.proofs.Each.{each_none, each_more, each-stops, each-ends}
-use Rattle.classes.specs.Layout.{knownFlavour, in_set}
+use Rattle.classes.specs.Layout.{known_flavour, in_set}
 use Rattle.classes.specs.declared.Group.{Group}
 use Rattle.group_checks.proofs.checking.in_set.Statement.{statement}
 use Rattle.group_checks.proofs.checking.in_set.Tie as tie
 
 -- class j, if there is one, has a flavour and a value in their sets
 abbrev Known : Group → ℕ → Bool
-Known g j = not (ltb j g.count) || knownFlavour (get_or g.flavours j 0) (get_or g.values j 0)
+Known g j = not (ltb j g.count) || known_flavour (get_or g.flavours j 0) (get_or g.values j 0)
 
 abbrev invariant-loop : tie.invariant-loop
 invariant-loop g j₀ j = (j ≤ 64) × (each (Known g) j ≡ true)

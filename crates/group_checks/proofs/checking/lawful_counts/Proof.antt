@@ -7,18 +7,18 @@ use lib.ListN.{get_or}
 use borrow.Author.Rules.{rules}
 use borrow.Author.Tests.{le-leb, lt-leb, not-true, not-false}
 use Rattle.laws.specs.Tests.{each}
-use Rattle.classes.specs.Layout.{lawfulCounts}
+use Rattle.classes.specs.Layout.{lawful_counts}
 use Rattle.group_checks.proofs.checking.lawful_counts.Statement.{statement}
 use Rattle.group_checks.proofs.checking.lawful_counts.Tie as tie
 
 returns : tie.Need-returns
-unfolding lawfulCounts
+unfolding lawful_counts
 returns c =
     let a : leb c.before.before.args.g.count 64 ≡ false = lt-leb c.before.before.args.g.count 64 (omega arith) in
     rw a
 
 returns-2 : tie.Need-returns-2
-unfolding lawfulCounts
+unfolding lawful_counts
 returns-2 c =
     let x = c.before.before.before.before.args in
     let a : leb x.g.count 64 ≡ true = le-leb x.g.count 64 (omega arith) in
@@ -29,7 +29,7 @@ sizes-filled-requires : tie.Need-sizes-filled-requires
 sizes-filled-requires c κs = search rules
 
 returns-3 : tie.Need-returns-3
-unfolding lawfulCounts
+unfolding lawful_counts
 returns-3 c =
     let x = c.before.before.before.before.before.before.before.args in
     let a : leb x.g.count 64 ≡ true = le-leb x.g.count 64 (omega arith) in
@@ -41,7 +41,7 @@ sizes-agree-requires : tie.Need-sizes-agree-requires
 sizes-agree-requires c κs = search rules
 
 returns-4 : tie.Need-returns-4
-unfolding lawfulCounts
+unfolding lawful_counts
 returns-4 c =
     let x = c.before.before.before.before.before.before.before.before.args in
     let a : leb x.g.count 64 ≡ true = le-leb x.g.count 64 (omega arith) in

@@ -9,16 +9,16 @@ use borrow.Author.Rules.{rules}
 use borrow.Author.Tests.{not-true, not-false}
 use Rattle.laws.specs.Tests.{each}
 use Rattle.laws.proofs.Each.{each_none, each_more, each-stops, each-ends}
-use Rattle.arena.specs.Node.{Node, nodeAt}
+use Rattle.arena.specs.Node.{Node, node_at}
 use Rattle.arena.specs.Layout.{decode as nodes}
-use Rattle.classes.specs.Layout.{sum_to, isLiteral, uniformAt}
+use Rattle.classes.specs.Layout.{sum_to, is_literal, uniform_at}
 use Rattle.classes.specs.declared.Group.{Group}
 use Rattle.group_checks.proofs.checking.uniform_class.Statement.{statement}
 use Rattle.group_checks.proofs.checking.uniform_class.Tie as tie
 
 -- member k of class j may stand there
 abbrev Fits : List Node → Group → ℕ → ℕ → Bool
-Fits ns g j k = not (ltb (get_or g.members (sum_to g.sizes j + k) 0) (length ns) && isLiteral (nodeAt ns (get_or g.members (sum_to g.sizes j + k) 0))) || leb 2 (get_or g.flavours j 0)
+Fits ns g j k = not (ltb (get_or g.members (sum_to g.sizes j + k) 0) (length ns) && is_literal (node_at ns (get_or g.members (sum_to g.sizes j + k) 0))) || leb 2 (get_or g.flavours j 0)
 
 abbrev invariant-loop : tie.invariant-loop
 invariant-loop cells j start g flavour n k₀ k = (k ≤ n) × (each (Fits (nodes cells) g j) k ≡ true)
@@ -57,7 +57,7 @@ member-fits-requires c κs =
     c.before.before.before.before.before.requires.0.0
 
 returns : tie.Need-returns invariant-loop decreases-loop
-unfolding uniformAt
+unfolding uniform_at
 returns c =
     let x = c.before.before.before.before.before.before.before.args in
     each-stops (Fits (nodes x.cells.now) x.t2 x.j) (get_or x.t2.sizes x.j 0) c.before.before.before.before.loop.k (search rules) (rw (← c.before.before.before.before.before.before.before.requires.1.0) (sym c.before.member-fits.ensures ∙ not-true _ c.if1.true))
@@ -74,7 +74,7 @@ loop-again c =
     (search rules, each_more (Fits (nodes x.cells.now) x.t2 x.j) c.before.before.before.before.loop.k c.before.before.before.before.loop.invariant.1 (rw (← c.before.before.before.before.before.before.before.requires.1.0) (sym c.before.member-fits.ensures ∙ not-false _ c.if1.false)))
 
 returns-2 : tie.Need-returns-2 invariant-loop decreases-loop
-unfolding uniformAt
+unfolding uniform_at
 returns-2 c =
     let x = c.before.before.before.before.args in
     each-ends (Fits (nodes x.cells.now) x.t2 x.j) (get_or x.t2.sizes x.j 0) c.before.loop.k (search rules) (search rules) c.before.loop.invariant.1

@@ -5,8 +5,8 @@ use native.Mathlib.Omega.{arith}
 use lib.ListN.{get_or}
 use Rattle.arena.specs.Layout.{decode as nodes}
 use Rattle.arena.proofs.Layouts.{length-decode}
-use Rattle.classes.specs.Layout.{constantFrom, decode}
-use Rattle.mappings.specs.Layout.{mappedOf}
+use Rattle.classes.specs.Layout.{constant_from, decode}
+use Rattle.mappings.specs.Layout.{mapped_of}
 use Rattle.mappings.proofs.Targets.{mapped-length, mapped-target}
 use Rattle.group_projection.proofs.ConstantLaws.{said_of, SaidTo, said-begins, said-ends, target-over, target_more}
 use borrow.Author.Rules.{rules}
@@ -14,7 +14,7 @@ use Rattle.group_projection.proofs.constants.say_targets.Statement.{statement}
 use Rattle.group_projection.proofs.constants.say_targets.Tie as tie
 
 abbrev invariant-loop : tie.invariant-loop
-invariant-loop cells mark source n group₀ k₀ group k = (k ≤ n) × SaidTo (nodes cells) (said_of (constantFrom mark.flavour mark.value) (mappedOf source).targets) (decode group₀) group k
+invariant-loop cells mark source n group₀ k₀ group k = (k ≤ n) × SaidTo (nodes cells) (said_of (constant_from mark.flavour mark.value) (mapped_of source).targets) (decode group₀) group k
 
 abbrev decreases-loop : tie.decreases-loop
 decreases-loop cells mark source n group₀ k₀ group k = n - k
@@ -22,7 +22,7 @@ decreases-loop cells mark source n group₀ k₀ group k = n - k
 loop-holds : tie.Need-loop-init invariant-loop decreases-loop
 loop-holds c =
     let b = c in
-    (omega arith, said-begins (nodes b.args.cells.now) (constantFrom b.args.mark.flavour b.args.mark.value) (mappedOf b.args.t3).targets (decode b.args.out) b.args.out b.requires.0.0.1 refl)
+    (omega arith, said-begins (nodes b.args.cells.now) (constant_from b.args.mark.flavour b.args.mark.value) (mapped_of b.args.t3).targets (decode b.args.out) b.args.out b.requires.0.0.1 refl)
 
 mul-add-constant-in : tie.Need-overflow-mul-add-constant-in invariant-loop decreases-loop
 mul-add-constant-in c = search rules
@@ -44,7 +44,7 @@ returns c =
     let b = c.before.before.before.before.before.before.before in
     let o = c.before.before.before.before.before.before.loop in
     let t = b.args.t3 in
-    target-over (nodes b.args.cells.now) (constantFrom b.args.mark.flavour b.args.mark.value) (mappedOf b.args.t3).targets (decode b.args.out) o.group o.k o.invariant.1 (get_or t.targets o.k 0) (omega (arith, mapped-length t, c.before.before.before.before.before.loop-test.true)) (sym (mapped-target t o.k c.before.before.before.before.before.loop-test.true)) c.before.before.before.add-constant-in.result c.before.before.before.add-constant-in.ensures c.before.if1.true c.no-group.result c.no-group.ensures
+    target-over (nodes b.args.cells.now) (constant_from b.args.mark.flavour b.args.mark.value) (mapped_of b.args.t3).targets (decode b.args.out) o.group o.k o.invariant.1 (get_or t.targets o.k 0) (omega (arith, mapped-length t, c.before.before.before.before.before.loop-test.true)) (sym (mapped-target t o.k c.before.before.before.before.before.loop-test.true)) c.before.before.before.add-constant-in.result c.before.before.before.add-constant-in.ensures c.before.if1.true c.no-group.result c.no-group.ensures
 
 add-k : tie.Need-overflow-add-k invariant-loop decreases-loop
 add-k c = search rules
@@ -60,7 +60,7 @@ loop-again c =
     let o = c.before.before.before.before.before.before.loop in
     let t = b.args.t3 in
     let l = c.before.before.before.before.before.loop-test.true in
-    (omega arith, target_more (nodes b.args.cells.now) (constantFrom b.args.mark.flavour b.args.mark.value) (mappedOf b.args.t3).targets (decode b.args.out) o.group o.k o.invariant.1 (get_or t.targets o.k 0) (omega (arith, mapped-length t, l)) (sym (mapped-target t o.k l)) c.before.before.before.add-constant-in.result c.before.before.before.add-constant-in.ensures (omega (arith, b.requires.1.1 o.k l, length-decode b.args.cells.now)) c.before.if1.false)
+    (omega arith, target_more (nodes b.args.cells.now) (constant_from b.args.mark.flavour b.args.mark.value) (mapped_of b.args.t3).targets (decode b.args.out) o.group o.k o.invariant.1 (get_or t.targets o.k 0) (omega (arith, mapped-length t, l)) (sym (mapped-target t o.k l)) c.before.before.before.add-constant-in.result c.before.before.before.add-constant-in.ensures (omega (arith, b.requires.1.1 o.k l, length-decode b.args.cells.now)) c.before.if1.false)
 
 made-requires : tie.Need-made-requires invariant-loop decreases-loop
 made-requires c κs = c.before.loop.invariant.1.made.held.coded
@@ -69,7 +69,7 @@ returns-2 : tie.Need-returns-2 invariant-loop decreases-loop
 returns-2 c =
     let b = c.before.before.before in
     let o = c.before.before.loop in
-    said-ends (nodes b.args.cells.now) (constantFrom b.args.mark.flavour b.args.mark.value) (mappedOf b.args.t3).targets (decode b.args.out) o.group o.k o.invariant.1 (omega (arith, mapped-length b.args.t3, c.before.loop-test.false)) c.made.result c.made.ensures
+    said-ends (nodes b.args.cells.now) (constant_from b.args.mark.flavour b.args.mark.value) (mapped_of b.args.t3).targets (decode b.args.out) o.group o.k o.invariant.1 (omega (arith, mapped-length b.args.t3, c.before.loop-test.false)) c.made.result c.made.ensures
 
 pub say-targets-spec : {M : Type 1} → statement M
 say-targets-spec =

@@ -6,10 +6,10 @@ use Rattle.arena.specs.Layout.{count, decode as nodes}
 use Rattle.arena.proofs.Layouts.{length-decode}
 use Rattle.classes.specs.Layout.{decode}
 use Rattle.merging.specs.Inner.{AllBelow}
-use Rattle.mappings.specs.Layout.{mappedOf, decode as mapping}
+use Rattle.mappings.specs.Layout.{mapped_of, decode as mapping}
 use Rattle.mappings.proofs.Targets.{decode-length, targets-below}
-use Rattle.mappings.proofs.PlaceReads.{readIn, read-rest, read_below, read-few, read-targets}
-use Rattle.group_projection.proofs.ConstantLaws.{SourcesSaid, sources-begin, sources-end, source-over, source_more}
+use Rattle.mappings.proofs.PlaceReads.{read_in, read-rest, read_below, read-few, read-targets}
+use Rattle.group_projection.proofs.ConstantLaws.{SourcesSaid, sources-begin, sources_end, source-over, source_more}
 use borrow.Author.Rules.{rules}
 use Rattle.group_projection.proofs.constants.source_constants.Statement.{statement}
 use Rattle.group_projection.proofs.constants.source_constants.Tie as tie
@@ -48,7 +48,7 @@ returns c =
     let b = c.before.before.before.before.before.before.before in
     let m = b.args.t3 in
     let o = c.before.before.before.before.before.before.loop in
-    source-over (nodes b.args.cells.now) (decode b.args.g) (mapping m) (decode b.args.out) o.group o.i o.invariant.1 (mappedOf (readIn m o.i)) (read-rest m o.i c.before.before.before.before.before.loop-test.true) c.before.before.before.say-source.result c.before.before.before.say-source.ensures c.before.if1.true c.no-group.result c.no-group.ensures
+    source-over (nodes b.args.cells.now) (decode b.args.g) (mapping m) (decode b.args.out) o.group o.i o.invariant.1 (mapped_of (read_in m o.i)) (read-rest m o.i c.before.before.before.before.before.loop-test.true) c.before.before.before.say-source.result c.before.before.before.say-source.ensures c.before.if1.true c.no-group.result c.no-group.ensures
 
 add-i : tie.Need-overflow-add-i invariant-loop decreases-loop
 add-i c = search rules
@@ -64,7 +64,7 @@ loop-again c =
     let m = b.args.t3 in
     let o = c.before.before.before.before.before.before.loop in
     let l = c.before.before.before.before.before.loop-test.true in
-    (omega arith, source_more (nodes b.args.cells.now) (decode b.args.g) (mapping m) (decode b.args.out) o.group o.i o.invariant.1 (mappedOf (readIn m o.i)) (read-rest m o.i l) c.before.before.before.say-source.result c.before.before.before.say-source.ensures (subst (λ (n : ℕ). AllBelow n (mappedOf (readIn m o.i)).targets) (sym (length-decode b.args.cells.now)) (targets-below (readIn m o.i) (count b.args.cells.now) (read-targets m o.i l (count b.args.cells.now) b.requires.1.1))) c.before.if1.false)
+    (omega arith, source_more (nodes b.args.cells.now) (decode b.args.g) (mapping m) (decode b.args.out) o.group o.i o.invariant.1 (mapped_of (read_in m o.i)) (read-rest m o.i l) c.before.before.before.say-source.result c.before.before.before.say-source.ensures (subst (λ (n : ℕ). AllBelow n (mapped_of (read_in m o.i)).targets) (sym (length-decode b.args.cells.now)) (targets-below (read_in m o.i) (count b.args.cells.now) (read-targets m o.i l (count b.args.cells.now) b.requires.1.1))) c.before.if1.false)
 
 made-requires : tie.Need-made-requires invariant-loop decreases-loop
 made-requires c κs = c.before.loop.invariant.1.made.held.coded
@@ -74,7 +74,7 @@ returns-2 c =
     let b = c.before.before.before in
     let m = b.args.t3 in
     let o = c.before.before.loop in
-    sources-end (nodes b.args.cells.now) (decode b.args.g) (mapping m) (decode b.args.out) o.group o.i o.invariant.1 (omega (arith, decode-length m, c.before.loop-test.false)) c.made.result c.made.ensures
+    sources_end (nodes b.args.cells.now) (decode b.args.g) (mapping m) (decode b.args.out) o.group o.i o.invariant.1 (omega (arith, decode-length m, c.before.loop-test.false)) c.made.result c.made.ensures
 
 pub source-constants-spec : {M : Type 1} → statement M
 source-constants-spec =

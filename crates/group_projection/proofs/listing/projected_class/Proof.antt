@@ -5,7 +5,7 @@ use native.Mathlib.Omega.{arith}
 use lib.ListN.{length, get_or, take, drop, length-drop}
 use lib.Seq.{length-take-le, get_or-take, get_or-drop}
 use Rattle.arena.specs.Layout.{count, decode as nodes}
-use Rattle.group_projection.proofs.ProjectedParts.{MembersTo, members-begin, members-ask, members-more, members-end}
+use Rattle.group_projection.proofs.ProjectedParts.{MembersTo, members-begin, members_ask, members-more, members_end}
 use borrow.Author.Rules.{rules}
 use Rattle.group_projection.proofs.listing.projected_class.Statement.{statement}
 use Rattle.group_projection.proofs.listing.projected_class.Tie as tie
@@ -62,7 +62,7 @@ push-entry-requires c κs =
     let mm : length s.args.t3 ≡ 256 = search rules in
     let len : length es ≡ s.args.n = length-take-le s.args.n (drop s.args.start s.args.t3) (omega (arith, s.requires.0.1, length-drop s.args.start s.args.t3)) in
     let x : c.before.wide.result ≡ get_or (drop s.args.start s.args.t3) o.k 0 = c.before.wide.ensures ∙ sym (get_or-drop s.args.start s.args.t3 o.k 0) in (
-      members-ask (nodes s.args.cells.now) s.args.table.now es o.k o.one o.invariant.1 (omega (arith, len, c.before.before.loop-test.true)) (omega (arith, len, s.requires.0.1)),
+      members_ask (nodes s.args.cells.now) s.args.table.now es o.k o.one o.invariant.1 (omega (arith, len, c.before.before.loop-test.true)) (omega (arith, len, s.requires.0.1)),
       (s.requires.0.0, subst (λ (e : ℕ). get_or s.args.table.now e 0 < count s.args.cells.now + 2) (sym x) (s.requires.1 o.k c.before.before.loop-test.true).1),
     )
 
@@ -93,7 +93,7 @@ returns c =
     let es = take s.args.n (drop s.args.start s.args.t3) in
     let mm : length s.args.t3 ≡ 256 = search rules in
     let len : length es ≡ s.args.n = length-take-le s.args.n (drop s.args.start s.args.t3) (omega (arith, s.requires.0.1, length-drop s.args.start s.args.t3)) in
-    members-end (nodes s.args.cells.now) s.args.table.now es o.k o.one (omega (arith, len, c.loop-test.false)) o.invariant.1
+    members_end (nodes s.args.cells.now) s.args.table.now es o.k o.one (omega (arith, len, c.loop-test.false)) o.invariant.1
 
 pub projected-class-spec : {M : Type 1} → statement M
 projected-class-spec =

@@ -8,13 +8,13 @@ use Rattle.classes.specs.Group.{total}
 use Rattle.classes.specs.Layout.{decode}
 use Rattle.classes.proofs.Codec.{size_is}
 use Rattle.group_projection.proofs.ListedLaws.{Lists, lists-coded, lists-made}
-use Rattle.group_projection.proofs.ProjectedParts.{part-inside, part-next, part-entries, frontTelling, allTelling, front-begins, front-asks, front-more, front-over, front_ends, none_before}
+use Rattle.group_projection.proofs.ProjectedParts.{part-inside, part-next, part-entries, front_telling, all_telling, front-begins, front-asks, front-more, front-over, front_ends, none_before}
 use borrow.Author.Rules.{rules}
 use Rattle.group_projection.proofs.listing.projected_classes.Statement.{statement}
 use Rattle.group_projection.proofs.listing.projected_classes.Tie as tie
 
 abbrev invariant-loop : tie.invariant-loop
-invariant-loop cells table g n members out₀ start₀ j₀ out start j = (n ≡ g.count) × (j ≤ n) × (members ≡ g.members) × (start ≡ total (take j (decode g))) × Lists out (frontTelling (nodes cells) table g j)
+invariant-loop cells table g n members out₀ start₀ j₀ out start j = (n ≡ g.count) × (j ≤ n) × (members ≡ g.members) × (start ≡ total (take j (decode g))) × Lists out (front_telling (nodes cells) table g j)
 
 abbrev decreases-loop : tie.decreases-loop
 decreases-loop cells table g n members out₀ start₀ j₀ out start j = n - j
@@ -92,13 +92,13 @@ loop-again c =
 made-requires : tie.Need-made-requires invariant-loop decreases-loop
 made-requires c κs =
     let s = c.before.before.before.before in
-    lists-coded c.before.loop.out (frontTelling (nodes s.args.cells.now) s.args.table.now s.args.t3 c.before.loop.j) c.before.loop.invariant.4
+    lists-coded c.before.loop.out (front_telling (nodes s.args.cells.now) s.args.table.now s.args.t3 c.before.loop.j) c.before.loop.invariant.4
 
 returns-2 : tie.Need-returns-2 invariant-loop decreases-loop
 returns-2 c =
     let s = c.before.before.before.before.before in
     let o = c.before.before.loop in
-    lists-made o.out (allTelling (nodes s.args.cells.now) s.args.table.now s.args.t3)
+    lists-made o.out (all_telling (nodes s.args.cells.now) s.args.table.now s.args.t3)
     (front_ends (nodes s.args.cells.now) s.args.table.now s.args.t3 o.j o.out (omega (arith, c.before.loop-test.false)) o.invariant.4) c.made.result c.made.ensures
 
 pub projected-classes-spec : {M : Type 1} → statement M

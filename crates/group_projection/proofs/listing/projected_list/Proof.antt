@@ -5,7 +5,7 @@ use lib.ListN.{length, take}
 use lib.Seq.{length-take-le}
 use Rattle.arena.specs.Layout.{decode as nodes}
 use Rattle.group_projection.proofs.ListedLaws.{lists-list, answer-lists}
-use Rattle.group_projection.proofs.ProjectedParts.{allTelling}
+use Rattle.group_projection.proofs.ProjectedParts.{all_telling}
 use Rattle.group_projection.proofs.SourceLaws.{list_over, list-made}
 use borrow.Author.Rules.{rules}
 use Rattle.group_projection.proofs.listing.projected_list.Statement.{statement}
@@ -25,7 +25,7 @@ returns c =
 source-classes-requires : tie.Need-source-classes-requires
 source-classes-requires c κs =
     let s = c.before.before.before in
-    (lists-list c.before.before.projected-classes.result.group (allTelling (nodes s.args.cells.now) s.args.table.now s.args.g) (answer-lists c.before.before.projected-classes.result (allTelling (nodes s.args.cells.now) s.args.table.now s.args.g) c.before.before.projected-classes.ensures c.if1.false), s.requires.0.0)
+    (lists-list c.before.before.projected-classes.result.group (all_telling (nodes s.args.cells.now) s.args.table.now s.args.g) (answer-lists c.before.before.projected-classes.result (all_telling (nodes s.args.cells.now) s.args.table.now s.args.g) c.before.before.projected-classes.ensures c.if1.false), s.requires.0.0)
 
 returns-2 : tie.Need-returns-2
 returns-2 c =

@@ -6,10 +6,10 @@ use native.Mathlib.Omega.{arith}
 use Rattle.arena.specs.Layout.{decode as nodes}
 use Rattle.classes.specs.Group.{class_at}
 use Rattle.classes.specs.Layout.{decode}
-use Rattle.mappings.specs.Layout.{mappedOf}
-use Rattle.merging.specs.Extending.{pushedAll}
+use Rattle.mappings.specs.Layout.{mapped_of}
+use Rattle.merging.specs.Extending.{pushed_all}
 use Rattle.group_projection.proofs.ListedLaws.{lists-coded, lists-one, lists-made}
-use Rattle.group_projection.proofs.SourceLaws.{TargetsTo, firstTargets, targets-begin, targets-more, targets-over, targets-end}
+use Rattle.group_projection.proofs.SourceLaws.{TargetsTo, first_targets, targets-begin, targets-more, targets-over, targets_end}
 use borrow.Author.Rules.{rules}
 use Rattle.group_projection.proofs.listing.push_targets.Statement.{statement}
 use Rattle.group_projection.proofs.listing.push_targets.Tie as tie
@@ -35,7 +35,7 @@ push-target-requires : tie.Need-push-target-requires invariant-loop decreases-lo
 push-target-requires c κs =
     let s = c.before.before.before in
     let o = c.before.before.loop in (
-      lists-one o.out (pushedAll (nodes s.args.cells.now) (class_at (decode s.args.one) 0) (firstTargets s.args.t3 o.k)) o.invariant.2,
+      lists-one o.out (pushed_all (nodes s.args.cells.now) (class_at (decode s.args.one) 0) (first_targets s.args.t3 o.k)) o.invariant.2,
       record { holds = s.requires.0.1; below = s.requires.1.1 o.k c.before.loop-test.true },
     )
 
@@ -65,14 +65,14 @@ loop-again c =
 made-requires : tie.Need-made-requires invariant-loop decreases-loop
 made-requires c κs =
     let s = c.before.before in
-    lists-coded c.before.loop.out (pushedAll (nodes s.args.cells.now) (class_at (decode s.args.one) 0) (firstTargets s.args.t3 c.before.loop.k) ∷ []) c.before.loop.invariant.2
+    lists-coded c.before.loop.out (pushed_all (nodes s.args.cells.now) (class_at (decode s.args.one) 0) (first_targets s.args.t3 c.before.loop.k) ∷ []) c.before.loop.invariant.2
 
 returns-2 : tie.Need-returns-2 invariant-loop decreases-loop
 returns-2 c =
     let s = c.before.before.before in
     let o = c.before.before.loop in
-    lists-made o.out (pushedAll (nodes s.args.cells.now) (class_at (decode s.args.one) 0) (mappedOf s.args.t3).targets ∷ [])
-    (targets-end (nodes s.args.cells.now) (class_at (decode s.args.one) 0) s.args.t3 o.k o.out (omega (arith, o.invariant.1, c.before.loop-test.false)) o.invariant.2) c.made.result c.made.ensures
+    lists-made o.out (pushed_all (nodes s.args.cells.now) (class_at (decode s.args.one) 0) (mapped_of s.args.t3).targets ∷ [])
+    (targets_end (nodes s.args.cells.now) (class_at (decode s.args.one) 0) s.args.t3 o.k o.out (omega (arith, o.invariant.1, c.before.loop-test.false)) o.invariant.2) c.made.result c.made.ensures
 
 pub push-targets-spec : {M : Type 1} → statement M
 push-targets-spec =

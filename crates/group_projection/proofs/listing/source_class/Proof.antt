@@ -9,13 +9,13 @@ use lib.Seq.{length-take-le, get_or-take}
 use Rattle.arena.specs.Layout.{count, decode as nodes}
 use Rattle.mappings.proofs.PlaceReads.{read-few, read-targets}
 use Rattle.group_projection.proofs.ListedLaws.{Lists, lists-coded, lists-one, lists-made}
-use Rattle.group_projection.proofs.SourceLaws.{classOfForm, classOfSources, sources-begin, sources-more, sources-over, sources-end}
+use Rattle.group_projection.proofs.SourceLaws.{class_of_form, class_of_sources, sources-begin, sources-more, sources-over, sources_end}
 use borrow.Author.Rules.{rules}
 use Rattle.group_projection.proofs.listing.source_class.Statement.{statement}
 use Rattle.group_projection.proofs.listing.source_class.Tie as tie
 
 abbrev invariant-loop : tie.invariant-loop
-invariant-loop cells form m numbers n one₀ i₀ one i = (n ≡ m.count) × (i ≤ n) × Lists one (classOfSources (nodes cells) m (take m.count numbers) form i ∷ [])
+invariant-loop cells form m numbers n one₀ i₀ one i = (n ≡ m.count) × (i ≤ n) × Lists one (class_of_sources (nodes cells) m (take m.count numbers) form i ∷ [])
 
 abbrev decreases-loop : tie.decreases-loop
 decreases-loop cells form m numbers n one₀ i₀ one i = n - i
@@ -48,7 +48,7 @@ push-source-requires : tie.Need-push-source-requires invariant-loop decreases-lo
 push-source-requires c κs =
     let s = c.before.before.before.before in
     let o = c.before.before.loop in (
-      (lists-one o.one (classOfSources (nodes s.args.cells.now) s.args.t2 (take s.args.t2.count s.args.t3) s.args.form o.i) o.invariant.2, s.requires.0),
+      (lists-one o.one (class_of_sources (nodes s.args.cells.now) s.args.t2 (take s.args.t2.count s.args.t3) s.args.form o.i) o.invariant.2, s.requires.0),
       (read-few s.args.t2 o.i c.before.loop-test.true (count s.args.cells.now) s.requires.1, read-targets s.args.t2 o.i c.before.loop-test.true (count s.args.cells.now) s.requires.1),
     )
 
@@ -87,7 +87,7 @@ loop-again c =
 made-requires : tie.Need-made-requires invariant-loop decreases-loop
 made-requires c κs =
     let s = c.before.before.before in
-    lists-coded c.before.loop.one (classOfSources (nodes s.args.cells.now) s.args.t2 (take s.args.t2.count s.args.t3) s.args.form c.before.loop.i ∷ []) c.before.loop.invariant.2
+    lists-coded c.before.loop.one (class_of_sources (nodes s.args.cells.now) s.args.t2 (take s.args.t2.count s.args.t3) s.args.form c.before.loop.i ∷ []) c.before.loop.invariant.2
 
 returns-2 : tie.Need-returns-2 invariant-loop decreases-loop
 returns-2 c =
@@ -96,8 +96,8 @@ returns-2 c =
     let mm : length s.args.t3 ≡ 64 = search rules in
     let len = length-take-le s.args.t2.count s.args.t3 (omega (arith, s.requires.1.bounded.few)) in
     let js = take s.args.t2.count s.args.t3 in
-    lists-made o.one (classOfForm (nodes s.args.cells.now) s.args.t2 js s.args.form ∷ [])
-    (sources-end (nodes s.args.cells.now) s.args.t2 js s.args.form o.i o.one (omega (arith, len, c.before.loop-test.false)) o.invariant.2) c.made.result c.made.ensures
+    lists-made o.one (class_of_form (nodes s.args.cells.now) s.args.t2 js s.args.form ∷ [])
+    (sources_end (nodes s.args.cells.now) s.args.t2 js s.args.form o.i o.one (omega (arith, len, c.before.loop-test.false)) o.invariant.2) c.made.result c.made.ensures
 
 pub source-class-spec : {M : Type 1} → statement M
 source-class-spec =

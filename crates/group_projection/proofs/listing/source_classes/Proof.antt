@@ -5,13 +5,13 @@ use native.Mathlib.Omega.{arith}
 use lib.ListN.{take}
 use Rattle.arena.specs.Layout.{decode as nodes}
 use Rattle.group_projection.proofs.ListedLaws.{Lists, lists-coded, lists-list, lists-made}
-use Rattle.group_projection.proofs.SourceLaws.{withSources, forms-begin, forms-more, forms-over}
+use Rattle.group_projection.proofs.SourceLaws.{with_sources, forms-begin, forms-more, forms-over}
 use borrow.Author.Rules.{rules}
 use Rattle.group_projection.proofs.listing.source_classes.Statement.{statement}
 use Rattle.group_projection.proofs.listing.source_classes.Tie as tie
 
 abbrev invariant-loop : tie.invariant-loop
-invariant-loop cells m numbers n out₀ i₀ out i = (n ≡ m.count) × (i ≤ n) × Lists out (withSources (nodes cells) out₀ m (take m.count numbers) i)
+invariant-loop cells m numbers n out₀ i₀ out i = (n ≡ m.count) × (i ≤ n) × Lists out (with_sources (nodes cells) out₀ m (take m.count numbers) i)
 
 abbrev decreases-loop : tie.decreases-loop
 decreases-loop cells m numbers n out₀ i₀ out i = n - i
@@ -25,7 +25,7 @@ add-source-class-requires : tie.Need-add-source-class-requires invariant-loop de
 add-source-class-requires c κs =
     let s = c.before.before in
     let o = c.before.loop in
-    ((lists-list o.out (withSources (nodes s.args.cells.now) s.args.list s.args.m (take s.args.m.count s.args.numbers) o.i) o.invariant.2, c.loop-test.true), s.requires.1)
+    ((lists-list o.out (with_sources (nodes s.args.cells.now) s.args.list s.args.m (take s.args.m.count s.args.numbers) o.i) o.invariant.2, c.loop-test.true), s.requires.1)
 
 no-group-requires : tie.Need-no-group-requires invariant-loop decreases-loop
 no-group-requires c κs = search rules
@@ -53,15 +53,15 @@ loop-again c =
 made-requires : tie.Need-made-requires invariant-loop decreases-loop
 made-requires c κs =
     let s = c.before.before in
-    lists-coded c.before.loop.out (withSources (nodes s.args.cells.now) s.args.list s.args.m (take s.args.m.count s.args.numbers) c.before.loop.i) c.before.loop.invariant.2
+    lists-coded c.before.loop.out (with_sources (nodes s.args.cells.now) s.args.list s.args.m (take s.args.m.count s.args.numbers) c.before.loop.i) c.before.loop.invariant.2
 
 returns-2 : tie.Need-returns-2 invariant-loop decreases-loop
 returns-2 c =
     let s = c.before.before.before in
     let o = c.before.before.loop in
     let e : o.i ≡ s.args.m.count = omega (arith, o.invariant.1, c.before.loop-test.false) in
-    lists-made o.out (withSources (nodes s.args.cells.now) s.args.list s.args.m (take s.args.m.count s.args.numbers) s.args.m.count)
-    (subst (λ (n : ℕ). Lists o.out (withSources (nodes s.args.cells.now) s.args.list s.args.m (take s.args.m.count s.args.numbers) n)) e o.invariant.2) c.made.result c.made.ensures
+    lists-made o.out (with_sources (nodes s.args.cells.now) s.args.list s.args.m (take s.args.m.count s.args.numbers) s.args.m.count)
+    (subst (λ (n : ℕ). Lists o.out (with_sources (nodes s.args.cells.now) s.args.list s.args.m (take s.args.m.count s.args.numbers) n)) e o.invariant.2) c.made.result c.made.ensures
 
 pub source-classes-spec : {M : Type 1} → statement M
 source-classes-spec =

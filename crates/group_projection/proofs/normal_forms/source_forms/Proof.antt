@@ -6,7 +6,7 @@ use lib.ListN.{take, replicate}
 use Rattle.arena.specs.Layout.{decode as nodes}
 use Rattle.arena.proofs.Walking.{memo-none}
 use Rattle.normal.specs.Inner.{rewriting}
-use Rattle.group_projection.proofs.FormLaws.{FormedTo, forms-begin, form-ready, forms-more, forms-fail, forms-end}
+use Rattle.group_projection.proofs.FormLaws.{FormedTo, forms-begin, form-ready, forms-more, forms-fail, forms_end}
 use borrow.Author.Rules.{rules}
 use Rattle.group_projection.proofs.normal_forms.source_forms.Statement.{statement}
 use Rattle.group_projection.proofs.normal_forms.source_forms.Tie as tie
@@ -77,7 +77,7 @@ returns-2 c =
     let b = c.before.before in
     let m = b.args.t3 in
     let o = c.before.loop in
-    forms-end b.args.old b.args.firsts.now b.args.cells.now m b.requires o.cells o.memo o.numbers o.i o.invariant.1 (omega (arith, o.invariant.0, c.loop-test.false))
+    forms_end b.args.old b.args.firsts.now b.args.cells.now m b.requires o.cells o.memo o.numbers o.i o.invariant.1 (omega (arith, o.invariant.0, c.loop-test.false))
 
 pub source-forms-spec : {M : Type 1} → statement M
 source-forms-spec =

@@ -1,14 +1,14 @@
 -- `group_records::group::class_count` meets its contract.
 use mathlib.Core.Path.{◌∙◌}
 use native.Mathlib.Omega.{arith}
-use Rattle.group_records.proofs.GroupWalk.{body-long, class-number}
+use Rattle.group_records.proofs.GroupWalk.{body_long, class-number}
 use borrow.Author.Rules.{rules}
 use Rattle.group_records.proofs.group.class_count.Statement.{statement}
 use Rattle.group_records.proofs.group.class_count.Tie as tie
 
 field-requires : tie.Need-field-requires
 field-requires c κs =
-    omega (arith, body-long c.before.args.body.now c.before.requires)
+    omega (arith, body_long c.before.args.body.now c.before.requires)
 
 index-requires : tie.Need-index-requires
 index-requires c κs =

@@ -4,7 +4,7 @@ use mathlib.Core.Path.{sym}
 use borrow.Author.Tests.{lt-leb}
 use lib.Dec.{leb}
 use lib.ListN.{length}
-use Rattle.laws.proofs.Booleans.{and-fails-left}
+use Rattle.laws.proofs.Booleans.{and_fails_left}
 use Rattle.records.specs.Fields.{field}
 use Rattle.group_records.proofs.Shape.{fits-left}
 use borrow.Author.Rules.{rules}
@@ -17,7 +17,7 @@ sub-left c = search rules
 returns : tie.Need-returns
 returns c =
     let x = c.before.before.args in
-    sym (and-fails-left (leb (x.at + 8) (length x.body.now)) (leb (x.at + 8 + 2 * field x.body.now (x.at + 6)) (length x.body.now)) (lt-leb (x.at + 8) (length x.body.now) (search rules)))
+    sym (and_fails_left (leb (x.at + 8) (length x.body.now)) (leb (x.at + 8 + 2 * field x.body.now (x.at + 6)) (length x.body.now)) (lt-leb (x.at + 8) (length x.body.now) (search rules)))
 
 member-count-requires : tie.Need-member-count-requires
 member-count-requires c κs = search rules

@@ -8,8 +8,8 @@ use Rattle.laws.specs.Tests.{each}
 use Rattle.laws.proofs.Each.{each_none, each_more, each-stops, each-ends}
 use Rattle.group_records.specs.Inner.{given_of, Before}
 use borrow.Author.Tests.{lt-ltb, le-ltb}
-use Rattle.group_records.specs.GroupRecord.{classesFilled}
-use Rattle.group_records.proofs.GroupWalk.{Filled, before-start, turn, filled_at}
+use Rattle.group_records.specs.GroupRecord.{classes_filled}
+use Rattle.group_records.proofs.GroupWalk.{Filled, before-start, turn, filled_at_lem}
 use borrow.Author.Rules.{rules}
 use Rattle.group_records.proofs.group.classes_filled.Statement.{statement}
 use Rattle.group_records.proofs.group.classes_filled.Tie as tie
@@ -37,13 +37,13 @@ member-count-requires c κs =
     t.head
 
 returns : tie.Need-returns invariant-loop decreases-loop
-unfolding classesFilled
+unfolding classes_filled
 returns c =
     let b = c.before.before.before.before.before.before.args.body.now in
     let l = c.before.before.before.loop in
     let k : l.j < length (given_of b) = omega (arith, c.before.before.loop-test.true, c.before.before.before.before.class-count.ensures) in
     let t = turn b l.j l.at l.invariant.0 k in
-    each-stops (Filled b) (length (given_of b)) l.j k (filled_at b l.j l.at t c.before.member-count.result c.before.member-count.ensures.0 ∙ le-ltb 0 c.before.member-count.result (omega (arith, c.if1.true)))
+    each-stops (Filled b) (length (given_of b)) l.j k (filled_at_lem b l.j l.at t c.before.member-count.result c.before.member-count.ensures.0 ∙ le-ltb 0 c.before.member-count.result (omega (arith, c.if1.true)))
 
 member-count-requires-2 : tie.Need-member-count-requires-2 invariant-loop decreases-loop
 member-count-requires-2 c κs =
@@ -83,10 +83,10 @@ loop-again c =
     let l = c.before.before.before.before.loop in
     let k : l.j < length (given_of b) = omega (arith, c.before.before.before.loop-test.true, c.before.before.before.before.before.class-count.ensures) in
     let t = turn b l.j l.at l.invariant.0 k in
-    (rw c.member-count2.ensures.0 t.next, each_more (Filled b) l.j l.invariant.1 (filled_at b l.j l.at t c.before.before.member-count.result c.before.before.member-count.ensures.0 ∙ lt-ltb 0 c.before.before.member-count.result (omega (arith, c.before.if1.false))))
+    (rw c.member-count2.ensures.0 t.next, each_more (Filled b) l.j l.invariant.1 (filled_at_lem b l.j l.at t c.before.before.member-count.result c.before.before.member-count.ensures.0 ∙ lt-ltb 0 c.before.before.member-count.result (omega (arith, c.before.if1.false))))
 
 returns-2 : tie.Need-returns-2 invariant-loop decreases-loop
-unfolding classesFilled
+unfolding classes_filled
 returns-2 c =
     let b = c.before.before.before.before.args.body.now in
     let l = c.before.loop in

@@ -6,7 +6,7 @@ use lib.ListN.{length}
 use Rattle.records.specs.Fields.{fields}
 use Rattle.group_records.specs.Inner.{given_of, Before}
 use Rattle.group_records.proofs.GroupWalk.{before-start, turn}
-use Rattle.group_records.proofs.GroupCopy.{Gathered, gathered_none, gathered-more, gathered-all, fitting}
+use Rattle.group_records.proofs.GroupCopy.{Gathered, gathered_none, gathered_more, gathered_all, fitting}
 use borrow.Author.Rules.{rules}
 use Rattle.group_records.proofs.group.copy_all.Statement.{statement}
 use Rattle.group_records.proofs.group.copy_all.Tie as tie
@@ -85,7 +85,7 @@ loop-again c =
     let l = c.before.before.before.before.loop in
     let m = c.before.before.member-count in
     let f = fitting s.args.body.now l.list l.used l.at l.j m.result c.before.before.before.before.before.class-count.result s.requires.0 l.invariant.0 l.invariant.1 c.before.before.before.loop-test.true c.before.before.before.before.before.class-count.ensures m.ensures.0 in
-    (rw m.ensures.0 f.turns.next, gathered-more (given_of s.args.body.now) l.list _ s.args.body.now l.used l.at l.j m.result l.invariant.1 f.here f.room (f.turns.members ∙ ap (fields s.args.body.now (l.at + 8)) (sym m.ensures.0)) c.copy-members.ensures.0 c.copy-members.ensures.1)
+    (rw m.ensures.0 f.turns.next, gathered_more (given_of s.args.body.now) l.list _ s.args.body.now l.used l.at l.j m.result l.invariant.1 f.here f.room (f.turns.members ∙ ap (fields s.args.body.now (l.at + 8)) (sym m.ensures.0)) c.copy-members.ensures.0 c.copy-members.ensures.1)
 
 returns : tie.Need-returns invariant-loop decreases-loop
 returns c =
@@ -94,7 +94,7 @@ returns c =
     let p = c.before.before.before.before.requires.0.short in
     let u = l.invariant.1.room in
     let w = l.invariant.0.place in
-    gathered-all (given_of b) l.list l.used l.at l.j l.invariant.1 (omega (arith, c.loop-test.false, c.before.before.class-count.ensures)) (omega arith)
+    gathered_all (given_of b) l.list l.used l.at l.j l.invariant.1 (omega (arith, c.loop-test.false, c.before.before.class-count.ensures)) (omega arith)
 
 pub copy-all-spec : {M : Type 1} → statement M
 copy-all-spec =

@@ -8,7 +8,7 @@ use Rattle.laws.specs.Tests.{each}
 use Rattle.laws.proofs.Each.{each_none, each_more, each-stops, each-ends}
 use Rattle.group_records.specs.Inner.{given_of, Before}
 use borrow.Author.Tests.{not-true, not-false}
-use Rattle.group_records.specs.GroupRecord.{flavoursKnown}
+use Rattle.group_records.specs.GroupRecord.{flavours_known}
 use Rattle.group_records.proofs.GroupWalk.{Known, before-start, turn, known_at}
 use borrow.Author.Rules.{rules}
 use Rattle.group_records.proofs.group.flavours_known.Statement.{statement}
@@ -62,7 +62,7 @@ known-flavour-requires : tie.Need-known-flavour-requires invariant-loop decrease
 known-flavour-requires c κs = search rules
 
 returns : tie.Need-returns invariant-loop decreases-loop
-unfolding flavoursKnown
+unfolding flavours_known
 returns c =
     let b = c.before.before.before.before.before.before.before.before.args.body.now in
     let l = c.before.before.before.before.before.loop in
@@ -113,7 +113,7 @@ loop-again c =
     (rw c.member-count.ensures.0 t.next, each_more (Known b) l.j l.invariant.1 (known_at b l.j l.at t c.before.before.before.before.field.result c.before.before.before.wide-field.result c.before.before.before.before.field.ensures c.before.before.before.wide-field.ensures ∙ sym c.before.before.known-flavour.ensures ∙ not-false _ c.before.if1.false))
 
 returns-2 : tie.Need-returns-2 invariant-loop decreases-loop
-unfolding flavoursKnown
+unfolding flavours_known
 returns-2 c =
     let b = c.before.before.before.before.args.body.now in
     let l = c.before.loop in

@@ -4,9 +4,9 @@ use mathlib.Core.Path.{◌≡◌, sym, ◌∙◌}
 use borrow.Author.Tests.{not-true, not-false}
 use Rattle.arena.specs.Layout.{decode as nodes}
 use Rattle.arena.proofs.Layouts.{lawful-holds}
-use Rattle.group_records.specs.GroupRecord.{membersApart, literalsUniform, membersKnown}
+use Rattle.group_records.specs.GroupRecord.{members_apart, literals_uniform, members_known}
 use Rattle.group_records.specs.Inner.{given_of}
-use Rattle.group_records.proofs.GroupBuild.{apart-is, known_is, refuse-twice, refuse-literal, refuse-unknown, built-read}
+use Rattle.group_records.proofs.GroupBuild.{apart-is, known_is, refuse_twice, refuse_literal, refuse_unknown, built-read}
 use borrow.Author.Rules.{rules}
 use Rattle.group_records.proofs.group.listed_group.Statement.{statement}
 use Rattle.group_records.proofs.group.listed_group.Tie as tie
@@ -22,8 +22,8 @@ returns : tie.Need-returns
 returns c =
     let x = c.before.before.before.before.before.args in
     let h = c.before.before.before.before.before.requires in
-    let d : membersApart (given_of x.body.now) ≡ false = sym (apart-is x.cells.now x.body.now x.numbers.now h) ∙ sym c.before.before.Numbers-apart.ensures ∙ not-true _ c.before.if1.true in
-    refuse-twice x.cells.now x.body.now h.shaped c.no-group.result h.known c.no-group.ensures d
+    let d : members_apart (given_of x.body.now) ≡ false = sym (apart-is x.cells.now x.body.now x.numbers.now h) ∙ sym c.before.before.Numbers-apart.ensures ∙ not-true _ c.before.if1.true in
+    refuse_twice x.cells.now x.body.now h.shaped c.no-group.result h.known c.no-group.ensures d
 
 literals-uniform-requires : tie.Need-literals-uniform-requires
 literals-uniform-requires c κs =
@@ -36,8 +36,8 @@ returns-2 : tie.Need-returns-2
 returns-2 c =
     let x = c.before.before.before.before.before.before.before.args in
     let h = c.before.before.before.before.before.before.before.requires in
-    let u : literalsUniform (nodes x.cells.now) (given_of x.body.now) ≡ false = sym c.before.before.literals-uniform.ensures ∙ not-true _ c.before.if2.true in
-    refuse-literal x.cells.now x.body.now h.shaped c.no-group2.result h.known c.no-group2.ensures u
+    let u : literals_uniform (nodes x.cells.now) (given_of x.body.now) ≡ false = sym c.before.before.literals-uniform.ensures ∙ not-true _ c.before.if2.true in
+    refuse_literal x.cells.now x.body.now h.shaped c.no-group2.result h.known c.no-group2.ensures u
 
 node-count-requires : tie.Need-node-count-requires
 node-count-requires c κs = search rules
@@ -52,10 +52,10 @@ returns-3 : tie.Need-returns-3
 returns-3 c =
     let x = c.before.before.before.before.before.before.before.before.before.before.args in
     let h = c.before.before.before.before.before.before.before.before.before.before.requires in
-    let d : membersApart (given_of x.body.now) ≡ true = sym (apart-is x.cells.now x.body.now x.numbers.now h) ∙ sym c.before.before.before.before.before.before.before.Numbers-apart.ensures ∙ not-false _ c.before.before.before.before.before.before.if1.false in
-    let u : literalsUniform (nodes x.cells.now) (given_of x.body.now) ≡ true = sym c.before.before.before.before.before.literals-uniform.ensures ∙ not-false _ c.before.before.before.before.if2.false in
-    let m : membersKnown (nodes x.cells.now) (given_of x.body.now) ≡ false = sym (known_is x.cells.now x.body.now x.numbers.now h c.before.before.before.node-count.result c.before.before.before.node-count.ensures) ∙ sym c.before.before.all-below.ensures ∙ not-true _ c.before.if3.true in
-    refuse-unknown x.cells.now x.body.now h.shaped c.no-group3.result h.known h.arena h.filled d u c.no-group3.ensures m
+    let d : members_apart (given_of x.body.now) ≡ true = sym (apart-is x.cells.now x.body.now x.numbers.now h) ∙ sym c.before.before.before.before.before.before.before.Numbers-apart.ensures ∙ not-false _ c.before.before.before.before.before.before.if1.false in
+    let u : literals_uniform (nodes x.cells.now) (given_of x.body.now) ≡ true = sym c.before.before.before.before.before.literals-uniform.ensures ∙ not-false _ c.before.before.before.before.if2.false in
+    let m : members_known (nodes x.cells.now) (given_of x.body.now) ≡ false = sym (known_is x.cells.now x.body.now x.numbers.now h c.before.before.before.node-count.result c.before.before.before.node-count.ensures) ∙ sym c.before.before.all-below.ensures ∙ not-true _ c.before.if3.true in
+    refuse_unknown x.cells.now x.body.now h.shaped c.no-group3.result h.known h.arena h.filled d u c.no-group3.ensures m
 
 build-requires : tie.Need-build-requires
 build-requires c κs =
@@ -65,9 +65,9 @@ returns-4 : tie.Need-returns-4
 returns-4 c =
     let x = c.before.before.before.before.before.before.before.before.before.before.args in
     let h = c.before.before.before.before.before.before.before.before.before.before.requires in
-    let d : membersApart (given_of x.body.now) ≡ true = sym (apart-is x.cells.now x.body.now x.numbers.now h) ∙ sym c.before.before.before.before.before.before.before.Numbers-apart.ensures ∙ not-false _ c.before.before.before.before.before.before.if1.false in
-    let u : literalsUniform (nodes x.cells.now) (given_of x.body.now) ≡ true = sym c.before.before.before.before.before.literals-uniform.ensures ∙ not-false _ c.before.before.before.before.if2.false in
-    let m : membersKnown (nodes x.cells.now) (given_of x.body.now) ≡ true = sym (known_is x.cells.now x.body.now x.numbers.now h c.before.before.before.node-count.result c.before.before.before.node-count.ensures) ∙ sym c.before.before.all-below.ensures ∙ not-false _ c.before.if3.false in
+    let d : members_apart (given_of x.body.now) ≡ true = sym (apart-is x.cells.now x.body.now x.numbers.now h) ∙ sym c.before.before.before.before.before.before.before.Numbers-apart.ensures ∙ not-false _ c.before.before.before.before.before.before.if1.false in
+    let u : literals_uniform (nodes x.cells.now) (given_of x.body.now) ≡ true = sym c.before.before.before.before.before.literals-uniform.ensures ∙ not-false _ c.before.before.before.before.if2.false in
+    let m : members_known (nodes x.cells.now) (given_of x.body.now) ≡ true = sym (known_is x.cells.now x.body.now x.numbers.now h c.before.before.before.node-count.result c.before.before.before.node-count.ensures) ∙ sym c.before.before.all-below.ensures ∙ not-false _ c.before.if3.false in
     built-read x.cells.now x.body.now h.shaped c.build.result h.known h.arena h.filled d u c.build.ensures m
 
 pub listed-group-spec : {M : Type 1} → statement M

@@ -8,7 +8,7 @@ use lib.ListN.{length}
 use Rattle.laws.specs.Tests.{each}
 use Rattle.laws.proofs.Each.{each_none, each_more, each-stops, each-ends}
 use Rattle.arena.specs.Layout.{decode as nodes}
-use Rattle.group_records.specs.GroupRecord.{literalsUniform}
+use Rattle.group_records.specs.GroupRecord.{literals_uniform}
 use Rattle.group_records.specs.Inner.{given_of, Before}
 use Rattle.group_records.proofs.GroupWalk.{Uniform, before-start, turn, uniform-at}
 use borrow.Author.Rules.{rules}
@@ -68,7 +68,7 @@ members-fit-requires c κs =
     (c.before.before.before.before.before.before.requires.0, omega (arith, t.whole, c.before.member-count.ensures.0))
 
 returns : tie.Need-returns invariant-loop decreases-loop
-unfolding literalsUniform
+unfolding literals_uniform
 returns c =
     let b = c.before.before.before.before.before.before.before.before.args.body.now in
     let l = c.before.before.before.before.before.loop in
@@ -111,7 +111,7 @@ loop-again c =
     (rw c.before.before.before.member-count.ensures.0 t.next, each_more (Uniform ns b) l.j l.invariant.1 (uniform-at b l.j l.at t ns c.before.before.field.result c.before.before.before.member-count.result c.before.before.field.ensures c.before.before.before.member-count.ensures.0 ∙ sym c.before.members-fit.ensures ∙ not-false _ c.if1.false))
 
 returns-2 : tie.Need-returns-2 invariant-loop decreases-loop
-unfolding literalsUniform
+unfolding literals_uniform
 returns-2 c =
     let b = c.before.before.before.before.args.body.now in
     let l = c.before.loop in

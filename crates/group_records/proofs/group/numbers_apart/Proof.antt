@@ -7,7 +7,7 @@ use lib.ListN.{length, get_or}
 use Rattle.laws.specs.Tests.{each}
 use Rattle.laws.proofs.Each.{each_none, each_more, each-stops, each-ends}
 use Rattle.classes.specs.Layout.{fresh}
-use Rattle.group_records.proofs.Apart.{Seen, seen_none, seen_more, seen-fresh, seen-stale}
+use Rattle.group_records.proofs.Apart.{Seen, seen_none, seen_more, seen-fresh, seen_stale}
 use borrow.Author.Rules.{rules}
 use Rattle.group_records.proofs.group.numbers_apart.Statement.{statement}
 use Rattle.group_records.proofs.group.numbers_apart.Tie as tie
@@ -50,7 +50,7 @@ returns c =
     let x = c.before.before.before.before.args.numbers.now in
     let l = c.before.before.before.loop in
     let b : l.k < length x = search rules in
-    each-stops (fresh x) (length x) l.k b (seen-stale x l.seen l.k l.invariant.1.1 (omega (arith, c.if1.true)))
+    each-stops (fresh x) (length x) l.k b (seen_stale x l.seen l.k l.invariant.1.1 (omega (arith, c.if1.true)))
 
 array-write-seen : tie.Need-array-write-seen invariant-loop decreases-loop
 array-write-seen c =

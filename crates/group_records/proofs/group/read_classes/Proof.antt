@@ -6,7 +6,7 @@ use borrow.Author.Tests.{not-true, not-false}
 use lib.ListN.{length-replicate}
 use lib.Seq.{length-take-le}
 use Rattle.records.specs.Record.{AllBelow}
-use Rattle.group_records.proofs.GroupBuild.{refuse-flavour, refuse-arena, refuse-empty}
+use Rattle.group_records.proofs.GroupBuild.{refuse_flavour, refuse_arena, refuse_empty}
 use borrow.Author.Rules.{rules}
 use Rattle.group_records.proofs.group.read_classes.Statement.{statement}
 use Rattle.group_records.proofs.group.read_classes.Tie as tie
@@ -20,7 +20,7 @@ no-group-requires c κs = search rules
 returns : tie.Need-returns
 returns c =
     let x = c.before.before.before.before.args in
-    refuse-flavour x.cells.now x.body.now c.before.before.before.before.requires c.no-group.result c.no-group.ensures (sym c.before.before.flavours-known.ensures ∙ not-true _ c.before.if1.true)
+    refuse_flavour x.cells.now x.body.now c.before.before.before.before.requires c.no-group.result c.no-group.ensures (sym c.before.before.flavours-known.ensures ∙ not-true _ c.before.if1.true)
 
 lawful-arena-requires : tie.Need-lawful-arena-requires
 lawful-arena-requires c κs = search rules
@@ -31,7 +31,7 @@ no-group-requires-2 c κs = search rules
 returns-2 : tie.Need-returns-2
 returns-2 c =
     let x = c.before.before.before.before.before.before.args in
-    refuse-arena x.cells.now x.body.now c.before.before.before.before.before.before.requires c.no-group2.result (sym c.before.before.before.before.flavours-known.ensures ∙ not-false _ c.before.before.before.if1.false) c.no-group2.ensures (sym c.before.before.lawful-arena.ensures ∙ not-true _ c.before.if2.true)
+    refuse_arena x.cells.now x.body.now c.before.before.before.before.before.before.requires c.no-group2.result (sym c.before.before.before.before.flavours-known.ensures ∙ not-false _ c.before.before.before.if1.false) c.no-group2.ensures (sym c.before.before.lawful-arena.ensures ∙ not-true _ c.before.if2.true)
 
 classes-filled-requires : tie.Need-classes-filled-requires
 classes-filled-requires c κs = search rules
@@ -42,7 +42,7 @@ no-group-requires-3 c κs = search rules
 returns-3 : tie.Need-returns-3
 returns-3 c =
     let x = c.before.before.before.before.before.before.before.before.args in
-    refuse-empty x.cells.now x.body.now c.before.before.before.before.before.before.before.before.requires c.no-group3.result (sym c.before.before.before.before.before.before.flavours-known.ensures ∙ not-false _ c.before.before.before.before.before.if1.false) c.no-group3.ensures (sym c.before.before.classes-filled.ensures ∙ not-true _ c.before.if3.true)
+    refuse_empty x.cells.now x.body.now c.before.before.before.before.before.before.before.before.requires c.no-group3.result (sym c.before.before.before.before.before.before.flavours-known.ensures ∙ not-false _ c.before.before.before.before.before.if1.false) c.no-group3.ensures (sym c.before.before.classes-filled.ensures ∙ not-true _ c.before.if3.true)
 
 copy-all-requires : tie.Need-copy-all-requires
 copy-all-requires c κs =

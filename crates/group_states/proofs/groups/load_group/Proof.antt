@@ -1,6 +1,6 @@
 -- `group_states::groups::load_group` meets its contract.
 use borrow.Author.Rules.{rules}
-use Rattle.group_states.specs.Groups.{groupFrom}
+use Rattle.group_states.specs.Groups.{group_from}
 use Rattle.group_states.proofs.groups.load_group.Statement.{statement}
 use Rattle.group_states.proofs.groups.load_group.Tie as tie
 
@@ -35,7 +35,7 @@ wide-requires-3 : tie.Need-wide-requires-3
 wide-requires-3 c κs = search rules
 
 returns : tie.Need-returns
-unfolding groupFrom
+unfolding group_from
 returns c =
     λ t. record {
       limit = c.before.before.before.before.wide.ensures t;

@@ -3,7 +3,7 @@ use Prim.Native.Nat.{◌-◌}
 use mathlib.Core.Path.{refl}
 use native.Mathlib.Omega.{arith}
 use lib.ListN.{length, get_or}
-use Rattle.group_states.proofs.Stores.{Written, written_none, written-more, written_all}
+use Rattle.group_states.proofs.Stores.{Written, written_none, written-more, written_all_lem}
 use borrow.Author.Rules.{rules}
 use Rattle.group_states.proofs.groups.put_numbers.Statement.{statement}
 use Rattle.group_states.proofs.groups.put_numbers.Tie as tie
@@ -51,7 +51,7 @@ returns : tie.Need-returns invariant-loop decreases-loop
 returns c =
     let x = c.before.before.args in
     let s = c.before.loop in
-    written_all x.cells.now x.numbers.now x.at s.k s.cells c.loop-test.false s.invariant
+    written_all_lem x.cells.now x.numbers.now x.at s.k s.cells c.loop-test.false s.invariant
 
 pub put-numbers-spec : {M : Type 1} → statement M
 put-numbers-spec =

@@ -3,7 +3,7 @@ use Prim.Native.Nat.{◌-◌}
 use mathlib.Core.Path.{◌≡◌}
 use native.Mathlib.Omega.{arith}
 use lib.ListN.{length}
-use Rattle.group_states.proofs.Stores.{Written, written_none, written-more, written_all}
+use Rattle.group_states.proofs.Stores.{Written, written_none, written-more, written_all_lem}
 use borrow.Author.Rules.{rules}
 use Rattle.group_states.proofs.groups.put_widths.Statement.{statement}
 use Rattle.group_states.proofs.groups.put_widths.Tie as tie
@@ -56,7 +56,7 @@ returns c =
     let b = c.before.before.before in
     let s = c.before.loop in
     let n : length b.args.t1 ≡ 64 = b.well-formed.0.1.0.1 in
-    rw n at (written_all b.args.cells.now b.args.t1 3 s.k s.cells (omega (arith, n, c.loop-test.false)) s.invariant)
+    rw n at (written_all_lem b.args.cells.now b.args.t1 3 s.k s.cells (omega (arith, n, c.loop-test.false)) s.invariant)
 
 pub put-widths-spec : {M : Type 1} → statement M
 put-widths-spec =

@@ -5,7 +5,7 @@ use borrow.Author.Tests.{not-true, not-false, le-leb, lt-leb}
 use Rattle.arena.specs.Layout.{decode as nodes}
 use Rattle.arena.proofs.Layouts.{lawful-holds}
 use Rattle.group_checks.proofs.Checks.{limit-few}
-use Rattle.joins.proofs.JoinNumbers.{join-kind, join-left-set, join-right-set, join-arena, join-left, join-right, join-odd, join-sides, used-few}
+use Rattle.joins.proofs.JoinNumbers.{join-kind, join-left-set, join-right-set, join-arena, join-left, join-right, join_odd, join-sides, used-few}
 use borrow.Author.Rules.{rules}
 use Rattle.joins.proofs.joining.join_number.Statement.{statement}
 use Rattle.joins.proofs.joining.join_number.Tie as tie
@@ -62,7 +62,7 @@ returns-6 c =
 returns-7 : tie.Need-returns-7
 returns-7 c =
     let x = c.before.before.before.before.before.before.before.before.before.before.before.before.before.args in
-    join-odd x.cells.now x.left x.right x.kind x.pairs.now (le-leb x.kind 9 (omega (arith, c.before.before.before.before.before.before.before.before.before.before.before.if1.false))) (sym c.before.before.before.before.before.before.before.before.before.before.in-set.ensures ∙ not-false _ c.before.before.before.before.before.before.before.before.before.if2.false) (sym c.before.before.before.before.before.before.before.before.in-set2.ensures ∙ not-false _ c.before.before.before.before.before.before.before.if3.false) (sym c.before.before.before.before.before.before.lawful-arena.ensures ∙ not-false _ c.before.before.before.before.before.if4.false) (sym c.before.before.before.before.lawful-group.ensures ∙ not-false _ c.before.before.before.if5.false) (sym c.before.before.lawful-group2.ensures ∙ not-false _ c.before.if6.false) c.if7.true
+    join_odd x.cells.now x.left x.right x.kind x.pairs.now (le-leb x.kind 9 (omega (arith, c.before.before.before.before.before.before.before.before.before.before.before.if1.false))) (sym c.before.before.before.before.before.before.before.before.before.before.in-set.ensures ∙ not-false _ c.before.before.before.before.before.before.before.before.before.if2.false) (sym c.before.before.before.before.before.before.before.before.in-set2.ensures ∙ not-false _ c.before.before.before.before.before.before.before.if3.false) (sym c.before.before.before.before.before.before.lawful-arena.ensures ∙ not-false _ c.before.before.before.before.before.if4.false) (sym c.before.before.before.before.lawful-group.ensures ∙ not-false _ c.before.before.before.if5.false) (sym c.before.before.lawful-group2.ensures ∙ not-false _ c.before.if6.false) c.if7.true
 
 sides-number-requires : tie.Need-sides-number-requires
 sides-number-requires c κs =

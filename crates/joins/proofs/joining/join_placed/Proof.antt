@@ -5,7 +5,7 @@ use borrow.Author.Tests.{not-true, not-false}
 use lib.ListN.{take}
 use Rattle.classes.proofs.Judging.{refusal_is}
 use Rattle.joins.specs.Inner.{Joined}
-use Rattle.joins.proofs.Joins.{members-ready, members-full, rights-ready, rights-full, classes-over, members-over, list-asks, list-coded, all_coded, pairs-ask, join-done}
+use Rattle.joins.proofs.Joins.{members-ready, members-full, rights-ready, rights-full, classes-over, members-over, list-asks, list-coded, all_coded, pairs_ask, join-done}
 use borrow.Author.Rules.{rules}
 use Rattle.joins.proofs.joining.join_placed.Statement.{statement}
 use Rattle.joins.proofs.joining.join_placed.Tie as tie
@@ -108,7 +108,7 @@ equate-pairs-requires c κs =
     let s = c.before.before.before.before.before.before.before.before.before.before.before.before.before.before.before.before.before.before.before.before.before.before.before in
     let a = c.before.before.before.before.before.before.before.before.before.before.before.before.before.before.before.before.before.before.before.shift-members in
     let b = c.before.before.before.before.before.before.before.before.before.before.before.before.before.before.shift-rights in
-    pairs-ask s.args.lift s.args.cells.now s.args.left s.args.right s.args.pairs.now s.requires a.new.0 a.new.1.0 a.result.fits (take s.args.right.used a.result.members) a.ensures (not-false a.result.fits c.before.before.before.before.before.before.before.before.before.before.before.before.before.before.before.before.before.if1.false)
+    pairs_ask s.args.lift s.args.cells.now s.args.left s.args.right s.args.pairs.now s.requires a.new.0 a.new.1.0 a.result.fits (take s.args.right.used a.result.members) a.ensures (not-false a.result.fits c.before.before.before.before.before.before.before.before.before.before.before.before.before.before.before.before.before.if1.false)
     b.new.0 b.new.1.0 b.result b.ensures.0 b.ensures.1 (not-false b.result c.before.before.before.before.before.before.before.before.before.before.before.before.before.if2.false) c.before.before.before.before.before.before.before.before.before.before.if3.false c.before.before.before.before.before.before.before.if4.false c.before.before.before.before.add-shifted.result c.before.before.before.before.add-shifted.ensures c.before.before.before.made.result c.before.before.before.made.ensures c.from-classes.result c.from-classes.ensures
 
 returns-5 : tie.Need-returns-5

@@ -37,7 +37,7 @@ returns c =
     let n : c.before.before.before.before.before.node-count.result ≡ length (nodes s.args.cells.now) = c.before.before.before.before.before.node-count.ensures ∙ sym (length-decode s.args.cells.now) in
     ap {B = Outcome} (λ (x : Changed). (x, s.args.cells.now)) (refusal_is c.refusal.result 10 s.args.left c.refusal.ensures)
     ∙ members-out s.args.cells.now s.args.left s.args.right s.args.pairs.now s.args.left-size w.result s.requires w.ensures.1
-    (sym (members-test s.args.cells.now s.args.left s.args.right s.args.pairs.now w.result c.before.before.before.before.before.node-count.result s.requires n c.before.before.before.before.movable.result c.before.before.before.before.movable.ensures) ∙ sym c.before.before.members-move.ensures ∙ not-true c.before.before.members-move.result c.before.if1.true)
+    (sym (members-test s.args.cells.now s.args.left s.args.right s.args.pairs.now w.result c.before.before.before.before.before.node-count.result s.requires n c.before.before.before.before.movable.result c.before.before.before.before.movable.ensures) ∙ sym c.before.before.members_move_lem.ensures ∙ not-true c.before.before.members_move_lem.result c.before.if1.true)
 
 rights-move-requires : tie.Need-rights-move-requires
 rights-move-requires c κs =
@@ -54,15 +54,15 @@ returns-2 c =
     let n : c.before.before.before.before.before.before.before.before.node-count.result ≡ length (nodes s.args.cells.now) = c.before.before.before.before.before.before.before.before.node-count.ensures ∙ sym (length-decode s.args.cells.now) in
     ap {B = Outcome} (λ (x : Changed). (x, s.args.cells.now)) (refusal_is c.refusal2.result 10 s.args.left c.refusal2.ensures)
     ∙ rights-out s.args.cells.now s.args.left s.args.right s.args.pairs.now s.args.left-size w.result s.requires w.ensures.1
-    (sym (rights-test s.args.cells.now s.args.left s.args.right s.args.pairs.now w.result c.before.before.before.before.before.before.before.before.node-count.result s.requires n c.before.before.before.before.before.before.before.movable.result c.before.before.before.before.before.before.before.movable.ensures) ∙ sym c.before.before.rights-move.ensures ∙ not-true c.before.before.rights-move.result c.before.if2.true)
+    (sym (rights-test s.args.cells.now s.args.left s.args.right s.args.pairs.now w.result c.before.before.before.before.before.before.before.before.node-count.result s.requires n c.before.before.before.before.before.before.before.movable.result c.before.before.before.before.before.before.before.movable.ensures) ∙ sym c.before.before.rights_move_lem.ensures ∙ not-true c.before.before.rights_move_lem.result c.before.if2.true)
 
 join-placed-requires : tie.Need-join-placed-requires
 join-placed-requires c κs =
     let s = c.before.before.before.before.before.before.before.before.before.before.before.before.before in
     let w = c.before.before.before.before.before.before.before.before.before.before.before.lift-of-size in
     let n : c.before.before.before.before.before.before.before.before.before.node-count.result ≡ length (nodes s.args.cells.now) = c.before.before.before.before.before.before.before.before.before.node-count.ensures ∙ sym (length-decode s.args.cells.now) in
-    let a = sym (members-test s.args.cells.now s.args.left s.args.right s.args.pairs.now w.result c.before.before.before.before.before.before.before.before.before.node-count.result s.requires n c.before.before.before.before.before.before.before.before.movable.result c.before.before.before.before.before.before.before.before.movable.ensures) ∙ sym c.before.before.before.before.before.before.members-move.ensures ∙ not-false c.before.before.before.before.before.before.members-move.result c.before.before.before.before.before.if1.false in
-    let b = sym (rights-test s.args.cells.now s.args.left s.args.right s.args.pairs.now w.result c.before.before.before.before.before.before.before.before.before.node-count.result s.requires n c.before.before.before.before.before.before.before.before.movable.result c.before.before.before.before.before.before.before.before.movable.ensures) ∙ sym c.before.before.before.rights-move.ensures ∙ not-false c.before.before.before.rights-move.result c.before.before.if2.false in
+    let a = sym (members-test s.args.cells.now s.args.left s.args.right s.args.pairs.now w.result c.before.before.before.before.before.before.before.before.before.node-count.result s.requires n c.before.before.before.before.before.before.before.before.movable.result c.before.before.before.before.before.before.before.before.movable.ensures) ∙ sym c.before.before.before.before.before.before.members_move_lem.ensures ∙ not-false c.before.before.before.before.before.before.members_move_lem.result c.before.before.before.before.before.if1.false in
+    let b = sym (rights-test s.args.cells.now s.args.left s.args.right s.args.pairs.now w.result c.before.before.before.before.before.before.before.before.before.node-count.result s.requires n c.before.before.before.before.before.before.before.before.movable.result c.before.before.before.before.before.before.before.before.movable.ensures) ∙ sym c.before.before.before.rights_move_lem.ensures ∙ not-false c.before.before.before.rights_move_lem.result c.before.before.if2.false in
     shift-ready s.args.cells.now s.args.left s.args.right s.args.pairs.now s.args.left-size w.result s.requires w.ensures.1 a b w.ensures.0
 
 refusal-requires-3 : tie.Need-refusal-requires-3
@@ -74,8 +74,8 @@ returns-3 c =
     let w = c.before.before.before.before.before.before.before.before.before.before.before.before.before.before.before.lift-of-size in
     let j = c.before.before.before.join-placed in
     let n : c.before.before.before.before.before.before.before.before.before.before.before.before.before.node-count.result ≡ length (nodes s.args.cells.now) = c.before.before.before.before.before.before.before.before.before.before.before.before.before.node-count.ensures ∙ sym (length-decode s.args.cells.now) in
-    let a = sym (members-test s.args.cells.now s.args.left s.args.right s.args.pairs.now w.result c.before.before.before.before.before.before.before.before.before.before.before.before.before.node-count.result s.requires n c.before.before.before.before.before.before.before.before.before.before.before.before.movable.result c.before.before.before.before.before.before.before.before.before.before.before.before.movable.ensures) ∙ sym c.before.before.before.before.before.before.before.before.before.before.members-move.ensures ∙ not-false c.before.before.before.before.before.before.before.before.before.before.members-move.result c.before.before.before.before.before.before.before.before.before.if1.false in
-    let b = sym (rights-test s.args.cells.now s.args.left s.args.right s.args.pairs.now w.result c.before.before.before.before.before.before.before.before.before.before.before.before.before.node-count.result s.requires n c.before.before.before.before.before.before.before.before.before.before.before.before.movable.result c.before.before.before.before.before.before.before.before.before.before.before.before.movable.ensures) ∙ sym c.before.before.before.before.before.before.before.rights-move.ensures ∙ not-false c.before.before.before.before.before.before.before.rights-move.result c.before.before.before.before.before.before.if2.false in
+    let a = sym (members-test s.args.cells.now s.args.left s.args.right s.args.pairs.now w.result c.before.before.before.before.before.before.before.before.before.before.before.before.before.node-count.result s.requires n c.before.before.before.before.before.before.before.before.before.before.before.before.movable.result c.before.before.before.before.before.before.before.before.before.before.before.before.movable.ensures) ∙ sym c.before.before.before.before.before.before.before.before.before.before.members_move_lem.ensures ∙ not-false c.before.before.before.before.before.before.before.before.before.before.members_move_lem.result c.before.before.before.before.before.before.before.before.before.if1.false in
+    let b = sym (rights-test s.args.cells.now s.args.left s.args.right s.args.pairs.now w.result c.before.before.before.before.before.before.before.before.before.before.before.before.before.node-count.result s.requires n c.before.before.before.before.before.before.before.before.before.before.before.before.movable.result c.before.before.before.before.before.before.before.before.before.before.before.before.movable.ensures) ∙ sym c.before.before.before.before.before.before.before.rights_move_lem.ensures ∙ not-false c.before.before.before.before.before.before.before.rights_move_lem.result c.before.before.before.before.before.before.if2.false in
     ap {B = Outcome} (λ (x : Changed). (x, s.args.cells.now)) (refusal_is c.refusal3.result j.result.number s.args.left c.refusal3.ensures)
     ∙ shift-refused s.args.cells.now s.args.left s.args.right s.args.pairs.now s.args.left-size w.result s.requires w.ensures.1 a b j.new.0 j.result j.ensures c.before.if3.true
 
@@ -85,8 +85,8 @@ returns-4 c =
     let w = c.before.before.before.before.before.before.before.before.before.before.before.before.before.before.lift-of-size in
     let j = c.before.before.join-placed in
     let n : c.before.before.before.before.before.before.before.before.before.before.before.before.node-count.result ≡ length (nodes s.args.cells.now) = c.before.before.before.before.before.before.before.before.before.before.before.before.node-count.ensures ∙ sym (length-decode s.args.cells.now) in
-    let a = sym (members-test s.args.cells.now s.args.left s.args.right s.args.pairs.now w.result c.before.before.before.before.before.before.before.before.before.before.before.before.node-count.result s.requires n c.before.before.before.before.before.before.before.before.before.before.before.movable.result c.before.before.before.before.before.before.before.before.before.before.before.movable.ensures) ∙ sym c.before.before.before.before.before.before.before.before.before.members-move.ensures ∙ not-false c.before.before.before.before.before.before.before.before.before.members-move.result c.before.before.before.before.before.before.before.before.if1.false in
-    let b = sym (rights-test s.args.cells.now s.args.left s.args.right s.args.pairs.now w.result c.before.before.before.before.before.before.before.before.before.before.before.before.node-count.result s.requires n c.before.before.before.before.before.before.before.before.before.before.before.movable.result c.before.before.before.before.before.before.before.before.before.before.before.movable.ensures) ∙ sym c.before.before.before.before.before.before.rights-move.ensures ∙ not-false c.before.before.before.before.before.before.rights-move.result c.before.before.before.before.before.if2.false in
+    let a = sym (members-test s.args.cells.now s.args.left s.args.right s.args.pairs.now w.result c.before.before.before.before.before.before.before.before.before.before.before.before.node-count.result s.requires n c.before.before.before.before.before.before.before.before.before.before.before.movable.result c.before.before.before.before.before.before.before.before.before.before.before.movable.ensures) ∙ sym c.before.before.before.before.before.before.before.before.before.members_move_lem.ensures ∙ not-false c.before.before.before.before.before.before.before.before.before.members_move_lem.result c.before.before.before.before.before.before.before.before.if1.false in
+    let b = sym (rights-test s.args.cells.now s.args.left s.args.right s.args.pairs.now w.result c.before.before.before.before.before.before.before.before.before.before.before.before.node-count.result s.requires n c.before.before.before.before.before.before.before.before.before.before.before.movable.result c.before.before.before.before.before.before.before.before.before.before.before.movable.ensures) ∙ sym c.before.before.before.before.before.before.rights_move_lem.ensures ∙ not-false c.before.before.before.before.before.before.rights_move_lem.result c.before.before.before.before.before.if2.false in
     shift-done s.args.cells.now s.args.left s.args.right s.args.pairs.now s.args.left-size w.result s.requires w.ensures.1 a b j.new.0 j.result j.ensures c.if3.false
 
 pub join-shifted-spec : {M : Type 1} → statement M

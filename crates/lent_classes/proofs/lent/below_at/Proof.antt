@@ -6,14 +6,14 @@ use native.Mathlib.Omega.{arith}
 use borrow.Author.Tests.{lt-ltb, le-ltb}
 use Rattle.laws.specs.Tests.{each}
 use Rattle.laws.proofs.Each.{each_none, each_more, each-stops, each-ends}
-use Rattle.lent_classes.specs.Lent.{sizeLent, memberLent, belowAt}
+use Rattle.lent_classes.specs.Lent.{size_lent, member_lent, below_at}
 use Rattle.lent_classes.proofs.LentParts.{Below}
 use borrow.Author.Rules.{rules}
 use Rattle.lent_classes.proofs.lent.below_at.Statement.{statement}
 use Rattle.lent_classes.proofs.lent.below_at.Tie as tie
 
 abbrev invariant-loop : tie.invariant-loop
-invariant-loop numbers at m n k₀ k = (k ≤ n) × ((n ≡ sizeLent numbers at) × (each (Below m numbers at) k ≡ true))
+invariant-loop numbers at m n k₀ k = (k ≤ n) × ((n ≡ size_lent numbers at) × (each (Below m numbers at) k ≡ true))
 
 abbrev decreases-loop : tie.decreases-loop
 decreases-loop numbers at m n k₀ k = n - k
@@ -54,12 +54,12 @@ wide-requires : tie.Need-wide-requires invariant-loop decreases-loop
 wide-requires c κs = search rules
 
 returns : tie.Need-returns invariant-loop decreases-loop
-unfolding belowAt
+unfolding below_at
 returns c =
     let x = c.before.before.before.before.before.before.before.args in
     let l = c.before.before.before.before.loop in
-    each-stops (Below x.m x.numbers.now x.at) (sizeLent x.numbers.now x.at) l.k (search rules)
-    (le-ltb (memberLent x.numbers.now x.at l.k) x.m (omega (arith, c.before.wide.ensures, c.if1.true)))
+    each-stops (Below x.m x.numbers.now x.at) (size_lent x.numbers.now x.at) l.k (search rules)
+    (le-ltb (member_lent x.numbers.now x.at l.k) x.m (omega (arith, c.before.wide.ensures, c.if1.true)))
 
 add-k : tie.Need-overflow-add-k invariant-loop decreases-loop
 add-k c = search rules
@@ -74,16 +74,16 @@ loop-again c =
       search rules,
       (
         search rules,
-        each_more (Below x.m x.numbers.now x.at) l.k l.invariant.1.1 (lt-ltb (memberLent x.numbers.now x.at l.k) x.m (omega (arith, c.before.wide.ensures, c.if1.false))),
+        each_more (Below x.m x.numbers.now x.at) l.k l.invariant.1.1 (lt-ltb (member_lent x.numbers.now x.at l.k) x.m (omega (arith, c.before.wide.ensures, c.if1.false))),
       ),
     )
 
 returns-2 : tie.Need-returns-2 invariant-loop decreases-loop
-unfolding belowAt
+unfolding below_at
 returns-2 c =
     let x = c.before.before.before.before.args in
     let l = c.before.loop in
-    each-ends (Below x.m x.numbers.now x.at) (sizeLent x.numbers.now x.at) l.k (search rules) (search rules) l.invariant.1.1
+    each-ends (Below x.m x.numbers.now x.at) (size_lent x.numbers.now x.at) l.k (search rules) (search rules) l.invariant.1.1
 
 pub below-at-spec : {M : Type 1} → statement M
 below-at-spec =

@@ -5,7 +5,7 @@ use mathlib.Core.Path.{◌≡◌, refl, sym, ◌∙◌}
 use native.Mathlib.Omega.{arith}
 use borrow.Author.Tests.{not-true, not-false}
 use lib.ListN.{length}
-use Rattle.lent_classes.specs.Lent.{known_at, flavoursKnown}
+use Rattle.lent_classes.specs.Lent.{known_at, flavours_known}
 use Rattle.lent_classes.proofs.LentParts.{Going, going_on, going-stops, going-ends}
 use borrow.Author.Rules.{rules}
 use Rattle.lent_classes.proofs.lent.flavours_known.Statement.{statement}
@@ -33,7 +33,7 @@ known-flavour-requires : tie.Need-known-flavour-requires invariant-loop decrease
 known-flavour-requires c κs = search rules
 
 returns : tie.Need-returns invariant-loop decreases-loop
-unfolding flavoursKnown known_at
+unfolding flavours_known known_at
 returns c =
     let ns = c.before.before.before.before.before.before.before.args.numbers.now in
     let l = c.before.before.before.before.before.loop in
@@ -61,7 +61,7 @@ loop-again c =
     (search rules, going_on (known_at ns) ns l.at (l.at + (3 + c.size-at.result)) (search rules) (omega (arith, c.size-at.ensures.0)) l.invariant.1 k)
 
 returns-2 : tie.Need-returns-2 invariant-loop decreases-loop
-unfolding flavoursKnown
+unfolding flavours_known
 returns-2 c =
     let ns = c.before.before.before.args.numbers.now in
     let l = c.before.loop in

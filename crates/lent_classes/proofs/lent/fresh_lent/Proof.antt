@@ -5,14 +5,14 @@ use mathlib.Core.Path.{◌≡◌}
 use borrow.Author.Tests.{eq-eqb, ne_eqb}
 use Rattle.laws.specs.Tests.{each}
 use Rattle.laws.proofs.Each.{each_none, each_more, each-stops, each-ends}
-use Rattle.lent_classes.specs.Lent.{memberLent, freshLent}
+use Rattle.lent_classes.specs.Lent.{member_lent, fresh_lent}
 use Rattle.lent_classes.proofs.LentParts.{Unlike}
 use borrow.Author.Rules.{rules}
 use Rattle.lent_classes.proofs.lent.fresh_lent.Statement.{statement}
 use Rattle.lent_classes.proofs.lent.fresh_lent.Tie as tie
 
 abbrev invariant-loop : tie.invariant-loop
-invariant-loop numbers at k e i₀ i = (i ≤ k) × ((e ≡ memberLent numbers at k) × (each (Unlike numbers at k) i ≡ true))
+invariant-loop numbers at k e i₀ i = (i ≤ k) × ((e ≡ member_lent numbers at k) × (each (Unlike numbers at k) i ≡ true))
 
 abbrev decreases-loop : tie.decreases-loop
 decreases-loop numbers at k e i₀ i = k - i
@@ -69,12 +69,12 @@ shared-slice-read-if1 c =
     search rules
 
 returns : tie.Need-returns invariant-loop decreases-loop
-unfolding freshLent
+unfolding fresh_lent
 returns c =
     let x = c.before.before.before.before.before.args in
     let l = c.before.before.before.loop in
     each-stops (Unlike x.numbers.now x.at x.k) x.k l.i (search rules)
-    (rw (eq-eqb (memberLent x.numbers.now x.at l.i) (memberLent x.numbers.now x.at x.k) c.if1.true))
+    (rw (eq-eqb (member_lent x.numbers.now x.at l.i) (member_lent x.numbers.now x.at x.k) c.if1.true))
 
 add-i : tie.Need-overflow-add-i invariant-loop decreases-loop
 add-i c = search rules
@@ -90,12 +90,12 @@ loop-again c =
       (
         search rules,
         each_more (Unlike x.numbers.now x.at x.k) l.i l.invariant.1.1
-            (rw (ne_eqb (memberLent x.numbers.now x.at l.i) (memberLent x.numbers.now x.at x.k) c.if1.false)),
+            (rw (ne_eqb (member_lent x.numbers.now x.at l.i) (member_lent x.numbers.now x.at x.k) c.if1.false)),
       ),
     )
 
 returns-2 : tie.Need-returns-2 invariant-loop decreases-loop
-unfolding freshLent
+unfolding fresh_lent
 returns-2 c =
     let x = c.before.before.before.args in
     let l = c.before.loop in

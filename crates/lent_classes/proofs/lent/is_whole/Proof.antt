@@ -4,7 +4,7 @@ use mathlib.Core.Path.{◌≡◌, refl}
 use native.Mathlib.Omega.{arith}
 use borrow.Author.Tests.{le-leb, lt-leb}
 use lib.ListN.{length}
-use Rattle.lent_classes.specs.Lent.{sizeLent, nextClass, whole}
+use Rattle.lent_classes.specs.Lent.{size_lent, next_class, whole}
 use Rattle.lent_classes.proofs.LentParts.{WholeAt, Going, going_on, going-stops, going-ends}
 use borrow.Author.Rules.{rules}
 use Rattle.lent_classes.proofs.lent.is_whole.Statement.{statement}
@@ -29,26 +29,26 @@ add-at-2 : tie.Need-overflow-add-at-2 invariant-loop decreases-loop
 add-at-2 c = search rules
 
 returns : tie.Need-returns invariant-loop decreases-loop
-unfolding whole nextClass
+unfolding whole next_class
 returns c =
     let ns = c.before.before.before.before.before.args.numbers.now in
     let l = c.before.before.before.loop in
-    let e : l.at + (3 + c.before.size-at.result) ≡ l.at + 3 + sizeLent ns l.at = omega (arith, c.before.size-at.ensures.0) in
+    let e : l.at + (3 + c.before.size-at.result) ≡ l.at + 3 + size_lent ns l.at = omega (arith, c.before.size-at.ensures.0) in
     going-stops (WholeAt ns) ns l.at (search rules) l.invariant.1
-    (lt-leb (l.at + 3 + sizeLent ns l.at) (length ns) (omega (arith, e, c.if1.true, l.invariant.0)))
+    (lt-leb (l.at + 3 + size_lent ns l.at) (length ns) (omega (arith, e, c.if1.true, l.invariant.0)))
 
 loop-less : tie.Need-loop-smaller invariant-loop decreases-loop
 loop-less c = search rules
 
 loop-again : tie.Need-loop-preserved invariant-loop decreases-loop
-unfolding nextClass
+unfolding next_class
 loop-again c =
     let ns = c.before.before.before.before.before.args.numbers.now in
     let l = c.before.before.before.loop in
-    let e : l.at + (3 + c.before.size-at.result) ≡ l.at + 3 + sizeLent ns l.at = omega (arith, c.before.size-at.ensures.0) in (
+    let e : l.at + (3 + c.before.size-at.result) ≡ l.at + 3 + size_lent ns l.at = omega (arith, c.before.size-at.ensures.0) in (
       search rules,
       going_on (WholeAt ns) ns l.at (l.at + (3 + c.before.size-at.result)) (search rules) e l.invariant.1
-          (le-leb (l.at + 3 + sizeLent ns l.at) (length ns) (omega (arith, e, c.if1.false, l.invariant.0))),
+          (le-leb (l.at + 3 + size_lent ns l.at) (length ns) (omega (arith, e, c.if1.false, l.invariant.0))),
     )
 
 returns-2 : tie.Need-returns-2 invariant-loop decreases-loop

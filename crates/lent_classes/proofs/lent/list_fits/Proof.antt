@@ -3,7 +3,7 @@ use Prim.Native.Nat.{◌+◌, ◌-◌, ◌≤◌}
 use mathlib.Core.Path.{◌≡◌}
 use native.Mathlib.Omega.{arith}
 use lib.ListN.{length}
-use Rattle.lent_classes.specs.Lent.{sizeLent}
+use Rattle.lent_classes.specs.Lent.{size_lent}
 use Rattle.lent_classes.proofs.ListCounts.{Counted, counted-begins, counted-on, counted-many, counted-full, counted-ends}
 use borrow.Author.Rules.{rules}
 use Rattle.lent_classes.proofs.lent.list_fits.Statement.{statement}
@@ -54,8 +54,8 @@ loop-again c =
     let ns = c.before.before.before.before.before.before.args.numbers.now in
     let l = c.before.before.before.before.loop in
     let size = c.before.before.size-at.result in
-    let e : size ≡ sizeLent ns l.at = c.before.before.size-at.ensures.0 in
-    let next : l.at + (3 + size) ≡ l.at + 3 + sizeLent ns l.at = omega arith in (
+    let e : size ≡ size_lent ns l.at = c.before.before.size-at.ensures.0 in
+    let next : l.at + (3 + size) ≡ l.at + 3 + size_lent ns l.at = omega arith in (
       l.invariant.0,
       (
         omega (arith, c.before.if1.false),

@@ -5,14 +5,14 @@ use mathlib.Core.Path.{◌≡◌, refl, sym, ◌∙◌}
 use native.Mathlib.Omega.{arith}
 use borrow.Author.Tests.{not-true, not-false}
 use lib.ListN.{length}
-use Rattle.lent_classes.specs.Lent.{sizeLent, eachFrom, whole, apartAt, membersApart}
+use Rattle.lent_classes.specs.Lent.{size_lent, each_from, whole, apart_at, members_apart}
 use Rattle.lent_classes.proofs.LentParts.{WholeAt, Going, going_on, going-stops, going-ends, passes_on, whole-at}
 use borrow.Author.Rules.{rules}
 use Rattle.lent_classes.proofs.lent.members_apart.Statement.{statement}
 use Rattle.lent_classes.proofs.lent.members_apart.Tie as tie
 
 abbrev invariant-loop : tie.invariant-loop
-invariant-loop numbers n at₀ at = (n ≡ length numbers) × ((eachFrom (WholeAt numbers) numbers at ≡ true) × Going (apartAt numbers) numbers at)
+invariant-loop numbers n at₀ at = (n ≡ length numbers) × ((each_from (WholeAt numbers) numbers at ≡ true) × Going (apart_at numbers) numbers at)
 
 abbrev decreases-loop : tie.decreases-loop
 decreases-loop numbers n at₀ at = n - at
@@ -28,12 +28,12 @@ apart-at-requires c κs =
     whole-at s.args.numbers.now l.at (search rules) l.invariant.1.0
 
 returns : tie.Need-returns invariant-loop decreases-loop
-unfolding membersApart
+unfolding members_apart
 returns c =
     let x = c.before.before.before.before.before.args in
     let ns = x.numbers.now in
     let l = c.before.before.before.loop in
-    going-stops (apartAt ns) ns l.at (search rules) l.invariant.1.1 (sym c.before.apart-at.ensures ∙ not-true _ c.if1.true)
+    going-stops (apart_at ns) ns l.at (search rules) l.invariant.1.1 (sym c.before.apart-at.ensures ∙ not-true _ c.if1.true)
 
 size-at-requires : tie.Need-size-at-requires invariant-loop decreases-loop
 size-at-requires c κs = search rules
@@ -52,22 +52,22 @@ loop-again c =
     let x = c.before.before.before.before.before.before.args in
     let ns = x.numbers.now in
     let l = c.before.before.before.before.loop in
-    let e : l.at + (3 + c.size-at.result) ≡ l.at + 3 + sizeLent ns l.at = omega (arith, c.size-at.ensures.0) in
+    let e : l.at + (3 + c.size-at.result) ≡ l.at + 3 + size_lent ns l.at = omega (arith, c.size-at.ensures.0) in
     let t : l.at < length ns = search rules in (
       search rules,
       (
         passes_on (WholeAt ns) ns l.at (l.at + (3 + c.size-at.result)) t e l.invariant.1.0,
-        going_on (apartAt ns) ns l.at (l.at + (3 + c.size-at.result)) t e l.invariant.1.1 (sym c.before.before.apart-at.ensures ∙ not-false _ c.before.if1.false),
+        going_on (apart_at ns) ns l.at (l.at + (3 + c.size-at.result)) t e l.invariant.1.1 (sym c.before.before.apart-at.ensures ∙ not-false _ c.before.if1.false),
       ),
     )
 
 returns-2 : tie.Need-returns-2 invariant-loop decreases-loop
-unfolding membersApart
+unfolding members_apart
 returns-2 c =
     let x = c.before.before.before.args in
     let ns = x.numbers.now in
     let l = c.before.loop in
-    going-ends (apartAt ns) ns l.at (search rules) l.invariant.1.1
+    going-ends (apart_at ns) ns l.at (search rules) l.invariant.1.1
 
 pub members-apart-spec : {M : Type 1} → statement M
 members-apart-spec =

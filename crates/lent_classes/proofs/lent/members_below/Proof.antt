@@ -5,14 +5,14 @@ use mathlib.Core.Path.{◌≡◌, refl, sym, ◌∙◌}
 use native.Mathlib.Omega.{arith}
 use borrow.Author.Tests.{not-true, not-false}
 use lib.ListN.{length}
-use Rattle.lent_classes.specs.Lent.{sizeLent, eachFrom, whole, belowAt, membersBelow}
+use Rattle.lent_classes.specs.Lent.{size_lent, each_from, whole, below_at, members_below}
 use Rattle.lent_classes.proofs.LentParts.{WholeAt, Going, going_on, going-stops, going-ends, passes_on, whole-at}
 use borrow.Author.Rules.{rules}
 use Rattle.lent_classes.proofs.lent.members_below.Statement.{statement}
 use Rattle.lent_classes.proofs.lent.members_below.Tie as tie
 
 abbrev invariant-loop : tie.invariant-loop
-invariant-loop numbers m n at₀ at = (n ≡ length numbers) × ((eachFrom (WholeAt numbers) numbers at ≡ true) × Going (belowAt m numbers) numbers at)
+invariant-loop numbers m n at₀ at = (n ≡ length numbers) × ((each_from (WholeAt numbers) numbers at ≡ true) × Going (below_at m numbers) numbers at)
 
 abbrev decreases-loop : tie.decreases-loop
 decreases-loop numbers m n at₀ at = n - at
@@ -28,12 +28,12 @@ below-at-requires c κs =
     whole-at s.args.numbers.now l.at (search rules) l.invariant.1.0
 
 returns : tie.Need-returns invariant-loop decreases-loop
-unfolding membersBelow
+unfolding members_below
 returns c =
     let x = c.before.before.before.before.before.args in
     let ns = x.numbers.now in
     let l = c.before.before.before.loop in
-    going-stops (belowAt x.m ns) ns l.at (search rules) l.invariant.1.1 (sym c.before.below_at.ensures ∙ not-true _ c.if1.true)
+    going-stops (below_at x.m ns) ns l.at (search rules) l.invariant.1.1 (sym c.before.below_at.ensures ∙ not-true _ c.if1.true)
 
 size-at-requires : tie.Need-size-at-requires invariant-loop decreases-loop
 size-at-requires c κs = search rules
@@ -52,22 +52,22 @@ loop-again c =
     let x = c.before.before.before.before.before.before.args in
     let ns = x.numbers.now in
     let l = c.before.before.before.before.loop in
-    let e : l.at + (3 + c.size-at.result) ≡ l.at + 3 + sizeLent ns l.at = omega (arith, c.size-at.ensures.0) in
+    let e : l.at + (3 + c.size-at.result) ≡ l.at + 3 + size_lent ns l.at = omega (arith, c.size-at.ensures.0) in
     let t : l.at < length ns = search rules in (
       search rules,
       (
         passes_on (WholeAt ns) ns l.at (l.at + (3 + c.size-at.result)) t e l.invariant.1.0,
-        going_on (belowAt x.m ns) ns l.at (l.at + (3 + c.size-at.result)) t e l.invariant.1.1 (sym c.before.before.below_at.ensures ∙ not-false _ c.before.if1.false),
+        going_on (below_at x.m ns) ns l.at (l.at + (3 + c.size-at.result)) t e l.invariant.1.1 (sym c.before.before.below_at.ensures ∙ not-false _ c.before.if1.false),
       ),
     )
 
 returns-2 : tie.Need-returns-2 invariant-loop decreases-loop
-unfolding membersBelow
+unfolding members_below
 returns-2 c =
     let x = c.before.before.before.args in
     let ns = x.numbers.now in
     let l = c.before.loop in
-    going-ends (belowAt x.m ns) ns l.at (search rules) l.invariant.1.1
+    going-ends (below_at x.m ns) ns l.at (search rules) l.invariant.1.1
 
 pub members-below-spec : {M : Type 1} → statement M
 members-below-spec =

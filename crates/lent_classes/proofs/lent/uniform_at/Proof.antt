@@ -6,14 +6,14 @@ use borrow.Author.Tests.{not-true, not-false}
 use Rattle.laws.specs.Tests.{each}
 use Rattle.laws.proofs.Each.{each_none, each_more, each-stops, each-ends}
 use Rattle.arena.specs.Layout.{decode as nodes}
-use Rattle.lent_classes.specs.Lent.{sizeLent, uniformLent}
+use Rattle.lent_classes.specs.Lent.{size_lent, uniform_lent}
 use Rattle.lent_classes.proofs.LentParts.{FitsAt}
 use borrow.Author.Rules.{rules}
 use Rattle.lent_classes.proofs.lent.uniform_at.Statement.{statement}
 use Rattle.lent_classes.proofs.lent.uniform_at.Tie as tie
 
 abbrev invariant-loop : tie.invariant-loop
-invariant-loop cells numbers at flavour n k₀ k = (k ≤ n) × ((n ≡ sizeLent numbers at) × (each (FitsAt (nodes cells) numbers at) k ≡ true))
+invariant-loop cells numbers at flavour n k₀ k = (k ≤ n) × ((n ≡ size_lent numbers at) × (each (FitsAt (nodes cells) numbers at) k ≡ true))
 
 abbrev decreases-loop : tie.decreases-loop
 decreases-loop cells numbers at flavour n k₀ k = n - k
@@ -57,11 +57,11 @@ member-fits-requires : tie.Need-member-fits-requires invariant-loop decreases-lo
 member-fits-requires c κs = c.before.before.before.before.before.before.requires.0
 
 returns : tie.Need-returns invariant-loop decreases-loop
-unfolding uniformLent
+unfolding uniform_lent
 returns c =
     let x = c.before.before.before.before.before.before.before.before.args in
     let l = c.before.before.before.before.loop in
-    each-stops (FitsAt (nodes x.cells.now) x.numbers.now x.at) (sizeLent x.numbers.now x.at) l.k (search rules)
+    each-stops (FitsAt (nodes x.cells.now) x.numbers.now x.at) (size_lent x.numbers.now x.at) l.k (search rules)
     (rw (← c.before.before.before.before.before.before.number_at.ensures) (sym c.before.member-fits.ensures ∙ not-true _ c.if1.true))
 
 add-k : tie.Need-overflow-add-k invariant-loop decreases-loop
@@ -82,11 +82,11 @@ loop-again c =
     )
 
 returns-2 : tie.Need-returns-2 invariant-loop decreases-loop
-unfolding uniformLent
+unfolding uniform_lent
 returns-2 c =
     let x = c.before.before.before.before.before.args in
     let l = c.before.loop in
-    each-ends (FitsAt (nodes x.cells.now) x.numbers.now x.at) (sizeLent x.numbers.now x.at) l.k (search rules) (search rules) l.invariant.1.1
+    each-ends (FitsAt (nodes x.cells.now) x.numbers.now x.at) (size_lent x.numbers.now x.at) l.k (search rules) (search rules) l.invariant.1.1
 
 pub uniform-at-spec : {M : Type 1} → statement M
 uniform-at-spec =

@@ -3,7 +3,7 @@ use Prim.Native.Nat.{◌+◌, ◌-◌}
 use mathlib.Core.Path.{◌≡◌, refl, sym, ◌∙◌}
 use borrow.Author.Tests.{not-true, not-false}
 use lib.ListN.{length}
-use Rattle.mappings.specs.Lent.{nextSource, next-after, whole_at, whole}
+use Rattle.mappings.specs.Lent.{next_source, next-after, whole_at, whole}
 use Rattle.mappings.proofs.Walks.{Going, going_on, going-stops, going-ends}
 use Rattle.mappings.proofs.LentSources.{next_place}
 use borrow.Author.Rules.{rules}
@@ -11,7 +11,7 @@ use Rattle.mappings.proofs.lent.is_whole.Statement.{statement}
 use Rattle.mappings.proofs.lent.is_whole.Tie as tie
 
 abbrev invariant-loop : tie.invariant-loop
-invariant-loop numbers n at₀ at = (n ≡ length numbers) × Going (whole_at numbers) (nextSource numbers) (length numbers) (next-after numbers) at
+invariant-loop numbers n at₀ at = (n ≡ length numbers) × Going (whole_at numbers) (next_source numbers) (length numbers) (next-after numbers) at
 
 abbrev decreases-loop : tie.decreases-loop
 decreases-loop numbers n at₀ at = n - at
@@ -28,7 +28,7 @@ unfolding whole
 returns c =
     let ns = c.before.before.before.before.before.args.numbers.now in
     let l = c.before.before.before.loop in
-    going-stops (whole_at ns) (nextSource ns) (length ns) (next-after ns) l.at (search rules) l.invariant.1 (sym c.before.whole-at.ensures ∙ not-true _ c.if1.true)
+    going-stops (whole_at ns) (next_source ns) (length ns) (next-after ns) l.at (search rules) l.invariant.1 (sym c.before.whole-at.ensures ∙ not-true _ c.if1.true)
 
 count-at-requires : tie.Need-count-at-requires invariant-loop decreases-loop
 count-at-requires c κs = search rules
@@ -47,7 +47,7 @@ loop-again c =
     let ns = c.before.before.before.before.before.before.args.numbers.now in
     let l = c.before.before.before.before.loop in (
       search rules,
-      going_on (whole_at ns) (nextSource ns) (length ns) (next-after ns) l.at (l.at + (2 + c.count_at.result)) (search rules)
+      going_on (whole_at ns) (next_source ns) (length ns) (next-after ns) l.at (l.at + (2 + c.count_at.result)) (search rules)
           (next_place ns l.at c.count_at.result c.count_at.ensures.0) l.invariant.1 (sym c.before.before.whole-at.ensures ∙ not-false _ c.before.if1.false),
     )
 
@@ -56,7 +56,7 @@ unfolding whole
 returns-2 c =
     let ns = c.before.before.before.args.numbers.now in
     let l = c.before.loop in
-    going-ends (whole_at ns) (nextSource ns) (length ns) (next-after ns) l.at (search rules) l.invariant.1
+    going-ends (whole_at ns) (next_source ns) (length ns) (next-after ns) l.at (search rules) l.invariant.1
 
 pub is-whole-spec : {M : Type 1} → statement M
 is-whole-spec =

@@ -2,7 +2,7 @@
 use mathlib.Core.Path.{sym, ◌∙◌}
 use borrow.Author.Tests.{not-true, not-false, leb-true}
 use lib.ListN.{length}
-use Rattle.mappings.specs.Lent.{mappingLent}
+use Rattle.mappings.specs.Lent.{mapping_lent}
 use Rattle.mappings.proofs.ProjectNumbers.{lawful-cut, lawful-many, lawful-apart}
 use borrow.Author.Rules.{rules}
 use Rattle.mappings.proofs.lent.lawful_mapping.Statement.{statement}
@@ -24,7 +24,7 @@ returns-2 c =
 
 read-mapping-requires : tie.Need-read-mapping-requires
 read-mapping-requires c κs =
-    (sym c.before.before.before.is_whole.ensures ∙ not-false _ c.before.before.if1.false, leb-true (length (mappingLent c.before.before.before.before.before.args.numbers.now)) 64 (sym c.before.sources-few.ensures ∙ not-false _ c.if2.false))
+    (sym c.before.before.before.is_whole.ensures ∙ not-false _ c.before.before.if1.false, leb-true (length (mapping_lent c.before.before.before.before.before.args.numbers.now)) 64 (sym c.before.sources-few.ensures ∙ not-false _ c.if2.false))
 
 sources-apart-requires : tie.Need-sources-apart-requires
 sources-apart-requires c κs =

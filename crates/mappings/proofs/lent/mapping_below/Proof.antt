@@ -7,7 +7,7 @@ use borrow.Author.Tests.{not-true, not-false}
 use Rattle.laws.specs.Tests.{each}
 use Rattle.laws.proofs.Each.{each_none, each_more, each-stops, each-ends}
 use Rattle.mappings.proofs.PlaceReads.{read-size}
-use Rattle.mappings.proofs.StructTests.{SourceBelow, below-read, mapping-below-of}
+use Rattle.mappings.proofs.StructTests.{SourceBelow, below-read, mapping_below-of}
 use borrow.Author.Rules.{rules}
 use Rattle.mappings.proofs.lent.mapping_below.Statement.{statement}
 use Rattle.mappings.proofs.lent.mapping_below.Tie as tie
@@ -38,7 +38,7 @@ returns : tie.Need-returns invariant-loop decreases-loop
 returns c =
     let n = c.before.before.before.before.before.args.n in
     let m = c.before.before.before.before.before.args.t1 in
-    each-stops (SourceBelow n m) m.count c.before.before.before.before.loop.i (search rules) (below-read m n c.before.before.before.before.loop.i false (sym c.before.source-below.ensures ∙ not-true _ c.if1.true)) ∙ sym (mapping-below-of m n)
+    each-stops (SourceBelow n m) m.count c.before.before.before.before.loop.i (search rules) (below-read m n c.before.before.before.before.loop.i false (sym c.before.source-below.ensures ∙ not-true _ c.if1.true)) ∙ sym (mapping_below-of m n)
 
 add-i : tie.Need-overflow-add-i invariant-loop decreases-loop
 add-i c = search rules
@@ -56,7 +56,7 @@ returns-2 : tie.Need-returns-2 invariant-loop decreases-loop
 returns-2 c =
     let n = c.before.before.args.n in
     let m = c.before.before.args.t1 in
-    each-ends (SourceBelow n m) m.count c.before.loop.i (search rules) (search rules) c.before.loop.invariant.1.1 ∙ sym (mapping-below-of m n)
+    each-ends (SourceBelow n m) m.count c.before.loop.i (search rules) (search rules) c.before.loop.invariant.1.1 ∙ sym (mapping_below-of m n)
 
 pub mapping-below-spec : {M : Type 1} → statement M
 mapping-below-spec =

@@ -3,7 +3,7 @@ use mathlib.Core.Bool.{true, false}
 use mathlib.Core.Path.{sym, ◌∙◌}
 use borrow.Author.Tests.{not-true, not-false}
 use Rattle.mappings.proofs.MappingChecked.{sizes-few}
-use Rattle.mappings.proofs.ProjectNumbers.{lawful-whole, project-empty, project-set, project-unlawful, project-group, project-below}
+use Rattle.mappings.proofs.ProjectNumbers.{lawful-whole, project-empty, project-set, project_unlawful, project-group, project-below}
 use borrow.Author.Rules.{rules}
 use Rattle.mappings.proofs.lent.project_number.Statement.{statement}
 use Rattle.mappings.proofs.lent.project_number.Tie as tie
@@ -30,7 +30,7 @@ lawful-mapping-requires c κs = search rules
 returns-3 : tie.Need-returns-3
 returns-3 c =
     let x = c.before.before.before.before.before.before.before.args in
-    project-unlawful x.cells.now x.g x.numbers.now (sym c.before.before.before.before.before.targets-given.ensures ∙ not-false _ c.before.before.before.before.if1.false) c.before.before.before.check-group.result c.before.before.before.check-group.ensures c.before.before.if2.false
+    project_unlawful x.cells.now x.g x.numbers.now (sym c.before.before.before.before.before.targets-given.ensures ∙ not-false _ c.before.before.before.before.if1.false) c.before.before.before.check-group.result c.before.before.before.check-group.ensures c.before.before.if2.false
     (sym c.before.lawful-mapping.ensures ∙ not-true _ c.if3.true)
 
 returns-4 : tie.Need-returns-4

@@ -2,7 +2,7 @@
 use Prim.Native.Nat.{◌-◌, ◌≤◌}
 use mathlib.Core.Path.{◌≡◌}
 use native.Mathlib.Omega.{arith}
-use Rattle.mappings.specs.Lent.{targetCount}
+use Rattle.mappings.specs.Lent.{target_count}
 use Rattle.mappings.proofs.MappingBuild.{Written, written-begins, written_on, written-ends}
 use Rattle.mappings.proofs.MappingChecked.{whole-ends, whole-few}
 use borrow.Author.Rules.{rules}
@@ -10,7 +10,7 @@ use Rattle.mappings.proofs.lent.source_at.Statement.{statement}
 use Rattle.mappings.proofs.lent.source_at.Tie as tie
 
 abbrev invariant-loop : tie.invariant-loop
-invariant-loop numbers at size targets₀ k₀ targets k = (k ≤ size) × ((size ≡ targetCount numbers at) × Written numbers at targets k)
+invariant-loop numbers at size targets₀ k₀ targets k = (k ≤ size) × ((size ≡ target_count numbers at) × Written numbers at targets k)
 
 abbrev decreases-loop : tie.decreases-loop
 decreases-loop numbers at size targets₀ k₀ targets k = size - k

@@ -2,7 +2,7 @@
 use mathlib.Core.Path.{sym, ◌∙◌}
 use Rattle.classes.specs.Layout.{decode}
 use Rattle.conditions.proofs.ConstantLaws.{place_at, place-nowhere}
-use Rattle.merging.specs.Merging.{lastMeeting}
+use Rattle.merging.specs.Merging.{last_meeting}
 use Rattle.merging.proofs.Bridges.{meets-inside, step-passed, step-meets}
 use borrow.Author.Rules.{rules}
 use Rattle.merging.proofs.bridging.bridge_step.Statement.{statement}
@@ -18,7 +18,7 @@ extend-requires : tie.Need-extend-requires
 extend-requires c κs =
     let s = c.before.before.before.before in
     let j = c.before.j.given in
-    let p = place_at (lastMeeting (decode s.args.g) s.args.i) j.0.0 (sym c.before.before.before.last-meeting.ensures ∙ j.1) in
+    let p = place_at (last_meeting (decode s.args.g) s.args.i) j.0.0 (sym c.before.before.before.last-meeting.ensures ∙ j.1) in
     (s.requires.0, meets-inside s.args.g s.requires.0 s.args.i s.requires.1 j.0.0 p)
 
 enum_told : tie.Need-enum-told
@@ -31,14 +31,14 @@ returns : tie.Need-returns
 returns c =
     let s = c.before.before.before.before.before in
     let j = c.before.before.j.given in
-    let p = place_at (lastMeeting (decode s.args.g) s.args.i) j.0.0 (sym c.before.before.before.before.last-meeting.ensures ∙ j.1) in
+    let p = place_at (last_meeting (decode s.args.g) s.args.i) j.0.0 (sym c.before.before.before.before.last-meeting.ensures ∙ j.1) in
     step-meets s.args.g s.requires.0 s.args.i s.requires.1 j.0.0 p c.extend.result c.extend.ensures
 
 returns-2 : tie.Need-returns-2
 returns-2 c =
     let s = c.before.before.before in
     step-passed s.args.g s.requires.0 s.args.i s.requires.1
-    (place-nowhere (lastMeeting (decode s.args.g) s.args.i) (sym c.before.before.last-meeting.ensures ∙ c.enum_told.given.1))
+    (place-nowhere (last_meeting (decode s.args.g) s.args.i) (sym c.before.before.last-meeting.ensures ∙ c.enum_told.given.1))
 
 pub bridge-step-spec : {M : Type 1} → statement M
 bridge-step-spec =

@@ -3,20 +3,20 @@ use Prim.Native.Nat.{◌≤◌}
 use mathlib.Core.Path.{◌≡◌}
 use native.Mathlib.Omega.{arith}
 use Rattle.classes.specs.Layout.{decode}
-use Rattle.merging.specs.Merging.{lastMeeting, meetingBelow}
-use Rattle.merging.proofs.Meetings.{search-begins, search-hit, search-on, search-ends}
+use Rattle.merging.specs.Merging.{last_meeting, meeting_below}
+use Rattle.merging.proofs.Meetings.{search_begins, search_hit, search_on, search_ends}
 use borrow.Author.Rules.{rules}
 use Rattle.merging.proofs.bridging.last_meeting.Statement.{statement}
 use Rattle.merging.proofs.bridging.last_meeting.Tie as tie
 
 abbrev invariant-loop : tie.invariant-loop
-invariant-loop g i j₀ j = (j ≤ g.count) × (lastMeeting (decode g) i ≡ meetingBelow (decode g) i j)
+invariant-loop g i j₀ j = (j ≤ g.count) × (last_meeting (decode g) i ≡ meeting_below (decode g) i j)
 
 abbrev decreases-loop : tie.decreases-loop
 decreases-loop g i j₀ j = j
 
 loop-holds : tie.Need-loop-init invariant-loop decreases-loop
-loop-holds c = (omega arith, search-begins c.args.g c.args.i)
+loop-holds c = (omega arith, search_begins c.args.g c.args.i)
 
 add-loop : tie.Need-overflow-add-loop invariant-loop decreases-loop
 add-loop c = search rules
@@ -31,7 +31,7 @@ returns : tie.Need-returns invariant-loop decreases-loop
 returns c =
     let s = c.before.before.before.before in
     let l = c.before.before.before.loop in
-    search-hit s.args.g s.args.i l.j c.before.contains-any.result c.before.before.loop-test.true c.before.contains-any.ensures c.if1.true l.invariant.1
+    search_hit s.args.g s.args.i l.j c.before.contains-any.result c.before.before.loop-test.true c.before.contains-any.ensures c.if1.true l.invariant.1
 
 loop-less : tie.Need-loop-smaller invariant-loop decreases-loop
 loop-less c = omega (arith, c.before.before.loop-test.true)
@@ -40,10 +40,10 @@ loop-again : tie.Need-loop-preserved invariant-loop decreases-loop
 loop-again c =
     let s = c.before.before.before.before in
     let l = c.before.before.before.loop in
-    (omega (arith, l.invariant.0), search-on s.args.g s.args.i l.j c.before.contains-any.result c.before.before.loop-test.true c.before.contains-any.ensures c.if1.false l.invariant.1)
+    (omega (arith, l.invariant.0), search_on s.args.g s.args.i l.j c.before.contains-any.result c.before.before.loop-test.true c.before.contains-any.ensures c.if1.false l.invariant.1)
 
 returns-2 : tie.Need-returns-2 invariant-loop decreases-loop
-returns-2 c = search-ends c.before.before.args.g c.before.before.args.i c.before.loop.j c.loop-test.false c.before.loop.invariant.1
+returns-2 c = search_ends c.before.before.args.g c.before.before.args.i c.before.loop.j c.loop-test.false c.before.loop.invariant.1
 
 pub last-meeting-spec : {M : Type 1} → statement M
 last-meeting-spec =

@@ -9,14 +9,14 @@ use Rattle.classes.specs.Group.{class_at}
 use Rattle.classes.specs.Layout.{decode}
 use Rattle.classes.proofs.Codec.{class-inside}
 use Rattle.classes.proofs.Rebuilding.{start-inside}
-use Rattle.merging.specs.Extending.{anyAmong}
+use Rattle.merging.specs.Extending.{any_among}
 use Rattle.merging.proofs.Meetings.{Part, any_none, any-more, any-hit, any-ends, part-inside, part_meets}
 use borrow.Author.Rules.{rules}
 use Rattle.merging.proofs.extending.contains_any.Statement.{statement}
 use Rattle.merging.proofs.extending.contains_any.Tie as tie
 
 abbrev invariant-loop : tie.invariant-loop
-invariant-loop i j g start n k₀ k = (k ≤ n) × (anyAmong (table (Part g.members start) k) (class_at (decode g) j).members ≡ false)
+invariant-loop i j g start n k₀ k = (k ≤ n) × (any_among (table (Part g.members start) k) (class_at (decode g) j).members ≡ false)
 
 abbrev decreases-loop : tie.decreases-loop
 decreases-loop i j g start n k₀ k = n - k

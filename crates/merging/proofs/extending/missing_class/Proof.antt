@@ -6,14 +6,14 @@ use native.Mathlib.Omega.{arith}
 use Rattle.classes.specs.Group.{class_at}
 use Rattle.classes.specs.Layout.{encode, decode}
 use Rattle.classes.proofs.Codec.{class-inside}
-use Rattle.merging.specs.Inner.{missingSome}
+use Rattle.merging.specs.Inner.{missing_some}
 use Rattle.merging.proofs.Missing.{missing-begins, missing-ends}
 use borrow.Author.Rules.{rules}
 use Rattle.merging.proofs.extending.missing_class.Statement.{statement}
 use Rattle.merging.proofs.extending.missing_class.Tie as tie
 
 abbrev invariant-loop : tie.invariant-loop
-invariant-loop i j g n out₀ k₀ out k = (k ≤ n) × (out ≡ encode 256 (missingSome k (class_at (decode g) i) (class_at (decode g) j) ∷ []))
+invariant-loop i j g n out₀ k₀ out k = (k ≤ n) × (out ≡ encode 256 (missing_some k (class_at (decode g) i) (class_at (decode g) j) ∷ []))
 
 abbrev decreases-loop : tie.decreases-loop
 decreases-loop i j g n out₀ k₀ out k = n - k

@@ -1,5 +1,5 @@
 -- `merging::extending::one_empty` meets its contract.
-use Rattle.classes.specs.Layout.{constantFrom}
+use Rattle.classes.specs.Layout.{constant_from}
 use Rattle.merging.proofs.Missing.{empty-built}
 use borrow.Author.Rules.{rules}
 use Rattle.merging.proofs.extending.one_empty.Statement.{statement}
@@ -20,7 +20,7 @@ element-write-g-2 c = search rules
 returns : tie.Need-returns
 returns c =
     let m = c.before.before.args.mark in
-    empty-built c.empty.result c.before.mark-from.result (constantFrom m.flavour m.value) c.empty.ensures c.before.mark-from.ensures
+    empty-built c.empty.result c.before.mark-from.result (constant_from m.flavour m.value) c.empty.ensures c.before.mark-from.ensures
 
 pub one-empty-spec : {M : Type 1} → statement M
 one-empty-spec =

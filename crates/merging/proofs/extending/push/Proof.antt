@@ -1,7 +1,7 @@
 -- `merging::extending::push` meets its contract.
 use Prim.Native.Nat.{◌-◌}
 use native.Mathlib.Omega.{arith}
-use Rattle.arena.specs.Node.{nodeAt}
+use Rattle.arena.specs.Node.{node_at}
 use Rattle.arena.specs.Layout.{decode as nodes}
 use Rattle.classes.specs.Class.{carried, single}
 use Rattle.merging.proofs.Missing.{member-asks, member_is, push-held, push-new}
@@ -35,7 +35,7 @@ unfolding single
 merge-last-requires c κs =
     let s = c.before.before.before.before in
     let o = c.single-group in
-    member-asks s.args.out s.requires.0.0 s.requires.0.1.0 s.requires.0.1.1 o.result s.args.e (carried (nodeAt (nodes s.args.cells.now) s.args.e)) o.ensures
+    member-asks s.args.out s.requires.0.0 s.requires.0.1.0 s.requires.0.1.1 o.result s.args.e (carried (node_at (nodes s.args.cells.now) s.args.e)) o.ensures
 
 returns-2 : tie.Need-returns-2
 unfolding single
@@ -44,7 +44,7 @@ returns-2 c =
     let h = c.before.before.before.class-holds in
     let o = c.before.single-group in
     push-new (nodes s.args.cells.now) s.args.out (s.args.out.count - 1) s.args.e h.result h.ensures c.before.before.if1.false c.merge-last.result
-    (member_is s.args.out s.requires.0.0 s.requires.0.1.0 s.requires.0.1.1 o.result s.args.e (carried (nodeAt (nodes s.args.cells.now) s.args.e)) o.ensures c.merge-last.result c.merge-last.ensures)
+    (member_is s.args.out s.requires.0.0 s.requires.0.1.0 s.requires.0.1.1 o.result s.args.e (carried (node_at (nodes s.args.cells.now) s.args.e)) o.ensures c.merge-last.result c.merge-last.ensures)
 
 pub push_spec : {M : Type 1} → statement M
 push_spec =

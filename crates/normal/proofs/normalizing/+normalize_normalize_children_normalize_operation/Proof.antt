@@ -5,12 +5,12 @@ use mathlib.Core.Path.{◌≡◌, sym, ap, subst, ◌∙◌}
 use native.Mathlib.Omega.{arith}
 use borrow.Author.Tests.{not-true, not-false}
 use lib.ListN.{length, get_or}
-use Rattle.arena.specs.Node.{nodeAt, childNumbers}
-use Rattle.arena.specs.Layout.{childrenOf, decode}
+use Rattle.arena.specs.Node.{node_at, child_numbers}
+use Rattle.arena.specs.Layout.{children_of, decode}
 use Rattle.arena.specs.Inner.{WalkedAll}
 use Rattle.arena.proofs.Walking.{PlacedRow, Through, children-count, placed_row, through-ends}
 use Rattle.normal.specs.Inner.{rewriting}
-use Rattle.normal.proofs.Steps.{ready-known, memo-hit, answer-small, answer-noted, leaf_walked, ready-all, children-eight, loop-begins, loop-lower, loop-ready, loop-more, loop-fails, children-full, operation-placeable, operation-full, operation-walked}
+use Rattle.normal.proofs.Steps.{ready-known, memo-hit, answer-small, answer-noted, leaf_walked, ready-all, children_eight, loop_begins, loop_lower, loop_ready, loop_more, loop_fails, children-full, operation-placeable, operation-full, operation-walked}
 use borrow.Fn.Kinds.{In}
 use borrow.Fn.PlainCycle.{Measures, is, falls, and}
 use Rattle.normal.proofs.normalizing.normalize.Reads as normalize
@@ -143,7 +143,7 @@ normalize-returns :
 normalize-returns t c =
     let b = c.before.before.before.before.before in
     let v = c.before.before.before.before.wide.ensures in
-    let n : c.before.child-count.result ≡ length (childNumbers (nodeAt (decode b.args.cells.now) b.args.expr)) = rw v at c.before.child-count.ensures in
+    let n : c.before.child-count.result ≡ length (child_numbers (node_at (decode b.args.cells.now) b.args.expr)) = rw v at c.before.child-count.ensures in
     rw c.before.before.before.replacement.ensures (leaf_walked b.args.old b.args.firsts.now b.args.cells.now b.args.memo.now b.args.expr b.requires.1 (sym n ∙ c.if1.true))
 
 normalize-mul-entry :
@@ -170,7 +170,7 @@ normalize-normalize-operation-requires :
 normalize-normalize-operation-requires t c κs =
     let b = c.before.before.before.before.before.before.before.before.before in
     let v = c.before.before.before.before.before.before.before.before.wide.ensures in
-    let n : c.before.before.before.before.before.child-count.result ≡ length (childNumbers (nodeAt (decode b.args.cells.now) b.args.expr)) = rw v at c.before.before.before.before.before.child-count.ensures in
+    let n : c.before.before.before.before.before.child-count.result ≡ length (child_numbers (node_at (decode b.args.cells.now) b.args.expr)) = rw v at c.before.before.before.before.before.child-count.ensures in
     (omega (arith, b.requires.0), (b.requires.1, omega (arith, n, c.before.before.before.before.if1.false)))
 
 normalize-note-requires :
@@ -208,39 +208,39 @@ normalize-children-loop-holds :
     (t : ℕ) → normalize-children-lts.Need-loop-init (normalize-children-callees t) (normalize-children-at t) normalize-children.Post normalize-children-Inv-loop normalize-children-μ-loop
 normalize-children-loop-holds t c =
     let b = c.before.before in
-    (search rules, loop-begins b.args.old b.args.firsts.now b.args.cells.now b.args.memo.now b.args.row.now b.args.expr b.requires.1)
+    (search rules, loop_begins b.args.old b.args.firsts.now b.args.cells.now b.args.memo.now b.args.row.now b.args.expr b.requires.1)
 
 normalize-children-add-child :
     (t : ℕ) → normalize-children-lts.Need-overflow-add-child (normalize-children-callees t) (normalize-children-at t) normalize-children.Post normalize-children-Inv-loop normalize-children-μ-loop
 normalize-children-add-child t c =
     let b = c.before.before.before.before in
     let o = c.before.loop in
-    let l : o.k < length (childrenOf b.args.row.now) = omega (arith, children-count b.args.row.now, c.before.before.wide.ensures) in
-    omega (arith, l, children-eight b.args.old b.args.firsts.now b.args.cells.now b.args.memo.now b.args.row.now b.args.expr b.requires.1)
+    let l : o.k < length (children_of b.args.row.now) = omega (arith, children-count b.args.row.now, c.before.before.wide.ensures) in
+    omega (arith, l, children_eight b.args.old b.args.firsts.now b.args.cells.now b.args.memo.now b.args.row.now b.args.expr b.requires.1)
 
 normalize-children-mul-child :
     (t : ℕ) → normalize-children-lts.Need-overflow-mul-child (normalize-children-callees t) (normalize-children-at t) normalize-children.Post normalize-children-Inv-loop normalize-children-μ-loop
 normalize-children-mul-child t c =
     let b = c.before.before.before.before in
     let o = c.before.loop in
-    let l : o.k < length (childrenOf b.args.row.now) = omega (arith, children-count b.args.row.now, c.before.before.wide.ensures) in
-    omega (arith, l, children-eight b.args.old b.args.firsts.now b.args.cells.now b.args.memo.now b.args.row.now b.args.expr b.requires.1)
+    let l : o.k < length (children_of b.args.row.now) = omega (arith, children-count b.args.row.now, c.before.before.wide.ensures) in
+    omega (arith, l, children_eight b.args.old b.args.firsts.now b.args.cells.now b.args.memo.now b.args.row.now b.args.expr b.requires.1)
 
 normalize-children-element-copy-out-child :
     (t : ℕ) → normalize-children-lts.Need-element-copy-out-child (normalize-children-callees t) (normalize-children-at t) normalize-children.Post normalize-children-Inv-loop normalize-children-μ-loop
 normalize-children-element-copy-out-child t c =
     let b = c.before.before.before.before in
     let o = c.before.loop in
-    let l : o.k < length (childrenOf b.args.row.now) = omega (arith, children-count b.args.row.now, c.before.before.wide.ensures) in
-    omega (arith, l, children-eight b.args.old b.args.firsts.now b.args.cells.now b.args.memo.now b.args.row.now b.args.expr b.requires.1)
+    let l : o.k < length (children_of b.args.row.now) = omega (arith, children-count b.args.row.now, c.before.before.wide.ensures) in
+    omega (arith, l, children_eight b.args.old b.args.firsts.now b.args.cells.now b.args.memo.now b.args.row.now b.args.expr b.requires.1)
 
 normalize-children-normalize-requires :
     (t : ℕ) → normalize-children-lts.Need-normalize-requires (normalize-children-callees t) (normalize-children-at t) normalize-children.Post normalize-children-Inv-loop normalize-children-μ-loop
 normalize-children-normalize-requires t c κs =
     let b = c.before.before.before.before.before.before.before in
     let o = c.before.before.before.before.loop in
-    let l : o.k < length (childrenOf b.args.row.now) = omega (arith, children-count b.args.row.now, c.before.before.before.before.before.wide.ensures) in
-    (omega (arith, loop-lower b.args.old b.args.firsts.now b.args.cells.now b.args.memo.now b.args.row.now b.args.expr b.requires.1 o.cells o.memo o.row o.k o.invariant.1 l, b.requires.0), loop-ready b.args.old b.args.firsts.now b.args.cells.now b.args.memo.now b.args.row.now b.args.expr b.requires.1 o.cells o.memo o.row o.k o.invariant.1 l)
+    let l : o.k < length (children_of b.args.row.now) = omega (arith, children-count b.args.row.now, c.before.before.before.before.before.wide.ensures) in
+    (omega (arith, loop_lower b.args.old b.args.firsts.now b.args.cells.now b.args.memo.now b.args.row.now b.args.expr b.requires.1 o.cells o.memo o.row o.k o.invariant.1 l, b.requires.0), loop_ready b.args.old b.args.firsts.now b.args.cells.now b.args.memo.now b.args.row.now b.args.expr b.requires.1 o.cells o.memo o.row o.k o.invariant.1 l)
 
 normalize-children-enum-known-i :
     (t : ℕ) → normalize-children-lts.Need-enum-known-i (normalize-children-callees t) (normalize-children-at t) normalize-children.Post normalize-children-Inv-loop normalize-children-μ-loop
@@ -255,33 +255,33 @@ normalize-children-returns :
 normalize-children-returns t c =
     let b = c.before.before.before.before.before.before.before.before.before.before in
     let o = c.before.before.before.before.before.before.before.loop in
-    let l : o.k < length (childrenOf b.args.row.now) = omega (arith, children-count b.args.row.now, c.before.before.before.before.before.before.before.before.wide.ensures) in
+    let l : o.k < length (children_of b.args.row.now) = omega (arith, children-count b.args.row.now, c.before.before.before.before.before.before.before.before.wide.ensures) in
     let x = c.before.before.normalize in
-    loop-fails b.args.old b.args.firsts.now b.args.cells.now b.args.memo.now b.args.row.now b.args.expr b.requires.1 o.cells o.memo o.row o.k o.invariant.1 l x.new.0 x.new.1.1.0 x.result x.ensures c.enum_told.given.0.0 c.enum_told.given.1
+    loop_fails b.args.old b.args.firsts.now b.args.cells.now b.args.memo.now b.args.row.now b.args.expr b.requires.1 o.cells o.memo o.row o.k o.invariant.1 l x.new.0 x.new.1.1.0 x.result x.ensures c.enum_told.given.0.0 c.enum_told.given.1
 
 normalize-children-add-row :
     (t : ℕ) → normalize-children-lts.Need-overflow-add-row (normalize-children-callees t) (normalize-children-at t) normalize-children.Post normalize-children-Inv-loop normalize-children-μ-loop
 normalize-children-add-row t c =
     let b = c.before.before.before.before.before.before.before.before.before.before.before in
     let o = c.before.before.before.before.before.before.before.before.loop in
-    let l : o.k < length (childrenOf b.args.row.now) = omega (arith, children-count b.args.row.now, c.before.before.before.before.before.before.before.before.before.wide.ensures) in
-    omega (arith, l, children-eight b.args.old b.args.firsts.now b.args.cells.now b.args.memo.now b.args.row.now b.args.expr b.requires.1)
+    let l : o.k < length (children_of b.args.row.now) = omega (arith, children-count b.args.row.now, c.before.before.before.before.before.before.before.before.before.wide.ensures) in
+    omega (arith, l, children_eight b.args.old b.args.firsts.now b.args.cells.now b.args.memo.now b.args.row.now b.args.expr b.requires.1)
 
 normalize-children-mul-row :
     (t : ℕ) → normalize-children-lts.Need-overflow-mul-row (normalize-children-callees t) (normalize-children-at t) normalize-children.Post normalize-children-Inv-loop normalize-children-μ-loop
 normalize-children-mul-row t c =
     let b = c.before.before.before.before.before.before.before.before.before.before.before in
     let o = c.before.before.before.before.before.before.before.before.loop in
-    let l : o.k < length (childrenOf b.args.row.now) = omega (arith, children-count b.args.row.now, c.before.before.before.before.before.before.before.before.before.wide.ensures) in
-    omega (arith, l, children-eight b.args.old b.args.firsts.now b.args.cells.now b.args.memo.now b.args.row.now b.args.expr b.requires.1)
+    let l : o.k < length (children_of b.args.row.now) = omega (arith, children-count b.args.row.now, c.before.before.before.before.before.before.before.before.before.wide.ensures) in
+    omega (arith, l, children_eight b.args.old b.args.firsts.now b.args.cells.now b.args.memo.now b.args.row.now b.args.expr b.requires.1)
 
 normalize-children-element-write-row :
     (t : ℕ) → normalize-children-lts.Need-element-write-row (normalize-children-callees t) (normalize-children-at t) normalize-children.Post normalize-children-Inv-loop normalize-children-μ-loop
 normalize-children-element-write-row t c =
     let b = c.before.before.before.before.before.before.before.before.before.before.before in
     let o = c.before.before.before.before.before.before.before.before.loop in
-    let l : o.k < length (childrenOf b.args.row.now) = omega (arith, children-count b.args.row.now, c.before.before.before.before.before.before.before.before.before.wide.ensures) in
-    omega (arith, l, children-eight b.args.old b.args.firsts.now b.args.cells.now b.args.memo.now b.args.row.now b.args.expr b.requires.1)
+    let l : o.k < length (children_of b.args.row.now) = omega (arith, children-count b.args.row.now, c.before.before.before.before.before.before.before.before.before.wide.ensures) in
+    omega (arith, l, children_eight b.args.old b.args.firsts.now b.args.cells.now b.args.memo.now b.args.row.now b.args.expr b.requires.1)
 
 normalize-children-add-k :
     (t : ℕ) → normalize-children-lts.Need-overflow-add-k (normalize-children-callees t) (normalize-children-at t) normalize-children.Post normalize-children-Inv-loop normalize-children-μ-loop
@@ -296,16 +296,16 @@ normalize-children-loop-again :
 normalize-children-loop-again t c =
     let b = c.before.before.before.before.before.before.before.before.before.before.before in
     let o = c.before.before.before.before.before.before.before.before.loop in
-    let l : o.k < length (childrenOf b.args.row.now) = omega (arith, children-count b.args.row.now, c.before.before.before.before.before.before.before.before.before.wide.ensures) in
+    let l : o.k < length (children_of b.args.row.now) = omega (arith, children-count b.args.row.now, c.before.before.before.before.before.before.before.before.before.wide.ensures) in
     let x = c.before.before.before.normalize in
-    (search rules, loop-more b.args.old b.args.firsts.now b.args.cells.now b.args.memo.now b.args.row.now b.args.expr b.requires.1 o.cells o.memo o.row o.k o.invariant.1 l x.new.0 x.new.1.1.0 x.result x.ensures c.before.i.given.0.0 c.before.i.given.1)
+    (search rules, loop_more b.args.old b.args.firsts.now b.args.cells.now b.args.memo.now b.args.row.now b.args.expr b.requires.1 o.cells o.memo o.row o.k o.invariant.1 l x.new.0 x.new.1.1.0 x.result x.ensures c.before.i.given.0.0 c.before.i.given.1)
 
 normalize-children-returns-2 :
     (t : ℕ) → normalize-children-lts.Need-returns-2 (normalize-children-callees t) (normalize-children-at t) normalize-children.Post normalize-children-Inv-loop normalize-children-μ-loop
 normalize-children-returns-2 t c =
     let b = c.before.before.before.before in
     let o = c.before.loop in
-    let e : length (childrenOf b.args.row.now) ≡ o.k = omega (arith, children-count b.args.row.now, c.before.before.wide.ensures) in
+    let e : length (children_of b.args.row.now) ≡ o.k = omega (arith, children-count b.args.row.now, c.before.before.wide.ensures) in
     through-ends (rewriting b.args.old b.args.firsts.now b.args.cells.now) b.args.cells.now b.args.row.now o.cells o.memo o.row o.k o.invariant.1 e
 
 normalize-operation-wide-requires :

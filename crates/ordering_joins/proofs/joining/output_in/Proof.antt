@@ -7,7 +7,7 @@ use Rattle.ordering_joins.specs.Inner.{Collecting}
 use Rattle.orderings.specs.declared.Ordering.{Ordering}
 use Rattle.orderings.proofs.Codec.{count-few, place-held}
 use Rattle.orderings.proofs.Extending.{held-short}
-use Rattle.ordering_joins.proofs.Collecting.{collecting-begins, collecting-on, collecting-stops, collecting-ends}
+use Rattle.ordering_joins.proofs.Collecting.{collecting_begins, collecting_on, collecting_stops, collecting_ends}
 use Rattle.ordering_joins.proofs.joining.output_in.Statement.{statement}
 use Rattle.ordering_joins.proofs.joining.output_in.Tie as tie
 use Rattle.ordering_joins.proofs.joining.output_in.Reads as reads
@@ -26,7 +26,7 @@ nothing-requires : tie.Need-nothing-requires invariant-loop decreases-loop
 nothing-requires c κs = search rules
 
 loop-holds : tie.Need-loop-init invariant-loop decreases-loop
-loop-holds c = (search rules, subst (λ (y : Ordering). Collecting c.before.args.t1 0 y) (sym c.nothing.ensures) (collecting-begins c.before.args.t1 c.before.requires))
+loop-holds c = (search rules, subst (λ (y : Ordering). Collecting c.before.args.t1 0 y) (sym c.nothing.ensures) (collecting_begins c.before.args.t1 c.before.requires))
 
 mul-extend : tie.Need-overflow-mul-extend invariant-loop decreases-loop
 mul-extend c = let b = count-few c.before.before.before.args.t1 c.before.before.before.requires in search rules
@@ -48,7 +48,7 @@ returns c =
     let s = c.before.before.before.before.before.before.before.before in
     let l = c.before.before.before.before.before.before.loop in
     let e = c.before.before.before.extend in
-    c.no_output.ensures ∙ collecting-stops s.args.t1 s.requires l.i l.out l.invariant.1 e.result (search rules) e.ensures (not-true e.result.fits c.before.if1.true)
+    c.no_output.ensures ∙ collecting_stops s.args.t1 s.requires l.i l.out l.invariant.1 e.result (search rules) e.ensures (not-true e.result.fits c.before.if1.true)
 
 add-i : tie.Need-overflow-add-i invariant-loop decreases-loop
 add-i c = let b = count-few c.before.before.before.before.before.before.before.before.args.t1 c.before.before.before.before.before.before.before.before.requires in search rules
@@ -61,13 +61,13 @@ loop-again c =
     let s = c.before.before.before.before.before.before.before.before in
     let l = c.before.before.before.before.before.before.loop in
     let e = c.before.before.before.extend in
-    (search rules, collecting-on s.args.t1 s.requires l.i l.out l.invariant.1 e.result (search rules) e.ensures (not-false e.result.fits c.before.if1.false))
+    (search rules, collecting_on s.args.t1 s.requires l.i l.out l.invariant.1 e.result (search rules) e.ensures (not-false e.result.fits c.before.if1.false))
 
 returns-2 : tie.Need-returns-2 invariant-loop decreases-loop
 returns-2 c =
     let s = c.before.before.before in
     let l = c.before.loop in
-    collecting-ends s.args.t1 s.requires l.i l.out l.invariant.1 (search rules)
+    collecting_ends s.args.t1 s.requires l.i l.out l.invariant.1 (search rules)
 
 pub output-in-spec : {M : Type 1} → statement M
 output-in-spec =

@@ -7,13 +7,13 @@ use borrow.Author.Tests.{not-true, not-false}
 use lib.ListN.{drop}
 use Rattle.orderings.specs.Layout.{keys_of}
 use Rattle.orderings.proofs.Codec.{size_few}
-use Rattle.ordering_joins.specs.Inner.{keysTabled}
-use Rattle.ordering_joins.proofs.KeyTests.{key-low, move-stops, move-on, move-ends}
+use Rattle.ordering_joins.specs.Inner.{keys_tabled}
+use Rattle.ordering_joins.proofs.KeyTests.{key-low, move_stops, move_on, move_ends}
 use Rattle.ordering_joins.proofs.offsetting.keys_move.Statement.{statement}
 use Rattle.ordering_joins.proofs.offsetting.keys_move.Tie as tie
 
 abbrev invariant-loop : tie.invariant-loop
-invariant-loop table o n k₀ k = (n ≡ o.size) × (k ≤ o.size) × (keysTabled table (keys_of o) ≡ keysTabled table (drop k (keys_of o)))
+invariant-loop table o n k₀ k = (n ≡ o.size) × (k ≤ o.size) × (keys_tabled table (keys_of o) ≡ keys_tabled table (drop k (keys_of o)))
 
 abbrev decreases-loop : tie.decreases-loop
 decreases-loop table o n k₀ k = n - k
@@ -47,7 +47,7 @@ returns c =
     let b = c.before.before.before.before.before.before in
     let o = c.before.before.before.before.before.loop in
     let e = c.before.before.expr-of in
-    move-stops b.args.table.now b.args.t2 o.k o.invariant.2 (search rules) e.result e.ensures (not-true _ c.if1.true)
+    move_stops b.args.table.now b.args.t2 o.k o.invariant.2 (search rules) e.result e.ensures (not-true _ c.if1.true)
 
 add-k : tie.Need-overflow-add-k invariant-loop decreases-loop
 add-k c =
@@ -63,13 +63,13 @@ loop-again c =
     let b = c.before.before.before.before.before.before in
     let o = c.before.before.before.before.before.loop in
     let e = c.before.before.expr-of in
-    (search rules, search rules, move-on b.args.table.now b.args.t2 o.k o.invariant.2 (search rules) e.result e.ensures (not-false _ c.if1.false))
+    (search rules, search rules, move_on b.args.table.now b.args.t2 o.k o.invariant.2 (search rules) e.result e.ensures (not-false _ c.if1.false))
 
 returns-2 : tie.Need-returns-2 invariant-loop decreases-loop
 returns-2 c =
     let b = c.before.before in
     let o = c.before.loop in
-    move-ends b.args.table.now b.args.t2 o.k o.invariant.2 (search rules)
+    move_ends b.args.table.now b.args.t2 o.k o.invariant.2 (search rules)
 
 pub keys-move-spec : {M : Type 1} → statement M
 keys-move-spec =

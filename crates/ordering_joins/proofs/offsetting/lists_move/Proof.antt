@@ -3,16 +3,16 @@ use Prim.Native.Nat.{◌-◌, ◌≤◌}
 use mathlib.Core.Path.{◌≡◌, refl}
 use borrow.Author.Tests.{not-true, not-false}
 use lib.ListN.{drop}
-use Rattle.ordering_joins.specs.Inner.{listsTabled}
+use Rattle.ordering_joins.specs.Inner.{lists_tabled}
 use Rattle.orderings.specs.Layout.{decode}
 use Rattle.orderings.proofs.Codec.{count-few}
-use Rattle.ordering_joins.proofs.KeyTests.{place-low, moves-stop, moves-on, moves-end}
+use Rattle.ordering_joins.proofs.KeyTests.{place-low, moves-stop, moves-on, moves_end}
 use borrow.Author.Rules.{rules}
 use Rattle.ordering_joins.proofs.offsetting.lists_move.Statement.{statement}
 use Rattle.ordering_joins.proofs.offsetting.lists_move.Tie as tie
 
 abbrev invariant-loop : tie.invariant-loop
-invariant-loop table g n i₀ i = (n ≡ g.count) × (i ≤ g.count) × (listsTabled table (decode g) ≡ listsTabled table (drop i (decode g)))
+invariant-loop table g n i₀ i = (n ≡ g.count) × (i ≤ g.count) × (lists_tabled table (decode g) ≡ lists_tabled table (drop i (decode g)))
 
 abbrev decreases-loop : tie.decreases-loop
 decreases-loop table g n i₀ i = n - i
@@ -65,7 +65,7 @@ returns-2 : tie.Need-returns-2 invariant-loop decreases-loop
 returns-2 c =
     let b = c.before.before in
     let o = c.before.loop in
-    moves-end b.args.table.now b.args.t2 o.i b.requires.held o.invariant.2 (search rules)
+    moves_end b.args.table.now b.args.t2 o.i b.requires.held o.invariant.2 (search rules)
 
 pub lists-move-spec : {M : Type 1} → statement M
 lists-move-spec =

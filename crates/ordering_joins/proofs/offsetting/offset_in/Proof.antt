@@ -9,7 +9,7 @@ use mir.Facts.{to_z-of_z}
 use Rattle.shifting.specs.Shift.{moved}
 use Rattle.shifting.specs.Inner.{lifted}
 use Rattle.ordering_joins.proofs.KeyTests.{there-low}
-use Rattle.ordering_joins.proofs.OffsetCall.{table-moves, offset-out, offset-ready, offset-full, offset-done}
+use Rattle.ordering_joins.proofs.OffsetCall.{table-moves, offset_out, offset_ready, offset_full, offset_done}
 use Rattle.ordering_joins.proofs.offsetting.offset_in.Statement.{statement}
 use Rattle.ordering_joins.proofs.offsetting.offset_in.Tie as tie
 
@@ -36,7 +36,7 @@ returns c =
     let n = m.before.before.before.before.node-count in
     let t = m.before.before.movable in
     let is = table-moves w.result b.args.cells.now b.args.g b.requires t.result n.result n.ensures t.ensures m.lists-move.result m.lists-move.ensures in
-    offset-out b.args.cells.now b.args.g b.args.offset w.result b.requires agree (is ∙ not-true m.lists-move.result c.if1.true)
+    offset_out b.args.cells.now b.args.g b.args.offset w.result b.requires agree (is ∙ not-true m.lists-move.result c.if1.true)
 
 shift-lists-requires : tie.Need-shift-lists-requires
 shift-lists-requires c κs =
@@ -47,7 +47,7 @@ shift-lists-requires c κs =
     let n = m.before.before.before.before.node-count in
     let t = m.before.before.movable in
     let is = table-moves w.result b.args.cells.now b.args.g b.requires t.result n.result n.ensures t.ensures m.lists-move.result m.lists-move.ensures in
-    offset-ready b.args.cells.now b.args.g b.args.offset w.result b.requires agree (is ∙ not-false m.lists-move.result c.before.before.before.if1.false) w.ensures.0 1024
+    offset_ready b.args.cells.now b.args.g b.args.offset w.result b.requires agree (is ∙ not-false m.lists-move.result c.before.before.before.if1.false) w.ensures.0 1024
 
 returns-2 : tie.Need-returns-2
 returns-2 c =
@@ -59,7 +59,7 @@ returns-2 c =
     let t = m.before.before.movable in
     let is = table-moves w.result b.args.cells.now b.args.g b.requires t.result n.result n.ensures t.ensures m.lists-move.result m.lists-move.ensures in
     let s = c.before.before.shift-lists in
-    offset-full b.args.cells.now b.args.g b.args.offset w.result b.requires agree (is ∙ not-false m.lists-move.result c.before.before.before.before.before.before.if1.false) s.new.0 s.result s.ensures c.if2.true
+    offset_full b.args.cells.now b.args.g b.args.offset w.result b.requires agree (is ∙ not-false m.lists-move.result c.before.before.before.before.before.before.if1.false) s.new.0 s.result s.ensures c.if2.true
 
 returns-3 : tie.Need-returns-3
 returns-3 c =
@@ -71,7 +71,7 @@ returns-3 c =
     let t = m.before.before.movable in
     let is = table-moves w.result b.args.cells.now b.args.g b.requires t.result n.result n.ensures t.ensures m.lists-move.result m.lists-move.ensures in
     let s = c.before.before.shift-lists in
-    offset-done b.args.cells.now b.args.g b.args.offset w.result b.requires agree (is ∙ not-false m.lists-move.result c.before.before.before.before.before.before.if1.false) s.new.0 s.result s.ensures c.if2.false
+    offset_done b.args.cells.now b.args.g b.args.offset w.result b.requires agree (is ∙ not-false m.lists-move.result c.before.before.before.before.before.before.if1.false) s.new.0 s.result s.ensures c.if2.false
 
 pub offset-in-spec : {M : Type 1} → statement M
 offset-in-spec =

@@ -3,7 +3,7 @@ use Prim.Native.Nat.{◌-◌, ◌<◌}
 use mathlib.Core.Path.{◌≡◌}
 use native.Mathlib.Omega.{arith}
 use Rattle.ordering_joins.proofs.KeyTests.{few-keys}
-use Rattle.ordering_joins.proofs.KeyWalk.{KeysTo, keys-begin, key-ready, number-few, keys-more, keys-fail, keys-end}
+use Rattle.ordering_joins.proofs.KeyWalk.{KeysTo, keys-begin, key-ready, number-few, keys-more, keys-fail, keys_end}
 use borrow.Author.Rules.{rules}
 use Rattle.ordering_joins.proofs.offsetting.shift_keys.Statement.{statement}
 use Rattle.ordering_joins.proofs.offsetting.shift_keys.Tie as tie
@@ -93,7 +93,7 @@ returns-2 : tie.Need-returns-2 invariant-loop decreases-loop
 returns-2 c =
     let b = c.before.before.before in
     let o = c.before.loop in
-    keys-end b.args.lift b.args.cells.now b.args.memo.now b.args.t3 b.requires o.cells o.memo o.out o.k o.invariant.1 (search rules)
+    keys_end b.args.lift b.args.cells.now b.args.memo.now b.args.t3 b.requires o.cells o.memo o.out o.k o.invariant.1 (search rules)
 
 pub shift-keys-spec : {M : Type 1} → statement M
 shift-keys-spec =

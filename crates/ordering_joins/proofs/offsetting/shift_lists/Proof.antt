@@ -2,7 +2,7 @@
 use Prim.Native.Nat.{◌-◌}
 use mathlib.Core.Path.{◌≡◌}
 use borrow.Author.Tests.{not-true, not-false}
-use Rattle.ordering_joins.proofs.KeyWalk.{ListsTo, few-lists, lists-begin, ordering-ready, list-room, lists-more, lists-fail, lists-end}
+use Rattle.ordering_joins.proofs.KeyWalk.{ListsTo, few-lists, lists-begin, ordering-ready, list-room, lists-more, lists-fail, lists_end}
 use borrow.Author.Rules.{rules}
 use Rattle.ordering_joins.proofs.offsetting.shift_lists.Statement.{statement}
 use Rattle.ordering_joins.proofs.offsetting.shift_lists.Tie as tie
@@ -73,7 +73,7 @@ returns-2 : tie.Need-returns-2 invariant-loop decreases-loop
 returns-2 c =
     let b = c.before.before.before in
     let o = c.before.loop in
-    lists-end b.args.lift b.args.cells.now b.args.memo.now b.args.t3 b.requires o.cells o.memo o.list o.i o.invariant.1 (search rules)
+    lists_end b.args.lift b.args.cells.now b.args.memo.now b.args.t3 b.requires o.cells o.memo o.list o.i o.invariant.1 (search rules)
 
 pub shift-lists-spec : {M : Type 1} → statement M
 shift-lists-spec =

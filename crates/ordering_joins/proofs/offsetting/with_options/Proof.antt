@@ -1,6 +1,6 @@
 -- `ordering_joins::offsetting::with_options` meets its contract.
 use borrow.Author.Rules.{rules}
-use Rattle.orderings.specs.Ordering.{optionsOf}
+use Rattle.orderings.specs.Ordering.{options_of}
 use Rattle.ordering_joins.proofs.offsetting.with_options.Statement.{statement}
 use Rattle.ordering_joins.proofs.offsetting.with_options.Tie as tie
 
@@ -14,7 +14,7 @@ add-result : tie.Need-overflow-add-result
 add-result c = search rules
 
 returns : tie.Need-returns
-unfolding optionsOf
+unfolding options_of
 returns c = search rules
 
 pub with-options-spec : {M : Type 1} → statement M

@@ -3,9 +3,9 @@ use Prim.Native.Nat.{◌-◌, ◌≤◌}
 use mathlib.Core.Path.{◌≡◌, refl, sym, ◌∙◌}
 use borrow.Author.Rules.{rules}
 use lib.ListN.{drop}
-use Rattle.ordering_questions.specs.Questions.{leadsWith}
+use Rattle.ordering_questions.specs.Questions.{leads_with}
 use Rattle.orderings.specs.Layout.{decode}
-use Rattle.ordering_questions.proofs.Leads.{leads-hit, leads-on, leads-end}
+use Rattle.ordering_questions.proofs.Leads.{leads-hit, leads-on, leads_end}
 use Rattle.ordering_questions.proofs.questions.leads_with.Statement.{statement}
 use Rattle.ordering_questions.proofs.questions.leads_with.Tie as tie
 use Rattle.ordering_questions.proofs.questions.leads_with.Reads as reads
@@ -14,7 +14,7 @@ use Rattle.ordering_questions.proofs.questions.leading.Reads as leading-reads
 use Rattle.ordering_questions.proofs.questions.led_by.Reads as led-by-reads
 
 abbrev invariant-loop : tie.invariant-loop
-invariant-loop g e options n i₀ i = (i ≤ n) × ((n ≡ g.count) × (leadsWith (decode g) e options ≡ leadsWith (drop i (decode g)) e options))
+invariant-loop g e options n i₀ i = (i ≤ n) × ((n ≡ g.count) × (leads_with (decode g) e options ≡ leads_with (drop i (decode g)) e options))
 
 abbrev decreases-loop : tie.decreases-loop
 decreases-loop g e options n i₀ i = n - i
@@ -50,7 +50,7 @@ returns-2 : tie.Need-returns-2 invariant-loop decreases-loop
 returns-2 c =
     let s = c.before.before in
     let l = c.before.loop in
-    sym (l.invariant.1.1 ∙ leads-end s.args.g s.args.e l.i (search rules) s.args.options)
+    sym (l.invariant.1.1 ∙ leads_end s.args.g s.args.e l.i (search rules) s.args.options)
 
 pub leads-with-spec : {M : Type 1} → statement M
 leads-with-spec =

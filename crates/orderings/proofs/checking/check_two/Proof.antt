@@ -5,8 +5,8 @@ use mathlib.Core.Path.{◌≡◌, sym, ap, ◌∙◌}
 use borrow.Author.Rules.{rules}
 use borrow.Author.Tests.{not-true, not-false}
 use Rattle.arena.specs.Layout.{count, lawful}
-use Rattle.orderings.specs.Layout.{lawfulList, keysInside}
-use Rattle.orderings.specs.Calls.{twoNumber}
+use Rattle.orderings.specs.Layout.{lawful_list, keys_inside}
+use Rattle.orderings.specs.Calls.{two_number}
 use Rattle.orderings.proofs.checking.check_two.Statement.{statement}
 use Rattle.orderings.proofs.checking.check_two.Tie as tie
 
@@ -14,7 +14,7 @@ lawful-arena-requires : tie.Need-lawful-arena-requires
 lawful-arena-requires c κs = search rules
 
 returns : tie.Need-returns
-unfolding twoNumber
+unfolding two_number
 returns c =
     let a : lawful c.before.before.args.cells.now ≡ false = sym c.before.lawful-arena.ensures ∙ not-true _ c.if1.true in
     rw a
@@ -23,23 +23,23 @@ lawful-list-requires : tie.Need-lawful-list-requires
 lawful-list-requires c κs = search rules
 
 returns-2 : tie.Need-returns-2
-unfolding twoNumber
+unfolding two_number
 returns-2 c =
     let x = c.before.before.before.before.args in
     let a : lawful x.cells.now ≡ true = sym c.before.before.before.lawful-arena.ensures ∙ not-false _ c.before.before.if1.false in
-    let l : lawfulList x.g ≡ false = sym c.before.lawful-list.ensures ∙ not-true _ c.if2.true in
+    let l : lawful_list x.g ≡ false = sym c.before.lawful-list.ensures ∙ not-true _ c.if2.true in
     rw (a, l)
 
 lawful-list-requires-2 : tie.Need-lawful-list-requires-2
 lawful-list-requires-2 c κs = search rules
 
 returns-3 : tie.Need-returns-3
-unfolding twoNumber
+unfolding two_number
 returns-3 c =
     let x = c.before.before.before.before.before.before.args in
     let a : lawful x.cells.now ≡ true = sym c.before.before.before.before.before.lawful-arena.ensures ∙ not-false _ c.before.before.before.before.if1.false in
-    let l : lawfulList x.g ≡ true = sym c.before.before.before.lawful-list.ensures ∙ not-false _ c.before.before.if2.false in
-    let m : lawfulList x.h ≡ false = sym c.before.lawful-list2.ensures ∙ not-true _ c.if3.true in
+    let l : lawful_list x.g ≡ true = sym c.before.before.before.lawful-list.ensures ∙ not-false _ c.before.before.if2.false in
+    let m : lawful_list x.h ≡ false = sym c.before.lawful-list2.ensures ∙ not-true _ c.if3.true in
     rw (a, l, m)
 
 node-count-requires : tie.Need-node-count-requires
@@ -49,38 +49,38 @@ keys-below-requires : tie.Need-keys-below-requires
 keys-below-requires c κs = sym c.before.before.before.before.lawful-list.ensures ∙ not-false _ c.before.before.before.if2.false
 
 returns-4 : tie.Need-returns-4
-unfolding twoNumber
+unfolding two_number
 returns-4 c =
     let x = c.before.before.before.before.before.before.before.before.before.args in
     let a : lawful x.cells.now ≡ true = sym c.before.before.before.before.before.before.before.before.lawful-arena.ensures ∙ not-false _ c.before.before.before.before.before.before.before.if1.false in
-    let l : lawfulList x.g ≡ true = sym c.before.before.before.before.before.before.lawful-list.ensures ∙ not-false _ c.before.before.before.before.before.if2.false in
-    let m : lawfulList x.h ≡ true = sym c.before.before.before.before.lawful-list2.ensures ∙ not-false _ c.before.before.before.if3.false in
-    let k : keysInside (count x.cells.now) x.g ≡ false = ap (λ (n : ℕ). keysInside n x.g) (sym c.before.before.node-count.ensures) ∙ sym c.before.keys_below.ensures ∙ not-true _ c.if4.true in
+    let l : lawful_list x.g ≡ true = sym c.before.before.before.before.before.before.lawful-list.ensures ∙ not-false _ c.before.before.before.before.before.if2.false in
+    let m : lawful_list x.h ≡ true = sym c.before.before.before.before.lawful-list2.ensures ∙ not-false _ c.before.before.before.if3.false in
+    let k : keys_inside (count x.cells.now) x.g ≡ false = ap (λ (n : ℕ). keys_inside n x.g) (sym c.before.before.node-count.ensures) ∙ sym c.before.keys_below.ensures ∙ not-true _ c.if4.true in
     rw (a, l, m, k)
 
 keys-below-requires-2 : tie.Need-keys-below-requires-2
 keys-below-requires-2 c κs = sym c.before.before.before.before.lawful-list2.ensures ∙ not-false _ c.before.before.before.if3.false
 
 returns-5 : tie.Need-returns-5
-unfolding twoNumber
+unfolding two_number
 returns-5 c =
     let x = c.before.before.before.before.before.before.before.before.before.before.before.args in
     let a : lawful x.cells.now ≡ true = sym c.before.before.before.before.before.before.before.before.before.before.lawful-arena.ensures ∙ not-false _ c.before.before.before.before.before.before.before.before.before.if1.false in
-    let l : lawfulList x.g ≡ true = sym c.before.before.before.before.before.before.before.before.lawful-list.ensures ∙ not-false _ c.before.before.before.before.before.before.before.if2.false in
-    let m : lawfulList x.h ≡ true = sym c.before.before.before.before.before.before.lawful-list2.ensures ∙ not-false _ c.before.before.before.before.before.if3.false in
-    let k : keysInside (count x.cells.now) x.g ≡ true = ap (λ (n : ℕ). keysInside n x.g) (sym c.before.before.before.before.node-count.ensures) ∙ sym c.before.before.before.keys_below.ensures ∙ not-false _ c.before.before.if4.false in
-    let q : keysInside (count x.cells.now) x.h ≡ false = ap (λ (n : ℕ). keysInside n x.h) (sym c.before.before.before.before.node-count.ensures) ∙ sym c.before.keys-below2.ensures ∙ not-true _ c.if5.true in
+    let l : lawful_list x.g ≡ true = sym c.before.before.before.before.before.before.before.before.lawful-list.ensures ∙ not-false _ c.before.before.before.before.before.before.before.if2.false in
+    let m : lawful_list x.h ≡ true = sym c.before.before.before.before.before.before.lawful-list2.ensures ∙ not-false _ c.before.before.before.before.before.if3.false in
+    let k : keys_inside (count x.cells.now) x.g ≡ true = ap (λ (n : ℕ). keys_inside n x.g) (sym c.before.before.before.before.node-count.ensures) ∙ sym c.before.before.before.keys_below.ensures ∙ not-false _ c.before.before.if4.false in
+    let q : keys_inside (count x.cells.now) x.h ≡ false = ap (λ (n : ℕ). keys_inside n x.h) (sym c.before.before.before.before.node-count.ensures) ∙ sym c.before.keys-below2.ensures ∙ not-true _ c.if5.true in
     rw (a, l, m, k, q)
 
 returns-6 : tie.Need-returns-6
-unfolding twoNumber
+unfolding two_number
 returns-6 c =
     let x = c.before.before.before.before.before.before.before.before.before.before.before.args in
     let a : lawful x.cells.now ≡ true = sym c.before.before.before.before.before.before.before.before.before.before.lawful-arena.ensures ∙ not-false _ c.before.before.before.before.before.before.before.before.before.if1.false in
-    let l : lawfulList x.g ≡ true = sym c.before.before.before.before.before.before.before.before.lawful-list.ensures ∙ not-false _ c.before.before.before.before.before.before.before.if2.false in
-    let m : lawfulList x.h ≡ true = sym c.before.before.before.before.before.before.lawful-list2.ensures ∙ not-false _ c.before.before.before.before.before.if3.false in
-    let k : keysInside (count x.cells.now) x.g ≡ true = ap (λ (n : ℕ). keysInside n x.g) (sym c.before.before.before.before.node-count.ensures) ∙ sym c.before.before.before.keys_below.ensures ∙ not-false _ c.before.before.if4.false in
-    let q : keysInside (count x.cells.now) x.h ≡ true = ap (λ (n : ℕ). keysInside n x.h) (sym c.before.before.before.before.node-count.ensures) ∙ sym c.before.keys-below2.ensures ∙ not-false _ c.if5.false in
+    let l : lawful_list x.g ≡ true = sym c.before.before.before.before.before.before.before.before.lawful-list.ensures ∙ not-false _ c.before.before.before.before.before.before.before.if2.false in
+    let m : lawful_list x.h ≡ true = sym c.before.before.before.before.before.before.lawful-list2.ensures ∙ not-false _ c.before.before.before.before.before.if3.false in
+    let k : keys_inside (count x.cells.now) x.g ≡ true = ap (λ (n : ℕ). keys_inside n x.g) (sym c.before.before.before.before.node-count.ensures) ∙ sym c.before.before.before.keys_below.ensures ∙ not-false _ c.before.before.if4.false in
+    let q : keys_inside (count x.cells.now) x.h ≡ true = ap (λ (n : ℕ). keys_inside n x.h) (sym c.before.before.before.before.node-count.ensures) ∙ sym c.before.keys-below2.ensures ∙ not-false _ c.if5.false in
     rw (a, l, m, k, q)
 
 pub check-two-spec : {M : Type 1} → statement M

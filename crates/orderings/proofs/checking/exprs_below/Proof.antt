@@ -8,7 +8,7 @@ use borrow.Author.Rules.{rules}
 use borrow.Author.Tests.{lt-ltb, le-ltb}
 use Rattle.laws.specs.Tests.{each}
 use Rattle.laws.proofs.Each.{each_none, each_more, each-stops, each-ends}
-use Rattle.orderings.specs.Ordering.{exprOf}
+use Rattle.orderings.specs.Ordering.{expr_of}
 use Rattle.orderings.proofs.ListChecks.{Below}
 use Rattle.orderings.proofs.checking.exprs_below.Statement.{statement}
 use Rattle.orderings.proofs.checking.exprs_below.Tie as tie
@@ -35,7 +35,7 @@ returns : tie.Need-returns invariant-loop decreases-loop
 returns c =
     let x = c.before.before.before.before.before.args in
     each-stops (Below x.t1 x.n) x.t1.size c.before.before.before.before.loop.k (search rules)
-    (le-ltb (exprOf (get_or x.t1.keys c.before.before.before.before.loop.k 0)) x.n (omega (arith, c.before.expr-of.ensures)))
+    (le-ltb (expr_of (get_or x.t1.keys c.before.before.before.before.loop.k 0)) x.n (omega (arith, c.before.expr-of.ensures)))
 
 add-k : tie.Need-overflow-add-k invariant-loop decreases-loop
 add-k c = search rules
@@ -48,7 +48,7 @@ loop-again c =
     let x = c.before.before.before.before.before.args in (
       search rules,
       each_more (Below x.t1 x.n) c.before.before.before.before.loop.k c.before.before.before.before.loop.invariant.1
-          (lt-ltb (exprOf (get_or x.t1.keys c.before.before.before.before.loop.k 0)) x.n (omega (arith, c.before.expr-of.ensures))),
+          (lt-ltb (expr_of (get_or x.t1.keys c.before.before.before.before.loop.k 0)) x.n (omega (arith, c.before.expr-of.ensures))),
     )
 
 returns-2 : tie.Need-returns-2 invariant-loop decreases-loop

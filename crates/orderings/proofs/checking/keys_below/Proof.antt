@@ -6,7 +6,7 @@ use borrow.Author.Rules.{rules}
 use borrow.Author.Tests.{not-true, not-false}
 use Rattle.laws.specs.Tests.{each}
 use Rattle.laws.proofs.Each.{each_none, each_more, each-stops, each-ends}
-use Rattle.orderings.specs.Layout.{keysInside}
+use Rattle.orderings.specs.Layout.{keys_inside}
 use Rattle.orderings.proofs.ListChecks.{Inside, InsideAt, at_place, sized, read_is, lawful-count, lawful-size}
 use Rattle.orderings.proofs.checking.keys_below.Statement.{statement}
 use Rattle.orderings.proofs.checking.keys_below.Tie as tie
@@ -35,7 +35,7 @@ exprs-below-requires c κs =
     rw (read_is g z i (search rules)) (lawful-size g c.before.before.before.requires i (search rules))
 
 returns : tie.Need-returns invariant-loop decreases-loop
-unfolding keysInside
+unfolding keys_inside
 returns c =
     let x = c.before.before.before.before.before.args in
     let i = c.before.before.before.before.loop.i in
@@ -62,7 +62,7 @@ loop-again c =
     )
 
 returns-2 : tie.Need-returns-2 invariant-loop decreases-loop
-unfolding keysInside
+unfolding keys_inside
 returns-2 c =
     let x = c.before.before.args in
     each-ends (InsideAt x.n x.t1) x.t1.count c.before.loop.i (search rules) (search rules) c.before.loop.invariant.1

@@ -5,13 +5,13 @@ use borrow.Author.Rules.{rules}
 use borrow.Author.Tests.{not-true, not-false, le-leb, lt-leb}
 use lib.Dec.{leb}
 use Rattle.laws.specs.Tests.{each}
-use Rattle.orderings.specs.Layout.{lawfulList}
+use Rattle.orderings.specs.Layout.{lawful_list}
 use Rattle.orderings.proofs.ListChecks.{LawfulAt}
 use Rattle.orderings.proofs.checking.lawful_list.Statement.{statement}
 use Rattle.orderings.proofs.checking.lawful_list.Tie as tie
 
 returns : tie.Need-returns
-unfolding lawfulList
+unfolding lawful_list
 returns c =
     let g = c.before.before.args.g in
     let a : leb g.count 32 ≡ false = lt-leb g.count 32 (search rules) in
@@ -21,7 +21,7 @@ orderings-lawful-requires : tie.Need-orderings-lawful-requires
 orderings-lawful-requires c κs = search rules
 
 returns-2 : tie.Need-returns-2
-unfolding lawfulList
+unfolding lawful_list
 returns-2 c =
     let g = c.before.before.before.before.args.g in
     let a : leb g.count 32 ≡ true = le-leb g.count 32 (search rules) in
@@ -32,7 +32,7 @@ places-unused-requires : tie.Need-places-unused-requires
 places-unused-requires c κs = search rules
 
 returns-3 : tie.Need-returns-3
-unfolding lawfulList
+unfolding lawful_list
 returns-3 c =
     let g = c.before.before.before.before.before.args.g in
     let a : leb g.count 32 ≡ true = le-leb g.count 32 (search rules) in

@@ -5,20 +5,20 @@ use borrow.Author.Rules.{rules}
 use borrow.Author.Tests.{not-true, not-false, lt-ltb, le-ltb, le-leb, lt-leb}
 use lib.Dec.{ltb, leb}
 use Rattle.laws.specs.Tests.{each}
-use Rattle.orderings.specs.Layout.{lawfulOrdering}
+use Rattle.orderings.specs.Layout.{lawful_ordering}
 use Rattle.orderings.proofs.ListChecks.{Fresh}
 use Rattle.orderings.proofs.checking.lawful_ordering.Statement.{statement}
 use Rattle.orderings.proofs.checking.lawful_ordering.Tie as tie
 
 returns : tie.Need-returns
-unfolding lawfulOrdering
+unfolding lawful_ordering
 returns c =
     let o = c.before.before.args.o in
     let a : ltb 0 o.size ≡ false = le-ltb 0 o.size (search rules) in
     rw a
 
 returns-2 : tie.Need-returns-2
-unfolding lawfulOrdering
+unfolding lawful_ordering
 returns-2 c =
     let o = c.before.before.before.before.args.o in
     let a : ltb 0 o.size ≡ true = lt-ltb 0 o.size (search rules) in
@@ -29,7 +29,7 @@ keys-fresh-requires : tie.Need-keys-fresh-requires
 keys-fresh-requires c κs = search rules
 
 returns-3 : tie.Need-returns-3
-unfolding lawfulOrdering
+unfolding lawful_ordering
 returns-3 c =
     let o = c.before.before.before.before.before.before.args.o in
     let a : ltb 0 o.size ≡ true = lt-ltb 0 o.size (search rules) in
@@ -41,7 +41,7 @@ rest-unused-requires : tie.Need-rest-unused-requires
 rest-unused-requires c κs = search rules
 
 returns-4 : tie.Need-returns-4
-unfolding lawfulOrdering
+unfolding lawful_ordering
 returns-4 c =
     let o = c.before.before.before.before.before.before.before.args.o in
     let a : ltb 0 o.size ≡ true = lt-ltb 0 o.size (search rules) in

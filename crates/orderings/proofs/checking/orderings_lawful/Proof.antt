@@ -6,7 +6,7 @@ use borrow.Author.Rules.{rules}
 use borrow.Author.Tests.{not-true, not-false}
 use Rattle.laws.specs.Tests.{each}
 use Rattle.laws.proofs.Each.{each_none, each_more, each-stops, each-ends}
-use Rattle.orderings.specs.Layout.{lawfulOrdering}
+use Rattle.orderings.specs.Layout.{lawful_ordering}
 use Rattle.orderings.proofs.ListChecks.{LawfulAt, at_place, sized}
 use Rattle.orderings.proofs.checking.orderings_lawful.Statement.{statement}
 use Rattle.orderings.proofs.checking.orderings_lawful.Tie as tie
@@ -35,7 +35,7 @@ returns c =
     let i = c.before.before.before.before.loop.i in
     let z = sized g _ c.before.before.before.before.before.well-formed.0 in
     each-stops (LawfulAt g) g.count i (search rules)
-    (at_place lawfulOrdering false g z i (search rules) (sym c.before.lawful-ordering.ensures ∙ not-true _ c.if1.true))
+    (at_place lawful_ordering false g z i (search rules) (sym c.before.lawful-ordering.ensures ∙ not-true _ c.if1.true))
 
 add-i : tie.Need-overflow-add-i invariant-loop decreases-loop
 add-i c = search rules
@@ -50,7 +50,7 @@ loop-again c =
     let z = sized g _ c.before.before.before.before.before.well-formed.0 in (
       search rules,
       each_more (LawfulAt g) i c.before.before.before.before.loop.invariant.1
-          (at_place lawfulOrdering true g z i (search rules) (sym c.before.lawful-ordering.ensures ∙ not-false _ c.if1.false)),
+          (at_place lawful_ordering true g z i (search rules) (sym c.before.lawful-ordering.ensures ∙ not-false _ c.if1.false)),
     )
 
 returns-2 : tie.Need-returns-2 invariant-loop decreases-loop

@@ -6,7 +6,7 @@ use borrow.Author.Rules.{rules}
 use borrow.Author.Tests.{not-true, not-false}
 use Rattle.laws.specs.Tests.{each}
 use Rattle.laws.proofs.Each.{each_none, each_more, each-stops, each-ends}
-use Rattle.orderings.specs.Layout.{unusedOrdering}
+use Rattle.orderings.specs.Layout.{unused_ordering}
 use Rattle.orderings.proofs.ListChecks.{UnusedAt, at_place, sized}
 use Rattle.orderings.proofs.checking.places_unused.Statement.{statement}
 use Rattle.orderings.proofs.checking.places_unused.Tie as tie
@@ -41,7 +41,7 @@ returns c =
     let i = c.before.before.before.before.loop.i in
     let z = sized g _ c.before.before.before.before.before.well-formed.0 in
     each-stops (UnusedAt g) (32 - g.count) i (search rules)
-    (at_place unusedOrdering false g z (g.count + i) (search rules) (sym c.before.unused-ordering.ensures ∙ not-true _ c.if1.true))
+    (at_place unused_ordering false g z (g.count + i) (search rules) (sym c.before.unused-ordering.ensures ∙ not-true _ c.if1.true))
 
 add-i : tie.Need-overflow-add-i invariant-loop decreases-loop
 add-i c = search rules
@@ -56,7 +56,7 @@ loop-again c =
     let z = sized g _ c.before.before.before.before.before.well-formed.0 in (
       search rules,
       each_more (UnusedAt g) i c.before.before.before.before.loop.invariant.1
-          (at_place unusedOrdering true g z (g.count + i) (search rules) (sym c.before.unused-ordering.ensures ∙ not-false _ c.if1.false)),
+          (at_place unused_ordering true g z (g.count + i) (search rules) (sym c.before.unused-ordering.ensures ∙ not-false _ c.if1.false)),
     )
 
 returns-2 : tie.Need-returns-2 invariant-loop decreases-loop

@@ -8,7 +8,7 @@ use borrow.Author.Rules.{rules}
 use borrow.Author.Tests.{eq-eqb, ne_eqb}
 use Rattle.laws.specs.Tests.{each}
 use Rattle.laws.proofs.Each.{each_none, each_more, each-stops, each-ends}
-use Rattle.orderings.specs.Layout.{restUnused}
+use Rattle.orderings.specs.Layout.{rest_unused}
 use Rattle.orderings.specs.declared.Ordering.{Ordering}
 use Rattle.orderings.proofs.checking.rest_unused.Statement.{statement}
 use Rattle.orderings.proofs.checking.rest_unused.Tie as tie
@@ -39,7 +39,7 @@ element-copy-out-if1 : tie.Need-element-copy-out-if1 invariant-loop decreases-lo
 element-copy-out-if1 c = search rules
 
 returns : tie.Need-returns invariant-loop decreases-loop
-unfolding restUnused
+unfolding rest_unused
 returns c =
     let o = c.before.before.before.before.args.t1 in
     each-stops (Unused o) (16 - o.size) c.before.before.before.loop.k (search rules) (ne_eqb _ _ c.if1.true)
@@ -55,7 +55,7 @@ loop-again c =
     (search rules, each_more (Unused c.before.before.before.before.args.t1) c.before.before.before.loop.k c.before.before.before.loop.invariant.1 (eq-eqb _ _ c.if1.false))
 
 returns-2 : tie.Need-returns-2 invariant-loop decreases-loop
-unfolding restUnused
+unfolding rest_unused
 returns-2 c =
     let o = c.before.before.args.t1 in
     each-ends (Unused o) (16 - o.size) c.before.loop.k (search rules) (search rules) c.before.loop.invariant.1

@@ -3,7 +3,7 @@ use Prim.Native.Nat.{◌-◌, ◌≤◌}
 use mathlib.Core.Path.{◌≡◌}
 use native.Mathlib.Omega.{arith}
 use borrow.Author.Rules.{rules}
-use Rattle.orderings.proofs.Extending.{Nowhere, nowhere-yet, nowhere-next, has-found, has-missed}
+use Rattle.orderings.proofs.Extending.{Nowhere, nowhere_yet, nowhere-next, has-found, has_missed}
 use Rattle.orderings.proofs.pushing.has_expr.Statement.{statement}
 use Rattle.orderings.proofs.pushing.has_expr.Tie as tie
 use Rattle.orderings.proofs.pushing.has_expr.Reads as reads
@@ -16,7 +16,7 @@ abbrev decreases-loop : tie.decreases-loop
 decreases-loop expr o n k₀ k = n - k
 
 loop-holds : tie.Need-loop-init invariant-loop decreases-loop
-loop-holds c = (search rules, (search rules, nowhere-yet c.args.t1 c.args.expr))
+loop-holds c = (search rules, (search rules, nowhere_yet c.args.t1 c.args.expr))
 
 mul-if1 : tie.Need-overflow-mul-if1 invariant-loop decreases-loop
 mul-if1 c = search rules
@@ -46,7 +46,7 @@ returns-2 : tie.Need-returns-2 invariant-loop decreases-loop
 returns-2 c =
     let s = c.before.before in
     let l = c.before.loop in
-    has-missed s.args.t1 s.args.expr l.k (search rules) l.invariant.1.1
+    has_missed s.args.t1 s.args.expr l.k (search rules) l.invariant.1.1
 
 pub has-expr-spec : {M : Type 1} → statement M
 has-expr-spec =

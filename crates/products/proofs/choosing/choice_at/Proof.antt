@@ -1,7 +1,7 @@
 -- `products::choosing::choice_at` meets its contract.
 use Prim.Native.Nat.{◌-◌}
 use native.Mathlib.Omega.{arith}
-use Rattle.products.proofs.Choices.{Choosing, choices-drop, choosing-begins, choosing-ends, after-some, read-in, choosing-on, found-sized}
+use Rattle.products.proofs.Choices.{Choosing, choices-drop, choosing-begins, choosing-ends, after-some, read_in_lem, choosing-on, found-sized}
 use borrow.Author.Rules.{rules}
 use Rattle.products.proofs.choosing.choice_at.Statement.{statement}
 use Rattle.products.proofs.choosing.choice_at.Tie as tie
@@ -43,7 +43,7 @@ add_at c =
     let s = c.before.before.before.before.before.before.before in
     let l = c.before.before.before.loop in
     let n = c.before.choices-from in
-    let b = read-in s.args.l s.requires.0 s.args.number l.j l.rest l.out l.invariant n.result n.ensures (omega arith) c.start_of_lem.result c.start_of_lem.ensures in
+    let b = read_in_lem s.args.l s.requires.0 s.args.number l.j l.rest l.out l.invariant n.result n.ensures (omega arith) c.start_of_lem.result c.start_of_lem.ensures in
     omega arith
 
 mul-row : tie.Need-overflow-mul-row invariant-loop decreases-loop
@@ -51,7 +51,7 @@ mul-row c =
     let s = c.before.before.before.before.before.before.before in
     let l = c.before.before.before.loop in
     let n = c.before.choices-from in
-    let b = read-in s.args.l s.requires.0 s.args.number l.j l.rest l.out l.invariant n.result n.ensures (omega arith) c.start_of_lem.result c.start_of_lem.ensures in
+    let b = read_in_lem s.args.l s.requires.0 s.args.number l.j l.rest l.out l.invariant n.result n.ensures (omega arith) c.start_of_lem.result c.start_of_lem.ensures in
     omega arith
 
 element-copy-out-row : tie.Need-element-copy-out-row invariant-loop decreases-loop
@@ -59,7 +59,7 @@ element-copy-out-row c =
     let s = c.before.before.before.before.before.before.before in
     let l = c.before.before.before.loop in
     let n = c.before.choices-from in
-    let b = read-in s.args.l s.requires.0 s.args.number l.j l.rest l.out l.invariant n.result n.ensures (omega arith) c.start_of_lem.result c.start_of_lem.ensures in
+    let b = read_in_lem s.args.l s.requires.0 s.args.number l.j l.rest l.out l.invariant n.result n.ensures (omega arith) c.start_of_lem.result c.start_of_lem.ensures in
     b
 
 mul-row-2 : tie.Need-overflow-mul-row-2 invariant-loop decreases-loop

@@ -1,6 +1,6 @@
 -- `products::ordering::order_at` meets its contract: one proof for the function that calls itself.
 use mathlib.Core.Path.{◌∙◌}
-use Rattle.products.proofs.Chains.{order-none, others-some, rest_below, others-open, order-begins}
+use Rattle.products.proofs.Chains.{order_none, others-some, rest_below, others-open, order_begins}
 use borrow.Author.Rules.{rules}
 use Prim.Native.Nat.{ℕ, ◌<◌, ◌≤◌}
 use borrow.Fn.Kinds.{In}
@@ -36,7 +36,7 @@ order-at-callees t = (
 
 order-at-returns :
     (t : ℕ) → order-at-lts.Need-returns (order-at-callees t) (order-at-at t) order-at.Post
-order-at-returns t c = order-none c.before.args.n c.before.args.number (search rules)
+order-at-returns t c = order_none c.before.args.n c.before.args.number (search rules)
 
 order-at-sub-factorial :
     (t : ℕ) → order-at-lts.Need-overflow-sub-factorial (order-at-callees t) (order-at-at t) order-at.Post
@@ -82,7 +82,7 @@ order-at-returns-2 t c =
     let s = c.before.before.before.before in
     let some : 1 ≤ s.args.n = search rules in
     c.begin-with.ensures
-    ∙ order-begins s.args.n s.args.number c.before.before.factorial.result s.requires.1.0 some s.requires.1.1 c.before.before.factorial.ensures c.before.order-at.result c.before.order-at.ensures
+    ∙ order_begins s.args.n s.args.number c.before.before.factorial.result s.requires.1.0 some s.requires.1.1 c.before.before.factorial.ensures c.before.order-at.result c.before.order-at.ensures
 
 pub +order-at-spec : {M : Type 1} → statement M
 +order-at-spec = close μ-order-at λ t. order-at-lts.spec (order-at-callees t) (order-at-at t)

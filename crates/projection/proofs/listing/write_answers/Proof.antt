@@ -4,15 +4,15 @@ use mathlib.Core.List.{List}
 use mathlib.Core.Path.{◌≡◌, refl, ◌∙◌, ap}
 use native.Mathlib.Omega.{arith}
 use lib.ListN.{length, get_or, set}
-use Rattle.projection.specs.Calls.{outputOf}
+use Rattle.projection.specs.Calls.{output_of}
 use Rattle.projection.specs.Inner.{answer_of}
-use Rattle.projection.proofs.Written.{writtenTo, written-length, written-more, written-end}
+use Rattle.projection.proofs.Written.{written_to, written-length, written-more, written_end}
 use borrow.Author.Rules.{rules}
 use Rattle.projection.proofs.listing.write_answers.Statement.{statement}
 use Rattle.projection.proofs.listing.write_answers.Tie as tie
 
 abbrev invariant-loop : tie.invariant-loop
-invariant-loop table exprs out₀ n k₀ out k = (k ≤ length exprs) × (out ≡ writtenTo table exprs out₀ k)
+invariant-loop table exprs out₀ n k₀ out k = (k ≤ length exprs) × (out ≡ written_to table exprs out₀ k)
 
 abbrev decreases-loop : tie.decreases-loop
 decreases-loop table exprs out₀ n k₀ out k = length exprs - k
@@ -66,7 +66,7 @@ loop-again c =
       omega arith,
       ap (λ (out : List ℕ). set out o.k a) o.invariant.1
           ∙ written-more s.args.table.now s.args.exprs.now s.args.out.now o.k a l s.requires.0
-          (c.output-of.ensures ∙ ap (λ (i : ℕ). outputOf (answer_of (get_or s.args.table.now i 0))) c.before.before.wide.ensures),
+          (c.output-of.ensures ∙ ap (λ (i : ℕ). output_of (answer_of (get_or s.args.table.now i 0))) c.before.before.wide.ensures),
     )
 
 same_length : tie.Need-same-length invariant-loop decreases-loop
@@ -79,7 +79,7 @@ returns : tie.Need-returns invariant-loop decreases-loop
 returns c =
     let s = c.before.before.before.before in
     let o = c.before.loop in
-    o.invariant.1 ∙ written-end s.args.table.now s.args.exprs.now s.args.out.now o.k o.invariant.0 (omega (arith, c.loop-test.false))
+    o.invariant.1 ∙ written_end s.args.table.now s.args.exprs.now s.args.out.now o.k o.invariant.0 (omega (arith, c.loop-test.false))
 
 pub write-answers-spec : {M : Type 1} → statement M
 write-answers-spec =

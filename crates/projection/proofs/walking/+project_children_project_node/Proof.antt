@@ -3,7 +3,7 @@ use mathlib.Core.Path.{◌≡◌, sym, ap, subst, ◌∙◌}
 use native.Mathlib.Omega.{arith}
 use borrow.Author.Tests.{not-true, not-false}
 use lib.ListN.{length, get_or}
-use Rattle.arena.specs.Layout.{childrenOf}
+use Rattle.arena.specs.Layout.{children_of}
 use Rattle.arena.proofs.Walking.{children-count, placed_row}
 use Rattle.projection.specs.Inner.{WalkedFrom}
 use Rattle.projection.proofs.WalkLaws.{children-done, child-lower, child-ready, child-full, others-ready, others-walked, ready-below, entry-answers, children-ready, children-full, operation-placeable, answer-small, operation-walked}
@@ -120,7 +120,7 @@ project-children-project-node-requires :
     (t : ℕ) → project-children-lts.Need-project-node-requires (project-children-callees t) (project-children-at t) project-children.Post
 project-children-project-node-requires t c κs =
     let b = c.before.before.before.before.before.before in
-    let l : b.args.k < length (childrenOf b.args.row.now) = omega (arith, children-count b.args.row.now, c.before.before.before.before.wide.ensures, c.before.before.before.if1.false) in
+    let l : b.args.k < length (children_of b.args.row.now) = omega (arith, children-count b.args.row.now, c.before.before.before.before.wide.ensures, c.before.before.before.if1.false) in
     (omega (arith, child-lower b.args.cells.now b.args.table.now b.args.row.now b.args.expr b.args.k b.requires.1 l, b.requires.0, b.requires.1.few), child-ready b.args.cells.now b.args.table.now b.args.row.now b.args.expr b.args.k b.requires.1 l)
 
 project-children-enum-known-i :
@@ -135,7 +135,7 @@ project-children-returns-2 :
     (t : ℕ) → project-children-lts.Need-returns-2 (project-children-callees t) (project-children-at t) project-children.Post
 project-children-returns-2 t c =
     let b = c.before.before.before.before.before.before.before.before.before in
-    let l : b.args.k < length (childrenOf b.args.row.now) = omega (arith, children-count b.args.row.now, c.before.before.before.before.before.before.before.wide.ensures, c.before.before.before.before.before.before.if1.false) in
+    let l : b.args.k < length (children_of b.args.row.now) = omega (arith, children-count b.args.row.now, c.before.before.before.before.before.before.before.wide.ensures, c.before.before.before.before.before.before.if1.false) in
     let x = c.before.before.project-node in
     child-full b.args.cells.now b.args.table.now b.args.row.now b.args.expr b.args.k b.requires.1 l x.new.0 x.new.1.0 x.result x.ensures c.enum_told.given.0.0 c.enum_told.given.1
 
@@ -167,7 +167,7 @@ project-children-project-children-requires :
     (t : ℕ) → project-children-lts.Need-project-children-requires (project-children-callees t) (project-children-at t) project-children.Post
 project-children-project-children-requires t c κs =
     let b = c.before.before.before.before.before.before.before.before.before.before.before.before.before in
-    let l : b.args.k < length (childrenOf b.args.row.now) = omega (arith, children-count b.args.row.now, c.before.before.before.before.before.before.before.before.before.before.before.wide.ensures, c.before.before.before.before.before.before.before.before.before.before.if1.false) in
+    let l : b.args.k < length (children_of b.args.row.now) = omega (arith, children-count b.args.row.now, c.before.before.before.before.before.before.before.before.before.before.before.wide.ensures, c.before.before.before.before.before.before.before.before.before.before.if1.false) in
     let x = c.before.before.before.before.before.before.project-node in
     (omega (arith, l, b.requires.0, b.requires.1.few), others-ready b.args.cells.now b.args.table.now b.args.row.now b.args.expr b.args.k b.requires.1 l x.new.0 x.new.1.0 x.result x.ensures c.before.before.before.before.i.given.0.0 c.before.before.before.before.i.given.1)
 
@@ -175,7 +175,7 @@ project-children-returns-3 :
     (t : ℕ) → project-children-lts.Need-returns-3 (project-children-callees t) (project-children-at t) project-children.Post
 project-children-returns-3 t c =
     let b = c.before.before.before.before.before.before.before.before.before.before.before.before.before.before in
-    let l : b.args.k < length (childrenOf b.args.row.now) = omega (arith, children-count b.args.row.now, c.before.before.before.before.before.before.before.before.before.before.before.before.wide.ensures, c.before.before.before.before.before.before.before.before.before.before.before.if1.false) in
+    let l : b.args.k < length (children_of b.args.row.now) = omega (arith, children-count b.args.row.now, c.before.before.before.before.before.before.before.before.before.before.before.before.wide.ensures, c.before.before.before.before.before.before.before.before.before.before.before.if1.false) in
     let x = c.before.before.before.before.before.before.before.project-node in
     let y = c.project-children in
     others-walked b.args.cells.now b.args.table.now b.args.row.now b.args.expr b.args.k b.requires.1 l x.new.0 x.new.1.0 x.result x.ensures c.before.before.before.before.before.i.given.0.0 c.before.before.before.before.before.i.given.1 y.new.0 y.new.1.0 y.new.1.1.0 y.result y.ensures

@@ -1,7 +1,7 @@
 -- `projection::walking::settle` meets its contract.
 use mathlib.Core.Path.{sym, ap}
 use native.Mathlib.Omega.{arith}
-use Rattle.projection.specs.Inner.{settledAs}
+use Rattle.projection.specs.Inner.{settled_as}
 use borrow.Author.Rules.{rules}
 use Rattle.projection.proofs.walking.settle.Statement.{statement}
 use Rattle.projection.proofs.walking.settle.Tie as tie
@@ -23,14 +23,14 @@ enum_told : tie.Need-enum-told
 enum_told c = search rules
 
 returns : tie.Need-returns
-unfolding settledAs
+unfolding settled_as
 returns c =
-    sym (ap (settledAs c.before.before.before.args.table.now c.before.before.before.args.e) c.before.answer.given.1)
+    sym (ap (settled_as c.before.before.before.args.table.now c.before.before.before.args.e) c.before.answer.given.1)
 
 returns-2 : tie.Need-returns-2
-unfolding settledAs
+unfolding settled_as
 returns-2 c =
-    sym (ap (settledAs c.before.before.args.table.now c.before.before.args.e) c.enum_told.given.1)
+    sym (ap (settled_as c.before.before.args.table.now c.before.before.args.e) c.enum_told.given.1)
 
 pub settle-spec : {M : Type 1} → statement M
 settle-spec =

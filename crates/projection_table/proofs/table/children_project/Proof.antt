@@ -10,7 +10,7 @@ use lib.Dec.{eqb}
 use lib.ListN.{length, get_or}
 use Rattle.laws.specs.Tests.{each}
 use Rattle.laws.proofs.Each.{each_none, each_more, each-stops, each-ends}
-use Rattle.arena.specs.Node.{nodeAt, childNumbers}
+use Rattle.arena.specs.Node.{node_at, child_numbers}
 use Rattle.arena.specs.Layout.{decode as nodes}
 use Rattle.arena.proofs.Children.{child-place}
 use Rattle.projection_table.proofs.table.children_project.Statement.{statement}
@@ -18,7 +18,7 @@ use Rattle.projection_table.proofs.table.children_project.Tie as tie
 
 -- the children of node e
 abbrev Children : List ℕ → ℕ → List ℕ
-Children cells e = childNumbers (nodeAt (nodes cells) e)
+Children cells e = child_numbers (node_at (nodes cells) e)
 
 -- child k has a projection, by the table
 abbrev Child : List ℕ → List ℕ → ℕ → ℕ → Bool
@@ -47,19 +47,19 @@ mul-if1 : tie.Need-overflow-mul-if1 invariant-loop decreases-loop
 mul-if1 c =
     let s = c.before.before.before.before.before in
     let n = c.before.before.before.before.child-count.ensures in
-    omega (arith, child-place s.args.cells.now s.args.e s.requires c.before.before.before.loop.k (omega arith), c.before.child-in.ensures, c.wide.ensures)
+    omega (arith, child-place s.args.cells.now s.args.e s.requires c.before.before.before.loop.k (omega arith), c.before.child_in_lem.ensures, c.wide.ensures)
 
 element-copy-out-if1 : tie.Need-element-copy-out-if1 invariant-loop decreases-loop
 element-copy-out-if1 c =
     let s = c.before.before.before.before.before in
     let n = c.before.before.before.before.child-count.ensures in
-    omega (arith, child-place s.args.cells.now s.args.e s.requires c.before.before.before.loop.k (omega arith), c.before.child-in.ensures, c.wide.ensures)
+    omega (arith, child-place s.args.cells.now s.args.e s.requires c.before.before.before.loop.k (omega arith), c.before.child_in_lem.ensures, c.wide.ensures)
 
 returns : tie.Need-returns invariant-loop decreases-loop
 returns c =
     let s = c.before.before.before.before.before.before.before.args in
     let n = c.before.before.before.before.before.before.child-count.ensures in
-    let e = c.before.before.wide.ensures ∙ c.before.before.before.child-in.ensures in
+    let e = c.before.before.wide.ensures ∙ c.before.before.before.child_in_lem.ensures in
     each-stops (Child s.cells.now s.table.now s.e) (length (Children s.cells.now s.e)) c.before.before.before.before.before.loop.k (omega arith)
     (ap (λ (i : ℕ). not (eqb (get_or s.table.now i 0) 0)) (sym e) ∙ ap not (eq-eqb _ _ c.if1.true))
 
@@ -72,7 +72,7 @@ loop-less c = search rules
 loop-again : tie.Need-loop-preserved invariant-loop decreases-loop
 loop-again c =
     let s = c.before.before.before.before.before.before.before.args in
-    let e = c.before.before.wide.ensures ∙ c.before.before.before.child-in.ensures in (
+    let e = c.before.before.wide.ensures ∙ c.before.before.before.child_in_lem.ensures in (
       search rules,
       each_more (Child s.cells.now s.table.now s.e) c.before.before.before.before.before.loop.k c.before.before.before.before.before.loop.invariant.1
           (ap (λ (i : ℕ). not (eqb (get_or s.table.now i 0) 0)) (sym e) ∙ ap not (ne_eqb _ _ c.if1.false)),

@@ -3,20 +3,20 @@ use Prim.Native.Nat.{◌-◌}
 use mathlib.Core.Path.{sym, ◌∙◌}
 use native.Mathlib.Omega.{arith}
 use borrow.Author.Rules.{rules}
-use Rattle.questions.specs.Inner.{samePlace}
+use Rattle.questions.specs.Inner.{same_place}
 use Rattle.mappings.proofs.PlaceReads.{read_below}
-use Rattle.projection_table.proofs.Sources.{Searching, target-under, searching-begins, searching-found, searching-on, searching-ends}
+use Rattle.projection_table.proofs.Sources.{Searching, target-under, searching_begins, searching_found, searching_on, searching_ends}
 use Rattle.projection_table.proofs.table.class_entry.Statement.{statement}
 use Rattle.projection_table.proofs.table.class_entry.Tie as tie
 
 abbrev invariant-loop : tie.invariant-loop
-invariant-loop places e m n i₀ i = Searching (λ s. samePlace places s e) m i
+invariant-loop places e m n i₀ i = Searching (λ s. same_place places s e) m i
 
 abbrev decreases-loop : tie.decreases-loop
 decreases-loop places e m n i₀ i = n - i
 
 loop-holds : tie.Need-loop-init invariant-loop decreases-loop
-loop-holds c = searching-begins (λ s. samePlace c.args.places.now s c.args.e) c.args.t1
+loop-holds c = searching_begins (λ s. same_place c.args.places.now s c.args.e) c.args.t1
 
 mul-one : tie.Need-overflow-mul-one invariant-loop decreases-loop
 mul-one c =
@@ -53,7 +53,7 @@ returns c =
     let s = c.before.before.before.before.before.before.before.before in
     let k = c.before.before.before.before.before.before.before.loop in
     let t = rw (c.before.before.before.before.wide.ensures, c.before.before.before.wide2.ensures) at c.before.before.same_place.ensures in
-    searching-found (λ x. samePlace s.args.places.now x s.args.e) s.args.t1 k.i k.invariant (omega arith) s.requires.0.bounded (sym t ∙ c.before.if1.true)
+    searching_found (λ x. same_place s.args.places.now x s.args.e) s.args.t1 k.i k.invariant (omega arith) s.requires.0.bounded (sym t ∙ c.before.if1.true)
 
 add-i : tie.Need-overflow-add-i invariant-loop decreases-loop
 add-i c = search rules
@@ -66,12 +66,12 @@ loop-again c =
     let s = c.before.before.before.before.before.before.before in
     let k = c.before.before.before.before.before.before.loop in
     let t = rw (c.before.before.before.wide.ensures, c.before.before.wide2.ensures) at c.before.same_place.ensures in
-    searching-on (λ x. samePlace s.args.places.now x s.args.e) s.args.t1 k.i k.invariant (omega arith) (sym t ∙ c.if1.false)
+    searching_on (λ x. same_place s.args.places.now x s.args.e) s.args.t1 k.i k.invariant (omega arith) (sym t ∙ c.if1.false)
 
 returns-2 : tie.Need-returns-2 invariant-loop decreases-loop
 returns-2 c =
     let s = c.before.before in
-    searching-ends (λ x. samePlace s.args.places.now x s.args.e) s.args.t1 c.before.loop.i c.before.loop.invariant (omega arith)
+    searching_ends (λ x. same_place s.args.places.now x s.args.e) s.args.t1 c.before.loop.i c.before.loop.invariant (omega arith)
 
 pub class-entry-spec : {M : Type 1} → statement M
 class-entry-spec =

@@ -7,7 +7,7 @@ use Rattle.arena.proofs.Layouts.{length-decode}
 use Rattle.classes.specs.Layout.{decode as classes}
 use Rattle.questions.proofs.Equality.{known-inside}
 use Rattle.mappings.specs.Layout.{Checked}
-use Rattle.projection_table.proofs.TableLaws.{says-whole, says-leaf, says-fails, says-open}
+use Rattle.projection_table.proofs.TableLaws.{says-whole, says_leaf, says_fails, says-open}
 use Rattle.projection_table.proofs.table.node_entry.Statement.{statement}
 use Rattle.projection_table.proofs.table.node_entry.Tie as tie
 
@@ -35,7 +35,7 @@ returns-2 c =
     let s = c.before.before.before.before.before.args in
     let p = c.before.before.before.before.before.requires in
     let q = rw c.before.before.before.before.narrow.ensures at c.before.before.before.whole-entry.ensures in
-    says-leaf (nodes s.cells.now) (classes s.g) s.m p.0.0.0.holds.sound s.e (known-inside s.cells.now s.e p.0.0.0) c.before.before.before.whole-entry.result q
+    says_leaf (nodes s.cells.now) (classes s.g) s.m p.0.0.0.holds.sound s.e (known-inside s.cells.now s.e p.0.0.0) c.before.before.before.whole-entry.result q
     c.before.before.if1.false (sym c.before.child-count.ensures ∙ c.if2.true)
 
 children-project-requires : tie.Need-children-project-requires
@@ -54,7 +54,7 @@ returns-4 c =
     let s = c.before.before.before.before.before.before.before.args in
     let p = c.before.before.before.before.before.before.before.requires in
     let q = rw c.before.before.before.before.before.before.narrow.ensures at c.before.before.before.before.before.whole-entry.ensures in
-    says-fails (nodes s.cells.now) (classes s.g) s.m p.0.0.0.holds.sound s.e (known-inside s.cells.now s.e p.0.0.0) c.before.before.before.before.before.whole-entry.result q
+    says_fails (nodes s.cells.now) (classes s.g) s.m p.0.0.0.holds.sound s.e (known-inside s.cells.now s.e p.0.0.0) c.before.before.before.before.before.whole-entry.result q
     c.before.before.before.before.if1.false s.table.now p.1 c.before.children-project.result c.before.children-project.ensures c.if3.false
 
 pub node-entry-spec : {M : Type 1} → statement M

@@ -4,7 +4,7 @@ use native.Mathlib.Omega.{arith}
 use borrow.Author.Tests.{eq-eqb, ne_eqb}
 use borrow.Author.Rules.{rules}
 use lib.Dec.{eqb}
-use Rattle.projection_table.proofs.Sources.{Searching, target-under, searching-begins, searching-found, searching-on, searching-ends}
+use Rattle.projection_table.proofs.Sources.{Searching, target-under, searching_begins, searching_found, searching_on, searching_ends}
 use Rattle.projection_table.proofs.table.source_entry.Statement.{statement}
 use Rattle.projection_table.proofs.table.source_entry.Tie as tie
 
@@ -15,7 +15,7 @@ abbrev decreases-loop : tie.decreases-loop
 decreases-loop e m n i₀ i = n - i
 
 loop-holds : tie.Need-loop-init invariant-loop decreases-loop
-loop-holds c = searching-begins (λ s. eqb s c.args.e) c.args.t1
+loop-holds c = searching_begins (λ s. eqb s c.args.e) c.args.t1
 
 mul-source : tie.Need-overflow-mul-source invariant-loop decreases-loop
 mul-source c =
@@ -39,7 +39,7 @@ returns : tie.Need-returns invariant-loop decreases-loop
 returns c =
     let s = c.before.before.before.before.before in
     let k = c.before.before.before.before.loop in
-    searching-found (λ x. eqb x s.args.e) s.args.t1 k.i k.invariant (omega arith) s.requires.bounded (eq-eqb _ _ c.before.if1.true)
+    searching_found (λ x. eqb x s.args.e) s.args.t1 k.i k.invariant (omega arith) s.requires.bounded (eq-eqb _ _ c.before.if1.true)
 
 add-i : tie.Need-overflow-add-i invariant-loop decreases-loop
 add-i c = search rules
@@ -51,12 +51,12 @@ loop-again : tie.Need-loop-preserved invariant-loop decreases-loop
 loop-again c =
     let s = c.before.before.before.before in
     let k = c.before.before.before.loop in
-    searching-on (λ x. eqb x s.args.e) s.args.t1 k.i k.invariant (omega arith) (ne_eqb _ _ c.if1.false)
+    searching_on (λ x. eqb x s.args.e) s.args.t1 k.i k.invariant (omega arith) (ne_eqb _ _ c.if1.false)
 
 returns-2 : tie.Need-returns-2 invariant-loop decreases-loop
 returns-2 c =
     let s = c.before.before in
-    searching-ends (λ x. eqb x s.args.e) s.args.t1 c.before.loop.i c.before.loop.invariant (omega arith)
+    searching_ends (λ x. eqb x s.args.e) s.args.t1 c.before.loop.i c.before.loop.invariant (omega arith)
 
 pub source-entry-spec : {M : Type 1} → statement M
 source-entry-spec =

@@ -4,10 +4,10 @@ use native.Mathlib.Omega.{arith}
 use borrow.Author.Tests.{eq-eqb, ne_eqb}
 use borrow.Author.Rules.{rules}
 use Rattle.arena.specs.Layout.{count, decode as nodes}
-use Rattle.classes.specs.Group.{sameClass}
+use Rattle.classes.specs.Group.{same_class}
 use Rattle.classes.specs.Layout.{decode as classes}
 use Rattle.group_checks.proofs.Checks.{literal-cell}
-use Rattle.questions.specs.Inner.{samePlace}
+use Rattle.questions.specs.Inner.{same_place}
 use Rattle.questions.proofs.PlaceNumbers.{same-placed}
 use Rattle.mappings.specs.Layout.{decode}
 use Rattle.projection_table.specs.Inner.{entry_of}
@@ -63,7 +63,7 @@ returns-3 c =
     (literal-cell s.cells.now s.e p.0.0.below ∙ ne_eqb _ _ (λ z. c.before.if2.false (kind ∙ z)))
     c.class-entry.result
     (c.class-entry.ensures
-    ∙ ap entry_of (target-same (λ x. samePlace s.places.now x s.e) (λ x. sameClass (classes s.g) x s.e) n s.m p.0.1
+    ∙ ap entry_of (target-same (λ x. same_place s.places.now x s.e) (λ x. same_class (classes s.g) x s.e) n s.m p.0.1
     (λ x b. same-placed (classes s.g) n s.places.now p.1 x s.e b p.0.0.below)))
 
 pub whole-entry-spec : {M : Type 1} → statement M

@@ -11,7 +11,7 @@ use Rattle.arena.proofs.cells.wide.Reads as wide-reads
 use Rattle.arena.proofs.reading.child_count.Reads as child-count-reads
 use Rattle.arena.proofs.reading.child_in.Reads as child-in-reads
 use Rattle.questions.specs.Inner.{AnsweredConstant, AnsweredConstants}
-use Rattle.questions.proofs.Constancy.{Passing, literal-answered, seen-answered, class-constant, leaf-constant, constants-asked, constants-answered, constants-noted, passing_begins, passing-ends, child-there, child-less, child-asked, passing-on, passing-stops}
+use Rattle.questions.proofs.Constancy.{Passing, literal-answered, seen-answered, class-constant, leaf_constant, constants-asked, constants-answered, constants-noted, passing_begins, passing-ends, child-there, child-less, child-asked, passing-on, passing-stops}
 use Rattle.questions.proofs.questions.children_constant.Reads as children-constant
 use Rattle.questions.proofs.questions.children_constant.Kinds as children-constant-kinds
 use Rattle.questions.proofs.questions.+children_constant_node_constant.Lts-children_constant as children-constant-lts
@@ -107,18 +107,18 @@ children-constant-node-constant-requires :
 children-constant-node-constant-requires t c κs =
     let s = c.before.before.before.before.before.args in
     let q = c.before.before.before.before.before.requires.1 in
-    let ex = rw c.before.before.wide.ensures at c.before.child-in.ensures in
+    let ex = rw c.before.before.wide.ensures at c.before.child_in_lem.ensures in
     let low = child-less s.cells.now s.marks.now s.seen.now s.e s.n q c.before.before.before.before.loop.seen c.before.before.before.before.loop.k c.before.before.before.before.loop.invariant c.before.before.before.loop-test.true in
-    (omega (arith, low, ex, c.before.before.before.before.before.requires.0), child-asked s.cells.now s.marks.now s.seen.now s.e s.n q c.before.before.before.before.loop.seen c.before.before.before.before.loop.k c.before.before.before.before.loop.invariant c.before.before.before.loop-test.true c.before.child-in.result ex)
+    (omega (arith, low, ex, c.before.before.before.before.before.requires.0), child-asked s.cells.now s.marks.now s.seen.now s.e s.n q c.before.before.before.before.loop.seen c.before.before.before.before.loop.k c.before.before.before.before.loop.invariant c.before.before.before.loop-test.true c.before.child_in_lem.result ex)
 
 children-constant-returns :
     (t : ℕ) → children-constant-lts.Need-returns (children-constant-callees t) (children-constant-at t) children-constant.Post children-constant-Inv-loop children-constant-μ-loop
 children-constant-returns t c =
     let s = c.before.before.before.before.before.before.before.args in
-    let ex = rw c.before.before.before.before.wide.ensures at c.before.before.before.child-in.ensures in
+    let ex = rw c.before.before.before.before.wide.ensures at c.before.before.before.child_in_lem.ensures in
     let t = c.before.node-constant.new.1.1.0 in
-    let w = subst (AnsweredConstant s.cells.now s.marks.now t c.before.before.before.child-in.result) (not-true _ c.if1.true) c.before.node-constant.ensures in
-    passing-stops s.cells.now s.marks.now s.seen.now s.e s.n c.before.before.before.before.before.before.before.requires.1 c.before.before.before.before.before.before.loop.seen c.before.before.before.before.before.before.loop.k c.before.before.before.before.before.before.loop.invariant c.before.before.before.before.before.loop-test.true c.before.before.before.child-in.result ex t w
+    let w = subst (AnsweredConstant s.cells.now s.marks.now t c.before.before.before.child_in_lem.result) (not-true _ c.if1.true) c.before.node-constant.ensures in
+    passing-stops s.cells.now s.marks.now s.seen.now s.e s.n c.before.before.before.before.before.before.before.requires.1 c.before.before.before.before.before.before.loop.seen c.before.before.before.before.before.before.loop.k c.before.before.before.before.before.before.loop.invariant c.before.before.before.before.before.loop-test.true c.before.before.before.child_in_lem.result ex t w
 
 children-constant-add-k :
     (t : ℕ) → children-constant-lts.Need-overflow-add-k (children-constant-callees t) (children-constant-at t) children-constant.Post children-constant-Inv-loop children-constant-μ-loop
@@ -132,10 +132,10 @@ children-constant-loop-again :
     (t : ℕ) → children-constant-lts.Need-loop-preserved (children-constant-callees t) (children-constant-at t) children-constant.Post children-constant-Inv-loop children-constant-μ-loop
 children-constant-loop-again t c =
     let s = c.before.before.before.before.before.before.before.args in
-    let ex = rw c.before.before.before.before.wide.ensures at c.before.before.before.child-in.ensures in
+    let ex = rw c.before.before.before.before.wide.ensures at c.before.before.before.child_in_lem.ensures in
     let t = c.before.node-constant.new.1.1.0 in
-    let w = subst (AnsweredConstant s.cells.now s.marks.now t c.before.before.before.child-in.result) (not-false _ c.if1.false) c.before.node-constant.ensures in
-    passing-on s.cells.now s.marks.now s.seen.now s.e s.n c.before.before.before.before.before.before.before.requires.1 c.before.before.before.before.before.before.loop.seen c.before.before.before.before.before.before.loop.k c.before.before.before.before.before.before.loop.invariant c.before.before.before.before.before.loop-test.true c.before.before.before.child-in.result ex t w
+    let w = subst (AnsweredConstant s.cells.now s.marks.now t c.before.before.before.child_in_lem.result) (not-false _ c.if1.false) c.before.node-constant.ensures in
+    passing-on s.cells.now s.marks.now s.seen.now s.e s.n c.before.before.before.before.before.before.before.requires.1 c.before.before.before.before.before.before.loop.seen c.before.before.before.before.before.before.loop.k c.before.before.before.before.before.before.loop.invariant c.before.before.before.before.before.loop-test.true c.before.before.before.child_in_lem.result ex t w
 
 children-constant-returns-2 :
     (t : ℕ) → children-constant-lts.Need-returns-2 (children-constant-callees t) (children-constant-at t) children-constant.Post children-constant-Inv-loop children-constant-μ-loop
@@ -193,7 +193,7 @@ node-constant-returns-4 t c =
     let s = c.before.before.before.before.before.before.before.before.before.args in
     let m = rw c.before.before.before.before.before.before.before.before.wide.ensures at c.before.before.before.before.before.before.before.cell-of.ensures in
     let n = rw c.before.before.before.before.before.before.before.before.wide.ensures at c.before.child-count.ensures in
-    leaf-constant s.cells.now s.marks.now s.seen.now s.e c.before.before.before.before.before.before.before.before.before.requires.1 (λ z. c.before.before.before.before.before.before.if1.false (m ∙ z)) (rw c.before.before.before.before.before.before.before.before.wide.ensures at c.before.before.before.before.if2.false) (sym n ∙ c.if4.true)
+    leaf_constant s.cells.now s.marks.now s.seen.now s.e c.before.before.before.before.before.before.before.before.before.requires.1 (λ z. c.before.before.before.before.before.before.if1.false (m ∙ z)) (rw c.before.before.before.before.before.before.before.before.wide.ensures at c.before.before.before.before.if2.false) (sym n ∙ c.if4.true)
 
 node-constant-children-constant-requires :
     (t : ℕ) → node-constant-lts.Need-children-constant-requires (node-constant-callees t) (node-constant-at t) node-constant.Post

@@ -10,7 +10,7 @@ use Rattle.arena.proofs.cells.wide.Reads as wide-reads
 use Rattle.arena.proofs.reading.child_count.Reads as child-count-reads
 use Rattle.arena.proofs.reading.child_in.Reads as child-in-reads
 use Rattle.questions.specs.Inner.{Answered, AnsweredAll}
-use Rattle.questions.proofs.Equality.{Going, self-answered, class-answered, pair-answered, unpaired-answered, children-asked, children-answered, children-noted, going-begins, going-ends, left_there, right_there, left-lower, pair-asked, going_on, going-stops}
+use Rattle.questions.proofs.Equality.{Going, self-answered, class-answered, pair-answered, unpaired_answered, children-asked, children-answered, children-noted, going-begins, going-ends, left_there, right_there, left-lower, pair-asked, going_on, going-stops}
 use Rattle.questions.proofs.questions.children_equal.Reads as children-equal
 use Rattle.questions.proofs.questions.children_equal.Kinds as children-equal-kinds
 use Rattle.questions.proofs.questions.+children_equal_nodes_equal.Lts-children_equal as children-equal-lts
@@ -123,20 +123,20 @@ children-equal-nodes-equal-requires :
 children-equal-nodes-equal-requires t c κs =
     let s = c.before.before.before.before.before.before.before.args in
     let q = c.before.before.before.before.before.before.before.requires.1 in
-    let ex = rw c.before.before.before.before.wide.ensures at c.before.before.before.child-in.ensures in
+    let ex = rw c.before.before.before.before.wide.ensures at c.before.before.before.child_in_lem.ensures in
     let ey = rw c.before.before.wide2.ensures at c.before.child-in2.ensures in
     let low = left-lower s.cells.now s.places.now s.seen.now s.a s.b s.n q c.before.before.before.before.before.before.loop.seen c.before.before.before.before.before.before.loop.k c.before.before.before.before.before.before.loop.invariant c.before.before.before.before.before.loop-test.true in
-    (omega (arith, low, ex, c.before.before.before.before.before.before.before.requires.0), pair-asked s.cells.now s.places.now s.seen.now s.a s.b s.n q c.before.before.before.before.before.before.loop.seen c.before.before.before.before.before.before.loop.k c.before.before.before.before.before.before.loop.invariant c.before.before.before.before.before.loop-test.true c.before.before.before.child-in.result c.before.child-in2.result ex ey)
+    (omega (arith, low, ex, c.before.before.before.before.before.before.before.requires.0), pair-asked s.cells.now s.places.now s.seen.now s.a s.b s.n q c.before.before.before.before.before.before.loop.seen c.before.before.before.before.before.before.loop.k c.before.before.before.before.before.before.loop.invariant c.before.before.before.before.before.loop-test.true c.before.before.before.child_in_lem.result c.before.child-in2.result ex ey)
 
 children-equal-returns :
     (t : ℕ) → children-equal-lts.Need-returns (children-equal-callees t) (children-equal-at t) children-equal.Post children-equal-Inv-loop children-equal-μ-loop
 children-equal-returns t c =
     let s = c.before.before.before.before.before.before.before.before.before.args in
-    let ex = rw c.before.before.before.before.before.before.wide.ensures at c.before.before.before.before.before.child-in.ensures in
+    let ex = rw c.before.before.before.before.before.before.wide.ensures at c.before.before.before.before.before.child_in_lem.ensures in
     let ey = rw c.before.before.before.before.wide2.ensures at c.before.before.before.child-in2.ensures in
     let t = c.before.nodes-equal.new.1.1.0 in
-    let w = subst (Answered s.cells.now s.places.now t c.before.before.before.before.before.child-in.result c.before.before.before.child-in2.result) (not-true _ c.if1.true) c.before.nodes-equal.ensures in
-    going-stops s.cells.now s.places.now s.seen.now s.a s.b s.n c.before.before.before.before.before.before.before.before.before.requires.1 c.before.before.before.before.before.before.before.before.loop.seen c.before.before.before.before.before.before.before.before.loop.k c.before.before.before.before.before.before.before.before.loop.invariant c.before.before.before.before.before.before.before.loop-test.true c.before.before.before.before.before.child-in.result c.before.before.before.child-in2.result ex ey t w
+    let w = subst (Answered s.cells.now s.places.now t c.before.before.before.before.before.child_in_lem.result c.before.before.before.child-in2.result) (not-true _ c.if1.true) c.before.nodes-equal.ensures in
+    going-stops s.cells.now s.places.now s.seen.now s.a s.b s.n c.before.before.before.before.before.before.before.before.before.requires.1 c.before.before.before.before.before.before.before.before.loop.seen c.before.before.before.before.before.before.before.before.loop.k c.before.before.before.before.before.before.before.before.loop.invariant c.before.before.before.before.before.before.before.loop-test.true c.before.before.before.before.before.child_in_lem.result c.before.before.before.child-in2.result ex ey t w
 
 children-equal-add-k :
     (t : ℕ) → children-equal-lts.Need-overflow-add-k (children-equal-callees t) (children-equal-at t) children-equal.Post children-equal-Inv-loop children-equal-μ-loop
@@ -150,11 +150,11 @@ children-equal-loop-again :
     (t : ℕ) → children-equal-lts.Need-loop-preserved (children-equal-callees t) (children-equal-at t) children-equal.Post children-equal-Inv-loop children-equal-μ-loop
 children-equal-loop-again t c =
     let s = c.before.before.before.before.before.before.before.before.before.args in
-    let ex = rw c.before.before.before.before.before.before.wide.ensures at c.before.before.before.before.before.child-in.ensures in
+    let ex = rw c.before.before.before.before.before.before.wide.ensures at c.before.before.before.before.before.child_in_lem.ensures in
     let ey = rw c.before.before.before.before.wide2.ensures at c.before.before.before.child-in2.ensures in
     let t = c.before.nodes-equal.new.1.1.0 in
-    let w = subst (Answered s.cells.now s.places.now t c.before.before.before.before.before.child-in.result c.before.before.before.child-in2.result) (not-false _ c.if1.false) c.before.nodes-equal.ensures in
-    going_on s.cells.now s.places.now s.seen.now s.a s.b s.n c.before.before.before.before.before.before.before.before.before.requires.1 c.before.before.before.before.before.before.before.before.loop.seen c.before.before.before.before.before.before.before.before.loop.k c.before.before.before.before.before.before.before.before.loop.invariant c.before.before.before.before.before.before.before.loop-test.true c.before.before.before.before.before.child-in.result c.before.before.before.child-in2.result ex ey t w
+    let w = subst (Answered s.cells.now s.places.now t c.before.before.before.before.before.child_in_lem.result c.before.before.before.child-in2.result) (not-false _ c.if1.false) c.before.nodes-equal.ensures in
+    going_on s.cells.now s.places.now s.seen.now s.a s.b s.n c.before.before.before.before.before.before.before.before.before.requires.1 c.before.before.before.before.before.before.before.before.loop.seen c.before.before.before.before.before.before.before.before.loop.k c.before.before.before.before.before.before.before.before.loop.invariant c.before.before.before.before.before.before.before.loop-test.true c.before.before.before.before.before.child_in_lem.result c.before.before.before.child-in2.result ex ey t w
 
 children-equal-returns-2 :
     (t : ℕ) → children-equal-lts.Need-returns-2 (children-equal-callees t) (children-equal-at t) children-equal.Post children-equal-Inv-loop children-equal-μ-loop
@@ -197,7 +197,7 @@ nodes-equal-returns-3 t c =
     let s = c.before.before.before.before.before.before.before.args in
     let p = rw (c.before.before.before.before.before.wide.ensures, c.before.before.before.before.wide2.ensures) at c.before.before.before.same_place.ensures in
     let m = rw (c.before.before.before.before.before.wide.ensures, c.before.before.before.before.wide2.ensures) at c.before.children-pair-up.ensures in
-    unpaired-answered s.cells.now s.places.now s.seen.now s.a s.b c.before.before.before.before.before.before.before.requires.1 c.before.before.before.before.before.before.if1.false (sym p ∙ c.before.before.if2.false) (sym m ∙ not-true _ c.if3.true)
+    unpaired_answered s.cells.now s.places.now s.seen.now s.a s.b c.before.before.before.before.before.before.before.requires.1 c.before.before.before.before.before.before.if1.false (sym p ∙ c.before.before.if2.false) (sym m ∙ not-true _ c.if3.true)
 
 nodes-equal-has-pair-requires :
     (t : ℕ) → nodes-equal-lts.Need-has-pair-requires (nodes-equal-callees t) (nodes-equal-at t) nodes-equal.Post

@@ -4,7 +4,7 @@ use native.Mathlib.Omega.{arith}
 use borrow.Author.Rules.{rules}
 use Rattle.arena.specs.Layout.{cell_of, decode as nodes}
 use Rattle.classes.specs.Layout.{decode}
-use Rattle.questions.proofs.Constancy.{fresh-constant, literal-mark, class-mark, walk-yes, walk_no}
+use Rattle.questions.proofs.Constancy.{fresh-constant, literal-mark, class-mark, walk_yes, walk_no}
 use Rattle.questions.proofs.questions.constant_in.Statement.{statement}
 use Rattle.questions.proofs.questions.constant_in.Tie as tie
 
@@ -48,7 +48,7 @@ returns-3 : tie.Need-returns-3
 returns-3 c =
     let s = c.before.before.before.before.before.before.before.before.before.before.before.before.args in
     let m = rw c.before.before.before.before.before.before.before.before.before.before.before.wide.ensures at c.before.before.before.before.before.before.before.before.before.before.cell-of.ensures in
-    walk-yes s.cells.now (decode s.g) s.e c.before.before.before.before.before.before.before.before.before.before.before.before.requires.0 (λ z. c.before.before.before.before.before.before.before.before.before.if1.false (m ∙ z)) c.before.before.before.before.before.before.before.before.class-mark.result c.before.before.before.before.before.before.before.before.class-mark.ensures c.before.before.before.before.before.before.if2.false c.before.before.before.before.class-marks.result (rw c.before.before.before.before.before.node-count.ensures at c.before.before.before.before.class-marks.ensures) (sym c.if3.true ∙ c.before.node-constant.ensures.is)
+    walk_yes s.cells.now (decode s.g) s.e c.before.before.before.before.before.before.before.before.before.before.before.before.requires.0 (λ z. c.before.before.before.before.before.before.before.before.before.if1.false (m ∙ z)) c.before.before.before.before.before.before.before.before.class-mark.result c.before.before.before.before.before.before.before.before.class-mark.ensures c.before.before.before.before.before.before.if2.false c.before.before.before.before.class-marks.result (rw c.before.before.before.before.before.node-count.ensures at c.before.before.before.before.class-marks.ensures) (sym c.if3.true ∙ c.before.node-constant.ensures.is)
 
 returns-4 : tie.Need-returns-4
 returns-4 c =

@@ -1,7 +1,7 @@
 -- `questions::questions::has_pair` meets its contract.
 use mathlib.Core.Path.{refl}
 use borrow.Author.Rules.{rules}
-use Rattle.questions.specs.Inner.{toldPair}
+use Rattle.questions.specs.Inner.{told_pair}
 use Rattle.questions.proofs.questions.has_pair.Statement.{statement}
 use Rattle.questions.proofs.questions.has_pair.Tie as tie
 
@@ -21,7 +21,7 @@ shr-result : tie.Need-overflow-shr-result
 shr-result c = search rules
 
 returns : tie.Need-returns
-unfolding toldPair
+unfolding told_pair
 returns c = refl
 
 pub has-pair-spec : {M : Type 1} → statement M

@@ -1,7 +1,7 @@
 -- `questions::questions::same_place` meets its contract.
 use borrow.Author.Tests.{eq-eqb, ne_eqb}
 use borrow.Author.Rules.{rules}
-use Rattle.questions.specs.Inner.{samePlace}
+use Rattle.questions.specs.Inner.{same_place}
 use Rattle.questions.proofs.questions.same_place.Statement.{statement}
 use Rattle.questions.proofs.questions.same_place.Tie as tie
 
@@ -12,7 +12,7 @@ element-copy-out-i : tie.Need-element-copy-out-i
 element-copy-out-i c = search rules
 
 returns : tie.Need-returns
-unfolding samePlace
+unfolding same_place
 returns c = rw (eq-eqb _ _ c.if1.true)
 
 mul-result : tie.Need-overflow-mul-result
@@ -22,7 +22,7 @@ element-copy-out-result : tie.Need-element-copy-out-result
 element-copy-out-result c = search rules
 
 returns-2 : tie.Need-returns-2
-unfolding samePlace
+unfolding same_place
 returns-2 c = rw (ne_eqb _ _ c.before.if1.false)
 
 pub same-place-spec : {M : Type 1} → statement M

@@ -1,5 +1,5 @@
 -- `records::fields::wide_field` meets its contract.
-use Rattle.records.specs.Fields.{wideField}
+use Rattle.records.specs.Fields.{wide_field}
 use borrow.Author.Rules.{rules}
 use Rattle.records.proofs.fields.wide_field.Statement.{statement}
 use Rattle.records.proofs.fields.wide_field.Tie as tie
@@ -21,7 +21,7 @@ wide-pair-requires : tie.Need-wide-pair-requires
 wide-pair-requires c κs = search rules
 
 returns : tie.Need-returns
-unfolding wideField
+unfolding wide_field
 returns c = search rules
 
 pub wide-field-spec : {M : Type 1} → statement M

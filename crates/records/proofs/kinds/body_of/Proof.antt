@@ -3,8 +3,8 @@ use Prim.Native.Nat.{◌+◌, ◌-◌}
 use mathlib.Core.Path.{◌≡◌}
 use native.Mathlib.Omega.{arith}
 use Rattle.records.specs.Fields.{field}
-use Rattle.records.specs.Record.{bodyOf}
-use Rattle.records.proofs.Headers.{field_below, whole-header, whole-body}
+use Rattle.records.specs.Record.{body_of}
+use Rattle.records.proofs.Headers.{field_below, whole-header, whole_body}
 use borrow.Author.Rules.{rules}
 use Rattle.records.proofs.kinds.body_of.Statement.{statement}
 use Rattle.records.proofs.kinds.body_of.Tie as tie
@@ -25,10 +25,10 @@ part-result-start c = search rules
 
 part-result-end : tie.Need-slice-bounds-result-end
 part-result-end c =
-    omega (arith, c.body-length.ensures, whole-body c.before.before.args.bytes.now c.before.before.requires)
+    omega (arith, c.body-length.ensures, whole_body c.before.before.args.bytes.now c.before.before.requires)
 
 returns : tie.Need-returns
-unfolding bodyOf
+unfolding body_of
 returns c =
     let e : 4 + c.before.body-length.result - 4 ≡ field c.before.before.before.args.bytes.now 0 = omega (arith, c.before.body-length.ensures) in rw e
 

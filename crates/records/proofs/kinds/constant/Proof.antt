@@ -1,13 +1,13 @@
 -- `records::kinds::constant` meets its contract.
 use borrow.Author.Tests.{eq-eqb, ne_eqb}
 use lib.ListN.{length}
-use Rattle.records.specs.Record.{constantIn, item_of}
+use Rattle.records.specs.Record.{constant_in, item_of}
 use borrow.Author.Rules.{rules}
 use Rattle.records.proofs.kinds.constant.Statement.{statement}
 use Rattle.records.proofs.kinds.constant.Tie as tie
 
 returns : tie.Need-returns
-unfolding constantIn item_of
+unfolding constant_in item_of
 returns c =
     rw (ne_eqb (length c.before.before.args.body.now) 8 c.if1.true)
 
@@ -21,7 +21,7 @@ wide-field-requires : tie.Need-wide-field-requires
 wide-field-requires c κs = search rules
 
 returns-2 : tie.Need-returns-2
-unfolding constantIn item_of
+unfolding constant_in item_of
 returns-2 c =
     rw (eq-eqb (length c.before.before.before.before.before.args.body.now) 8 c.before.before.before.if1.false, c.before.before.field.ensures, c.before.field2.ensures, c.wide-field.ensures)
 

@@ -1,13 +1,13 @@
 -- `records::kinds::equal_pair` meets its contract.
 use borrow.Author.Tests.{eq-eqb, ne_eqb}
 use lib.ListN.{length}
-use Rattle.records.specs.Record.{equalPairIn, item_of}
+use Rattle.records.specs.Record.{equal_pair_in, item_of}
 use borrow.Author.Rules.{rules}
 use Rattle.records.proofs.kinds.equal_pair.Statement.{statement}
 use Rattle.records.proofs.kinds.equal_pair.Tie as tie
 
 returns : tie.Need-returns
-unfolding equalPairIn item_of
+unfolding equal_pair_in item_of
 returns c =
     rw (ne_eqb (length c.before.before.args.body.now) 4 c.if1.true)
 
@@ -18,7 +18,7 @@ field-requires-2 : tie.Need-field-requires-2
 field-requires-2 c κs = search rules
 
 returns-2 : tie.Need-returns-2
-unfolding equalPairIn item_of
+unfolding equal_pair_in item_of
 returns-2 c =
     rw (eq-eqb (length c.before.before.before.before.args.body.now) 4 c.before.before.if1.false, c.before.field.ensures, c.field2.ensures)
 

@@ -3,9 +3,9 @@ use mathlib.Core.Path.{sym, ◌∙◌}
 use borrow.Author.Tests.{not-true, not-false}
 use native.Mathlib.Omega.{arith}
 use lib.Seq.{length-take-le}
-use Rattle.records.specs.Record.{recordSize}
-use Rattle.records.specs.Chosen.{groupPart}
-use Rattle.records.proofs.Headers.{field_below, whole-header, whole-body}
+use Rattle.records.specs.Record.{record_size}
+use Rattle.records.specs.Chosen.{group_part}
+use Rattle.records.proofs.Headers.{field_below, whole-header, whole_body}
 use Rattle.records.proofs.Choices.{group-whole}
 use borrow.Author.Rules.{rules}
 use Rattle.records.proofs.kinds.group_part.Statement.{statement}
@@ -18,7 +18,7 @@ slice-aggregate-result : tie.Need-slice-aggregate-result
 slice-aggregate-result c = search rules
 
 returns : tie.Need-returns
-unfolding groupPart
+unfolding group_part
 returns c =
     rw (sym c.before.before.is-group-record.ensures ∙ not-true _ c.before.if1.true)
 
@@ -32,10 +32,10 @@ add-size c =
 
 slice-aggregate-result-2 : tie.Need-slice-aggregate-result-2
 slice-aggregate-result-2 c =
-    sym (length-take-le _ c.before.before.before.before.before.args.bytes.now (omega (arith, c.before.body-length.ensures, whole-body c.before.before.before.before.before.args.bytes.now (group-whole c.before.before.before.before.before.args.bytes.now (sym c.before.before.before.is-group-record.ensures ∙ not-false _ c.before.before.if1.false)))))
+    sym (length-take-le _ c.before.before.before.before.before.args.bytes.now (omega (arith, c.before.body-length.ensures, whole_body c.before.before.before.before.before.args.bytes.now (group-whole c.before.before.before.before.before.args.bytes.now (sym c.before.before.before.is-group-record.ensures ∙ not-false _ c.before.before.if1.false)))))
 
 returns-2 : tie.Need-returns-2
-unfolding groupPart recordSize
+unfolding group_part record_size
 returns-2 c =
     rw (sym c.before.before.before.is-group-record.ensures ∙ not-false _ c.before.before.if1.false, c.before.body-length.ensures)
 

@@ -1,7 +1,7 @@
 -- `records::kinds::read_kind` meets its contract.
 use native.Mathlib.Omega.{arith}
 use Rattle.records.specs.Record.{item_of}
-use Rattle.records.proofs.KindView.{kind-column, kind-literal, kind-operation, kind-equal-pair, kind-constant, kind-normal-form, kind-equality, kind-ordering, kind-none, kind-zero}
+use Rattle.records.proofs.KindView.{kind-column, kind-literal, kind-operation, kind-equal_pair, kind-constant, kind-normal_form, kind-equality, kind-ordering, kind-none, kind-zero}
 use borrow.Author.Rules.{rules}
 use Rattle.records.proofs.kinds.read_kind.Statement.{statement}
 use Rattle.records.proofs.kinds.read_kind.Tie as tie
@@ -44,7 +44,7 @@ returns-3 c =
 
 returns-4 : tie.Need-returns-4
 returns-4 c =
-    rw (kind-equal-pair c.before.before.before.args.kind c.before.before.before.args.body.now (omega arith)) c.equal-pair.ensures
+    rw (kind-equal_pair c.before.before.before.args.kind c.before.before.before.args.body.now (omega arith)) c.equal-pair.ensures
 
 returns-5 : tie.Need-returns-5
 returns-5 c =
@@ -52,7 +52,7 @@ returns-5 c =
 
 returns-6 : tie.Need-returns-6
 returns-6 c =
-    rw (kind-normal-form c.before.before.before.args.kind c.before.before.before.args.body.now (omega arith)) c.normal-form.ensures
+    rw (kind-normal_form c.before.before.before.args.kind c.before.before.before.args.body.now (omega arith)) c.normal-form.ensures
 
 returns-7 : tie.Need-returns-7
 returns-7 c =

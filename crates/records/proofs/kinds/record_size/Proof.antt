@@ -2,7 +2,7 @@
 use Prim.Native.Nat.{ℕ, ◌+◌}
 use mathlib.Core.Path.{ap}
 use native.Mathlib.Omega.{arith}
-use Rattle.records.specs.Record.{recordSize}
+use Rattle.records.specs.Record.{record_size}
 use Rattle.records.proofs.Headers.{field_below}
 use borrow.Author.Rules.{rules}
 use Rattle.records.proofs.kinds.record_size.Statement.{statement}
@@ -16,7 +16,7 @@ add-result c =
     omega (arith, c.body-length.ensures, field_below c.before.before.args.bytes.now 0 (omega (arith, c.before.shared-slice-known.given 0)) (omega (arith, c.before.shared-slice-known.given 1)))
 
 returns : tie.Need-returns
-unfolding recordSize
+unfolding record_size
 returns c =
     ap (λ (n : ℕ). 4 + n) c.body-length.ensures
 

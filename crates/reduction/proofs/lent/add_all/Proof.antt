@@ -4,7 +4,7 @@ use mathlib.Core.Path.{◌≡◌}
 use borrow.Author.Rules.{rules}
 use lib.ListN.{length}
 use Rattle.orderings.specs.Ordering.{built}
-use Rattle.reduction.specs.Lent.{keysLent}
+use Rattle.reduction.specs.Lent.{keys_lent}
 use Rattle.reduction.proofs.Adding.{added, Adding, adding-begins, adding-keys, adding-on, adding-stops, adding-ends}
 use Rattle.reduction.proofs.lent.add_all.Statement.{statement}
 use Rattle.reduction.proofs.lent.add_all.Tie as tie
@@ -41,7 +41,7 @@ returns c =
     let ns = s.args.numbers.now in
     let r = c.before.before.add-one in
     let b = c.before.before.before.build in
-    let w = added l.list (built (keysLent ns l.at)) l.invariant.1.short b.result b.ensures r.result r.ensures in
+    let w = added l.list (built (keys_lent ns l.at)) l.invariant.1.short b.result b.ensures r.result r.ensures in
     adding-stops s.args.g ns l.at l.list l.invariant.1 (search rules) w c.if1.true
 
 number-at-requires : tie.Need-number-at-requires invariant-loop decreases-loop
@@ -66,7 +66,7 @@ loop-again c =
     let ns = s.args.numbers.now in
     let r = c.before.before.before.before.add-one in
     let b = c.before.before.before.before.before.build in
-    let w = added l.list (built (keysLent ns l.at)) l.invariant.1.short b.result b.ensures r.result r.ensures in
+    let w = added l.list (built (keys_lent ns l.at)) l.invariant.1.short b.result b.ensures r.result r.ensures in
     (l.invariant.0, adding-on s.args.g ns l.at l.list l.invariant.1 (search rules) c.number_at.result c.number_at.ensures.0 w c.before.before.if1.false)
 
 returns-2 : tie.Need-returns-2 invariant-loop decreases-loop

@@ -6,7 +6,7 @@ use native.Mathlib.Omega.{arith}
 use borrow.Author.Rules.{rules}
 use borrow.Author.Tests.{not-true, not-false}
 use Rattle.orderings.specs.Ordering.{built}
-use Rattle.reduction.specs.Lent.{keyCount, keysLent}
+use Rattle.reduction.specs.Lent.{key_count, keys_lent}
 use Rattle.orderings.specs.Layout.{keys_of}
 use Rattle.orderings.specs.Inner.{Extending}
 use Rattle.orderings.proofs.Codec.{keys-row}
@@ -21,7 +21,7 @@ use Rattle.orderings.proofs.pushing.push.Reads as push-reads
 use Rattle.orderings.proofs.making.nothing.Reads as nothing-reads
 
 abbrev invariant-loop : tie.invariant-loop
-invariant-loop numbers at n out₀ k₀ out k = (n ≡ keyCount numbers at) × Extending [] (keysLent numbers at) k out
+invariant-loop numbers at n out₀ k₀ out k = (n ≡ key_count numbers at) × Extending [] (keys_lent numbers at) k out
 
 abbrev decreases-loop : tie.decreases-loop
 decreases-loop numbers at n out₀ k₀ out k = n - k
@@ -35,7 +35,7 @@ nothing-requires c κs = search rules
 loop-holds : tie.Need-loop-init invariant-loop decreases-loop
 loop-holds c =
     let x = c.before.before.before.args in
-    (c.before.number_at.ensures.0, extending-begins [] (keysLent x.numbers.now x.at) c.nothing.result (ap keys_of c.nothing.ensures ∙ keys-row []) (rw c.nothing.ensures (row-short [] (omega arith))))
+    (c.before.number_at.ensures.0, extending-begins [] (keys_lent x.numbers.now x.at) c.nothing.result (ap keys_of c.nothing.ensures ∙ keys-row []) (rw c.nothing.ensures (row-short [] (omega arith))))
 
 add-number-at : tie.Need-overflow-add-number-at invariant-loop decreases-loop
 add-number-at c = let b = c.before.before.before.before.before.requires.there in search rules
@@ -73,7 +73,7 @@ cast-push c =
     let l = c.before.before.before.loop in
     let ns = s.args.numbers.now in
     let at = s.args.at in
-    let b : l.k < keyCount ns at = omega (arith, l.invariant.0, c.before.before.loop-test.true) in
+    let b : l.k < key_count ns at = omega (arith, l.invariant.0, c.before.before.loop-test.true) in
     let f = c.before.number-at2.ensures.0 in
     let h = c.number-at3.ensures.0 in
     let u = s.requires.exprs l.k b in
@@ -90,11 +90,11 @@ returns c =
     let l = c.before.before.before.before.before.before.loop in
     let ns = s.args.numbers.now in
     let at = s.args.at in
-    let b : l.k < keyCount ns at = omega (arith, l.invariant.0, c.before.before.before.before.before.loop-test.true) in
+    let b : l.k < key_count ns at = omega (arith, l.invariant.0, c.before.before.before.before.before.loop-test.true) in
     let f = c.before.before.before.before.number-at2.ensures.0 in
     let h = c.before.before.before.number-at3.ensures.0 in
     let e = c.before.before.push in
-    extending-stops [] (keysLent ns at) l.k l.out l.invariant.1 e.result (c.before.before.before.before.number-at2.result * 4 + c.before.before.before.number-at3.result) (omega (arith, length-keys ns at)) (omega (arith, key-lent ns at l.k b)) e.ensures (not-true e.result.fits c.if1.true)
+    extending-stops [] (keys_lent ns at) l.k l.out l.invariant.1 e.result (c.before.before.before.before.number-at2.result * 4 + c.before.before.before.number-at3.result) (omega (arith, length-keys ns at)) (omega (arith, key-lent ns at l.k b)) e.ensures (not-true e.result.fits c.if1.true)
 
 add-k : tie.Need-overflow-add-k invariant-loop decreases-loop
 add-k c = search rules
@@ -108,11 +108,11 @@ loop-again c =
     let l = c.before.before.before.before.before.before.before.loop in
     let ns = s.args.numbers.now in
     let at = s.args.at in
-    let b : l.k < keyCount ns at = omega (arith, l.invariant.0, c.before.before.before.before.before.before.loop-test.true) in
+    let b : l.k < key_count ns at = omega (arith, l.invariant.0, c.before.before.before.before.before.before.loop-test.true) in
     let f = c.before.before.before.before.before.number-at2.ensures.0 in
     let h = c.before.before.before.before.number-at3.ensures.0 in
     let e = c.before.before.before.push in
-    (l.invariant.0, extending-on [] (keysLent ns at) l.k l.out l.invariant.1 e.result (c.before.before.before.before.before.number-at2.result * 4 + c.before.before.before.before.number-at3.result) (omega (arith, length-keys ns at)) (omega (arith, key-lent ns at l.k b)) e.ensures (not-false e.result.fits c.before.if1.false))
+    (l.invariant.0, extending-on [] (keys_lent ns at) l.k l.out l.invariant.1 e.result (c.before.before.before.before.before.number-at2.result * 4 + c.before.before.before.before.number-at3.result) (omega (arith, length-keys ns at)) (omega (arith, key-lent ns at l.k b)) e.ensures (not-false e.result.fits c.before.if1.false))
 
 returns-2 : tie.Need-returns-2 invariant-loop decreases-loop
 unfolding built
@@ -121,7 +121,7 @@ returns-2 c =
     let l = c.before.loop in
     let ns = s.args.numbers.now in
     let at = s.args.at in
-    extending-ends [] (keysLent ns at) l.k l.out l.invariant.1 (omega (arith, length-keys ns at, l.invariant.0, c.loop-test.false))
+    extending-ends [] (keys_lent ns at) l.k l.out l.invariant.1 (omega (arith, length-keys ns at, l.invariant.0, c.loop-test.false))
 
 pub build-spec : {M : Type 1} → statement M
 build-spec =

@@ -7,13 +7,13 @@ use borrow.Author.Rules.{rules}
 use borrow.Author.Tests.{lt-ltb, le-ltb}
 use Rattle.laws.specs.Tests.{each}
 use Rattle.laws.proofs.Each.{each_none, each_more, each-stops, each-ends}
-use Rattle.reduction.specs.Lent.{keyCount, exprLent}
+use Rattle.reduction.specs.Lent.{key_count, expr_lent}
 use Rattle.reduction.proofs.LentLaws.{ExprOk}
 use Rattle.reduction.proofs.lent.exprs_at.Statement.{statement}
 use Rattle.reduction.proofs.lent.exprs_at.Tie as tie
 
 abbrev invariant-loop : tie.invariant-loop
-invariant-loop numbers at n m k₀ k = (k ≤ m) × ((m ≡ keyCount numbers at) × (each (ExprOk n numbers at) k ≡ true))
+invariant-loop numbers at n m k₀ k = (k ≤ m) × ((m ≡ key_count numbers at) × (each (ExprOk n numbers at) k ≡ true))
 
 abbrev decreases-loop : tie.decreases-loop
 decreases-loop numbers at n m k₀ k = m - k
@@ -40,8 +40,8 @@ returns : tie.Need-returns invariant-loop decreases-loop
 returns c =
     let x = c.before.before.before.before.before.before.args in
     let l = c.before.before.before.loop in
-    each-stops (ExprOk x.n x.numbers.now x.at) (keyCount x.numbers.now x.at) l.k (search rules)
-    (le-ltb (exprLent x.numbers.now x.at l.k) x.n (omega (arith, c.before.number-at2.ensures.0, c.if1.true)))
+    each-stops (ExprOk x.n x.numbers.now x.at) (key_count x.numbers.now x.at) l.k (search rules)
+    (le-ltb (expr_lent x.numbers.now x.at l.k) x.n (omega (arith, c.before.number-at2.ensures.0, c.if1.true)))
 
 add-k : tie.Need-overflow-add-k invariant-loop decreases-loop
 add-k c = search rules
@@ -57,7 +57,7 @@ loop-again c =
       (
         search rules,
         each_more (ExprOk x.n x.numbers.now x.at) l.k l.invariant.1.1
-            (lt-ltb (exprLent x.numbers.now x.at l.k) x.n (omega (arith, c.before.number-at2.ensures.0, c.if1.false))),
+            (lt-ltb (expr_lent x.numbers.now x.at l.k) x.n (omega (arith, c.before.number-at2.ensures.0, c.if1.false))),
       ),
     )
 
@@ -65,7 +65,7 @@ returns-2 : tie.Need-returns-2 invariant-loop decreases-loop
 returns-2 c =
     let x = c.before.before.before.before.args in
     let l = c.before.loop in
-    each-ends (ExprOk x.n x.numbers.now x.at) (keyCount x.numbers.now x.at) l.k (search rules) (search rules) l.invariant.1.1
+    each-ends (ExprOk x.n x.numbers.now x.at) (key_count x.numbers.now x.at) l.k (search rules) (search rules) l.invariant.1.1
 
 pub exprs-at-spec : {M : Type 1} → statement M
 exprs-at-spec =

@@ -4,7 +4,7 @@ use mathlib.Core.Path.{◌≡◌, sym, ◌∙◌}
 use borrow.Author.Rules.{rules}
 use borrow.Author.Tests.{not-true, not-false}
 use lib.ListN.{length}
-use Rattle.reduction.specs.Lent.{exprsInside}
+use Rattle.reduction.specs.Lent.{exprs_inside}
 use Rattle.reduction.proofs.LentLaws.{ExprsAt, Going, going-begins, going_on, going-stops, going-ends}
 use Rattle.reduction.proofs.lent.exprs_inside.Statement.{statement}
 use Rattle.reduction.proofs.lent.exprs_inside.Tie as tie
@@ -22,7 +22,7 @@ exprs-at-requires : tie.Need-exprs-at-requires invariant-loop decreases-loop
 exprs-at-requires c κs = search rules
 
 returns : tie.Need-returns invariant-loop decreases-loop
-unfolding exprsInside
+unfolding exprs_inside
 returns c =
     let x = c.before.before.before.before.before.args in
     let ns = x.numbers.now in
@@ -52,7 +52,7 @@ loop-again c =
     (search rules, going_on (ExprsAt x.n ns) ns l.at c.number_at.result (search rules) c.number_at.ensures.0 l.invariant.1 (sym c.before.before.exprs-at.ensures ∙ not-false _ c.before.if1.false))
 
 returns-2 : tie.Need-returns-2 invariant-loop decreases-loop
-unfolding exprsInside
+unfolding exprs_inside
 returns-2 c =
     let x = c.before.before.before.args in
     let ns = x.numbers.now in

@@ -2,7 +2,7 @@
 use mathlib.Core.Path.{sym, ◌∙◌}
 use borrow.Author.Rules.{rules}
 use borrow.Author.Tests.{not-true, not-false}
-use Rattle.reduction.proofs.LentLaws.{extend-12, extend-11, extend-fails, extend-holds}
+use Rattle.reduction.proofs.LentLaws.{extend-12, extend-11, extend_fails, extend-holds}
 use Rattle.reduction.proofs.lent.extend_number.Statement.{statement}
 use Rattle.reduction.proofs.lent.extend_number.Tie as tie
 
@@ -25,7 +25,7 @@ orderings-lent-requires c κs = search rules
 returns-3 : tie.Need-returns-3
 returns-3 c =
     let x = c.before.before.before.before.before.before.args in
-    extend-fails x.cells.now x.g x.numbers.now (λ z. c.before.before.before.if1.false (c.before.before.before.before.lent-number.ensures ∙ z)) (sym c.before.orderings-lent.ensures ∙ not-true _ c.if3.true)
+    extend_fails x.cells.now x.g x.numbers.now (λ z. c.before.before.before.if1.false (c.before.before.before.before.lent-number.ensures ∙ z)) (sym c.before.orderings-lent.ensures ∙ not-true _ c.if3.true)
 
 returns-4 : tie.Need-returns-4
 returns-4 c =

@@ -6,13 +6,13 @@ use borrow.Author.Rules.{rules}
 use borrow.Author.Tests.{eq-eqb, ne_eqb}
 use Rattle.laws.specs.Tests.{each}
 use Rattle.laws.proofs.Each.{each_none, each_more, each-stops, each-ends}
-use Rattle.reduction.specs.Lent.{exprLent, freshLent}
+use Rattle.reduction.specs.Lent.{expr_lent, fresh_lent}
 use Rattle.reduction.proofs.LentLaws.{Unlike}
 use Rattle.reduction.proofs.lent.fresh_lent.Statement.{statement}
 use Rattle.reduction.proofs.lent.fresh_lent.Tie as tie
 
 abbrev invariant-loop : tie.invariant-loop
-invariant-loop numbers at k e i₀ i = (i ≤ k) × ((e ≡ exprLent numbers at k) × (each (Unlike numbers at k) i ≡ true))
+invariant-loop numbers at k e i₀ i = (i ≤ k) × ((e ≡ expr_lent numbers at k) × (each (Unlike numbers at k) i ≡ true))
 
 abbrev decreases-loop : tie.decreases-loop
 decreases-loop numbers at k e i₀ i = k - i
@@ -45,12 +45,12 @@ number-at-requires-2 : tie.Need-number-at-requires-2 invariant-loop decreases-lo
 number-at-requires-2 c κs = search rules
 
 returns : tie.Need-returns invariant-loop decreases-loop
-unfolding freshLent
+unfolding fresh_lent
 returns c =
     let x = c.before.before.before.before.before.before.args in
     let l = c.before.before.before.loop in
     each-stops (Unlike x.numbers.now x.at x.k) x.k l.i (search rules)
-    (rw (eq-eqb (exprLent x.numbers.now x.at l.i) (exprLent x.numbers.now x.at x.k) (sym c.before.number-at2.ensures.0 ∙ c.if1.true ∙ l.invariant.1.0)))
+    (rw (eq-eqb (expr_lent x.numbers.now x.at l.i) (expr_lent x.numbers.now x.at x.k) (sym c.before.number-at2.ensures.0 ∙ c.if1.true ∙ l.invariant.1.0)))
 
 add-i : tie.Need-overflow-add-i invariant-loop decreases-loop
 add-i c = search rules
@@ -66,12 +66,12 @@ loop-again c =
       (
         search rules,
         each_more (Unlike x.numbers.now x.at x.k) l.i l.invariant.1.1
-            (rw (ne_eqb (exprLent x.numbers.now x.at l.i) (exprLent x.numbers.now x.at x.k) (λ q. c.if1.false (c.before.number-at2.ensures.0 ∙ q ∙ sym l.invariant.1.0)))),
+            (rw (ne_eqb (expr_lent x.numbers.now x.at l.i) (expr_lent x.numbers.now x.at x.k) (λ q. c.if1.false (c.before.number-at2.ensures.0 ∙ q ∙ sym l.invariant.1.0)))),
       ),
     )
 
 returns-2 : tie.Need-returns-2 invariant-loop decreases-loop
-unfolding freshLent
+unfolding fresh_lent
 returns-2 c =
     let x = c.before.before.before.before.args in
     let l = c.before.loop in

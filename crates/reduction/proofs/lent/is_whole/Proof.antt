@@ -5,7 +5,7 @@ use native.Mathlib.Omega.{arith}
 use borrow.Author.Rules.{rules}
 use borrow.Author.Tests.{le-leb, lt-leb}
 use lib.ListN.{length}
-use Rattle.reduction.specs.Lent.{nextList, whole}
+use Rattle.reduction.specs.Lent.{next_list, whole}
 use Rattle.reduction.proofs.LentLaws.{WholeAt, Going, going-begins, going_on, going-stops, going-ends}
 use Rattle.reduction.proofs.lent.is_whole.Statement.{statement}
 use Rattle.reduction.proofs.lent.is_whole.Tie as tie
@@ -32,23 +32,23 @@ add-at-2 : tie.Need-overflow-add-at-2 invariant-loop decreases-loop
 add-at-2 c = search rules
 
 returns : tie.Need-returns invariant-loop decreases-loop
-unfolding whole nextList
+unfolding whole next_list
 returns c =
     let ns = c.before.before.before.before.before.args.numbers.now in
     let l = c.before.before.before.loop in
-    going-stops (WholeAt ns) ns l.at (search rules) l.invariant.1 (lt-leb (nextList ns l.at) (length ns) (omega (arith, c.before.number_at.ensures.0, c.if1.true, l.invariant.0)))
+    going-stops (WholeAt ns) ns l.at (search rules) l.invariant.1 (lt-leb (next_list ns l.at) (length ns) (omega (arith, c.before.number_at.ensures.0, c.if1.true, l.invariant.0)))
 
 loop-less : tie.Need-loop-smaller invariant-loop decreases-loop
 loop-less c = search rules
 
 loop-again : tie.Need-loop-preserved invariant-loop decreases-loop
-unfolding nextList
+unfolding next_list
 loop-again c =
     let ns = c.before.before.before.before.before.args.numbers.now in
     let l = c.before.before.before.loop in (
       search rules,
       going_on (WholeAt ns) ns l.at c.before.number_at.result (search rules) c.before.number_at.ensures.0 l.invariant.1
-          (le-leb (nextList ns l.at) (length ns) (omega (arith, c.before.number_at.ensures.0, c.if1.false, l.invariant.0))),
+          (le-leb (next_list ns l.at) (length ns) (omega (arith, c.before.number_at.ensures.0, c.if1.false, l.invariant.0))),
     )
 
 returns-2 : tie.Need-returns-2 invariant-loop decreases-loop

@@ -6,13 +6,13 @@ use borrow.Author.Rules.{rules}
 use borrow.Author.Tests.{not-true, not-false}
 use Rattle.laws.specs.Tests.{each}
 use Rattle.laws.proofs.Each.{each_none, each_more, each-stops, each-ends}
-use Rattle.reduction.specs.Lent.{keyCount}
+use Rattle.reduction.specs.Lent.{key_count}
 use Rattle.reduction.proofs.LentLaws.{FreshAt}
 use Rattle.reduction.proofs.lent.none_twice.Statement.{statement}
 use Rattle.reduction.proofs.lent.none_twice.Tie as tie
 
 abbrev invariant-loop : tie.invariant-loop
-invariant-loop numbers at n k₀ k = (k ≤ n) × ((n ≡ keyCount numbers at) × (each (FreshAt numbers at) k ≡ true))
+invariant-loop numbers at n k₀ k = (k ≤ n) × ((n ≡ key_count numbers at) × (each (FreshAt numbers at) k ≡ true))
 
 abbrev decreases-loop : tie.decreases-loop
 decreases-loop numbers at n k₀ k = n - k
@@ -30,7 +30,7 @@ returns : tie.Need-returns invariant-loop decreases-loop
 returns c =
     let x = c.before.before.before.before.before.before.args in
     let l = c.before.before.before.loop in
-    each-stops (FreshAt x.numbers.now x.at) (keyCount x.numbers.now x.at) l.k (search rules)
+    each-stops (FreshAt x.numbers.now x.at) (key_count x.numbers.now x.at) l.k (search rules)
     (sym c.before.fresh-lent.ensures ∙ not-true _ c.if1.true)
 
 add-k : tie.Need-overflow-add-k invariant-loop decreases-loop
@@ -55,7 +55,7 @@ returns-2 : tie.Need-returns-2 invariant-loop decreases-loop
 returns-2 c =
     let x = c.before.before.before.before.args in
     let l = c.before.loop in
-    each-ends (FreshAt x.numbers.now x.at) (keyCount x.numbers.now x.at) l.k (search rules) (search rules) l.invariant.1.1
+    each-ends (FreshAt x.numbers.now x.at) (key_count x.numbers.now x.at) l.k (search rules) (search rules) l.invariant.1.1
 
 pub none-twice-spec : {M : Type 1} → statement M
 none-twice-spec =

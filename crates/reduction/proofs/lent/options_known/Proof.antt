@@ -4,7 +4,7 @@ use mathlib.Core.Path.{◌≡◌, sym, ◌∙◌}
 use borrow.Author.Rules.{rules}
 use borrow.Author.Tests.{not-true, not-false}
 use lib.ListN.{length}
-use Rattle.reduction.specs.Lent.{optionsKnown}
+use Rattle.reduction.specs.Lent.{options_known}
 use Rattle.reduction.proofs.LentLaws.{OptionsAt, Going, going-begins, going_on, going-stops, going-ends}
 use Rattle.reduction.proofs.lent.options_known.Statement.{statement}
 use Rattle.reduction.proofs.lent.options_known.Tie as tie
@@ -22,7 +22,7 @@ options-at-requires : tie.Need-options-at-requires invariant-loop decreases-loop
 options-at-requires c κs = search rules
 
 returns : tie.Need-returns invariant-loop decreases-loop
-unfolding optionsKnown
+unfolding options_known
 returns c =
     let ns = c.before.before.before.before.before.args.numbers.now in
     let l = c.before.before.before.loop in
@@ -50,7 +50,7 @@ loop-again c =
     (search rules, going_on (OptionsAt ns) ns l.at c.number_at.result (search rules) c.number_at.ensures.0 l.invariant.1 (sym c.before.before.options-at.ensures ∙ not-false _ c.before.if1.false))
 
 returns-2 : tie.Need-returns-2 invariant-loop decreases-loop
-unfolding optionsKnown
+unfolding options_known
 returns-2 c =
     let ns = c.before.before.before.args.numbers.now in
     let l = c.before.loop in

@@ -4,7 +4,7 @@ use mathlib.Core.Path.{◌≡◌, sym, ◌∙◌}
 use borrow.Author.Rules.{rules}
 use borrow.Author.Tests.{not-true, not-false}
 use lib.ListN.{length}
-use Rattle.reduction.specs.Lent.{orderingsLent}
+use Rattle.reduction.specs.Lent.{orderings_lent}
 use Rattle.reduction.proofs.LentLaws.{OrderingAt, Going, going-begins, going_on, going-stops, going-ends}
 use Rattle.reduction.proofs.lent.orderings_lent.Statement.{statement}
 use Rattle.reduction.proofs.lent.orderings_lent.Tie as tie
@@ -22,7 +22,7 @@ ordering-at-requires : tie.Need-ordering-at-requires invariant-loop decreases-lo
 ordering-at-requires c κs = search rules
 
 returns : tie.Need-returns invariant-loop decreases-loop
-unfolding orderingsLent
+unfolding orderings_lent
 returns c =
     let ns = c.before.before.before.before.before.args.numbers.now in
     let l = c.before.before.before.loop in
@@ -50,7 +50,7 @@ loop-again c =
     (search rules, going_on (OrderingAt ns) ns l.at c.number_at.result (search rules) c.number_at.ensures.0 l.invariant.1 (sym c.before.before.ordering-at.ensures ∙ not-false _ c.before.if1.false))
 
 returns-2 : tie.Need-returns-2 invariant-loop decreases-loop
-unfolding orderingsLent
+unfolding orderings_lent
 returns-2 c =
     let ns = c.before.before.before.args.numbers.now in
     let l = c.before.loop in

@@ -2,7 +2,7 @@
 use native.Mathlib.Omega.{arith}
 use borrow.Author.Rules.{rules}
 use lib.ListN.{take}
-use Rattle.orderings.specs.Lists.{orderingAt}
+use Rattle.orderings.specs.Lists.{ordering_at}
 use Rattle.orderings.specs.Layout.{decode}
 use Rattle.orderings.proofs.Codec.{count-few, place-held, place-size, place-keys, place_set}
 use Rattle.reduction.proofs.reducing.cut.Statement.{statement}
@@ -29,7 +29,7 @@ returns : tie.Need-returns
 returns c =
     let s = c.before.before in
     rw (c.truncate.ensures, place-keys s.args.t1 s.requires.0 s.args.i s.requires.1.0)
-    (place_set s.args.t1 s.requires.0 s.args.i (take s.args.n (orderingAt (decode s.args.t1) s.args.i)) s.requires.1.0)
+    (place_set s.args.t1 s.requires.0 s.args.i (take s.args.n (ordering_at (decode s.args.t1) s.args.i)) s.requires.1.0)
 
 pub cut_spec : {M : Type 1} → statement M
 cut_spec =

@@ -4,19 +4,19 @@ use mathlib.Core.Logic.{⊎_elim}
 use mathlib.Core.Path.{◌≡◌, sym, ap, ◌∙◌}
 use native.Mathlib.Omega.{arith}
 use borrow.Author.Rules.{rules}
-use Rattle.laws.specs.Tests.{firstFrom}
+use Rattle.laws.specs.Tests.{first_from}
 use Rattle.laws.proofs.First.{first-hit, first_on, first_ends}
-use Rattle.orderings.specs.Ordering.{sameKey}
+use Rattle.orderings.specs.Ordering.{same_key}
 use Rattle.reduction.specs.Reduction.{overlap}
 use Rattle.orderings.specs.Layout.{keys_of}
-use Rattle.reduction.specs.Inner.{overlapNumber}
+use Rattle.reduction.specs.Inner.{overlap_number}
 use Rattle.orderings.proofs.Codec.{size_few}
 use Rattle.reduction.proofs.Meeting.{Meets, overlap-begins}
 use Rattle.reduction.proofs.reducing.overlap.Statement.{statement}
 use Rattle.reduction.proofs.reducing.overlap.Tie as tie
 
 abbrev invariant-loop : tie.invariant-loop
-invariant-loop a b most n₀ n = (n ≤ most) × ((most ≡ min a.size b.size) × (overlap sameKey (keys_of a) (keys_of b) ≡ firstFrom (Meets a b) (most - n) n))
+invariant-loop a b most n₀ n = (n ≤ most) × ((most ≡ min a.size b.size) × (overlap same_key (keys_of a) (keys_of b) ≡ first_from (Meets a b) (most - n) n))
 
 abbrev decreases-loop : tie.decreases-loop
 decreases-loop a b most n₀ n = most - n
@@ -37,11 +37,11 @@ add-result : tie.Need-overflow-add-result invariant-loop decreases-loop
 add-result c = let a = size_few c.before.before.before.before.before.before.before.args.a c.before.before.before.before.before.before.before.requires.0 in search rules
 
 returns : tie.Need-returns invariant-loop decreases-loop
-unfolding overlapNumber
+unfolding overlap_number
 returns c =
     let s = c.before.before.before.before.before.before.before in
     let l = c.before.before.before.loop in
-    sym (ap overlapNumber (l.invariant.1.1 ∙ first-hit (Meets s.args.a s.args.b) c.before.before.before.before.if1.most l.n (search rules) (sym c.before.meets.ensures ∙ c.if2.true)))
+    sym (ap overlap_number (l.invariant.1.1 ∙ first-hit (Meets s.args.a s.args.b) c.before.before.before.before.if1.most l.n (search rules) (sym c.before.meets.ensures ∙ c.if2.true)))
 
 add-n : tie.Need-overflow-add-n invariant-loop decreases-loop
 add-n c = let a = size_few c.before.before.before.before.before.before.before.args.a c.before.before.before.before.before.before.before.requires.0 in search rules
@@ -56,11 +56,11 @@ loop-again c =
     (search rules, (l.invariant.1.0, l.invariant.1.1 ∙ first_on (Meets s.args.a s.args.b) c.before.before.before.before.if1.most l.n (search rules) (sym c.before.meets.ensures ∙ c.if2.false)))
 
 returns-2 : tie.Need-returns-2 invariant-loop decreases-loop
-unfolding overlapNumber
+unfolding overlap_number
 returns-2 c =
     let s = c.before.before.before.before.before in
     let l = c.before.loop in
-    sym (ap overlapNumber (l.invariant.1.1 ∙ first_ends (Meets s.args.a s.args.b) c.before.before.if1.most l.n (search rules)))
+    sym (ap overlap_number (l.invariant.1.1 ∙ first_ends (Meets s.args.a s.args.b) c.before.before.if1.most l.n (search rules)))
 
 pub overlap-spec : {M : Type 1} → statement M
 overlap-spec =

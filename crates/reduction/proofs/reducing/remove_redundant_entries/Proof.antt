@@ -1,7 +1,7 @@
 -- `reduction::reducing::remove_redundant_entries` meets its contract.
 use borrow.Author.Rules.{rules}
 use Rattle.orderings.specs.Layout.{decode}
-use Rattle.reduction.proofs.Passes.{reached-paid, passesLeft, Work, work-begins, work-ends, work-cuts, work-passes, work-next, work-less}
+use Rattle.reduction.proofs.Passes.{reached-paid, passes_left, Work, work_begins, work_ends, work_cuts, work_passes, work_next, work_less}
 use Rattle.reduction.proofs.reducing.remove_redundant_entries.Statement.{statement}
 use Rattle.reduction.proofs.reducing.remove_redundant_entries.Tie as tie
 
@@ -9,10 +9,10 @@ abbrev invariant-loop : tie.invariant-loop
 invariant-loop list₀ cuts₀ passes₀ work₀ list cuts passes work = Work list₀ list cuts passes work
 
 abbrev decreases-loop : tie.decreases-loop
-decreases-loop list₀ cuts₀ passes₀ work₀ list cuts passes work = passesLeft work (decode list)
+decreases-loop list₀ cuts₀ passes₀ work₀ list cuts passes work = passes_left work (decode list)
 
 loop-holds : tie.Need-loop-init invariant-loop decreases-loop
-loop-holds c = work-begins c.args.g c.requires
+loop-holds c = work_begins c.args.g c.requires
 
 pass-requires : tie.Need-pass-requires invariant-loop decreases-loop
 pass-requires c κs =
@@ -24,33 +24,33 @@ add-cuts : tie.Need-overflow-add-cuts invariant-loop decreases-loop
 add-cuts c =
     let s = c.before.before.before.before.before in
     let l = c.before.before.before.before.loop in
-    let b = work-cuts s.args.g l.list l.cuts l.passes l.work l.invariant s.requires c.before.before.before.loop-test.true c.before.before.pass.result c.before.before.pass.ensures in
+    let b = work_cuts s.args.g l.list l.cuts l.passes l.work l.invariant s.requires c.before.before.before.loop-test.true c.before.before.pass.result c.before.before.pass.ensures in
     search rules
 
 add-passes : tie.Need-overflow-add-passes invariant-loop decreases-loop
 add-passes c =
     let s = c.before.before.before.before.before in
     let l = c.before.before.before.before.loop in
-    let b = work-passes s.args.g l.list l.cuts l.passes l.work l.invariant s.requires c.before.before.before.loop-test.true c.before.before.pass.result c.before.before.pass.ensures in
+    let b = work_passes s.args.g l.list l.cuts l.passes l.work l.invariant s.requires c.before.before.before.loop-test.true c.before.before.pass.result c.before.before.pass.ensures in
     search rules
 
 loop-less : tie.Need-loop-smaller invariant-loop decreases-loop
 loop-less c =
     let s = c.before.before.before.before.before.before in
     let l = c.before.before.before.before.before.loop in
-    work-less s.args.g l.list l.cuts l.passes l.work l.invariant s.requires c.before.before.before.before.loop-test.true c.before.before.before.pass.result c.before.before.before.pass.ensures
+    work_less s.args.g l.list l.cuts l.passes l.work l.invariant s.requires c.before.before.before.before.loop-test.true c.before.before.before.pass.result c.before.before.before.pass.ensures
 
 loop-again : tie.Need-loop-preserved invariant-loop decreases-loop
 loop-again c =
     let s = c.before.before.before.before.before.before in
     let l = c.before.before.before.before.before.loop in
-    work-next s.args.g l.list l.cuts l.passes l.work l.invariant s.requires c.before.before.before.before.loop-test.true c.before.before.before.pass.result c.before.before.before.pass.ensures
+    work_next s.args.g l.list l.cuts l.passes l.work l.invariant s.requires c.before.before.before.before.loop-test.true c.before.before.before.pass.result c.before.before.before.pass.ensures
 
 returns : tie.Need-returns invariant-loop decreases-loop
 returns c =
     let s = c.before.before in
     let l = c.before.loop in
-    work-ends s.args.g l.list l.cuts l.passes l.work l.invariant c.loop-test.false
+    work_ends s.args.g l.list l.cuts l.passes l.work l.invariant c.loop-test.false
 
 pub remove-redundant-entries-spec : {M : Type 1} → statement M
 remove-redundant-entries-spec =

@@ -2,11 +2,11 @@
 use mathlib.Core.Path.{ap, ◌∙◌}
 use Rattle.arena.specs.Node.{Node, literal}
 use Rattle.arena.specs.Arena.{Allowed, add}
-use Rattle.arena.specs.Layout.{decode as nodesIn}
-use Rattle.arena.specs.Calls.{answered, inCells, addLiteral}
+use Rattle.arena.specs.Layout.{decode as nodes_in}
+use Rattle.arena.specs.Calls.{answered, in_cells, add_literal}
 use Rattle.arena.proofs.Layouts.{holds-lawful}
 use Rattle.arena.proofs.Lending.{node-of, placeable}
-use Rattle.session_steps.specs.State.{addedReply}
+use Rattle.session_steps.specs.State.{added_reply}
 use Rattle.session_steps.proofs.Answering.{told_in}
 use borrow.Author.Rules.{rules}
 use Rattle.session_steps.proofs.steps.add_literal_in.Statement.{statement}
@@ -25,13 +25,13 @@ said-added-requires : tie.Need-said-added-requires
 said-added-requires c κs = search rules
 
 returns : tie.Need-returns
-unfolding Allowed addLiteral
+unfolding Allowed add_literal
 returns c =
     let b = c.before.before.before.before.before in
-    let ns = nodesIn b.args.cells.now in
+    let ns = nodes_in b.args.cells.now in
     let n = node-of b.args.cells.now c.before.before.before.before.literal-row.result (literal b.args.value) (holds-lawful b.args.cells.now b.requires) c.before.before.before.before.literal-row.ensures (tt) in
-    told_in addedReply (addLiteral b.args.value ns) c.before.place.result c.before.place.new.0 c.said-added.result
-    (c.before.place.ensures ∙ ap (λ (x : Node). inCells (answered ns (add x ns))) n) c.said-added.ensures
+    told_in added_reply (add_literal b.args.value ns) c.before.place.result c.before.place.new.0 c.said-added.result
+    (c.before.place.ensures ∙ ap (λ (x : Node). in_cells (answered ns (add x ns))) n) c.said-added.ensures
 
 pub add-literal-in-spec : {M : Type 1} → statement M
 add-literal-in-spec =

@@ -8,11 +8,11 @@ use lib.Dec.{ltb, leb}
 use lib.ListN.{length, take}
 use lib.Seq.{length-take-le}
 use Rattle.laws.specs.Tests.{each}
-use Rattle.arena.specs.Layout.{decode as nodesIn}
+use Rattle.arena.specs.Layout.{decode as nodes_in}
 use Rattle.arena.proofs.Layouts.{length-decode}
 use Rattle.reduction.specs.Inner.{LentFit}
-use Rattle.records.specs.Record.{keysIn}
-use Rattle.session_steps.specs.State.{keyExpr, keyOptions}
+use Rattle.records.specs.Record.{keys_in}
+use Rattle.session_steps.specs.State.{key_expr, key_options}
 use Rattle.session_steps.proofs.Bodies.{count-keys}
 use Rattle.session_steps.proofs.KeyNumbers.{lent-fit}
 use Rattle.session_steps.proofs.Deciding.{ordering-options, ordering-unknown, ordering-added}
@@ -27,8 +27,8 @@ returns : tie.Need-returns
 returns c =
     let b = c.before.before.before in
     let m = count-keys b.args.body.now b.args.n b.requires.1.0 in
-    let o : each (λ k. leb (keyOptions (keysIn b.args.body.now) k) 3) (length (keysIn b.args.body.now)) ≡ false = ap (λ (i : ℕ). each (λ k. leb (keyOptions (keysIn b.args.body.now) k) 3) i) m ∙ sym c.before.options-known.ensures ∙ not-true _ c.if1.true in
-    ordering-options (keysIn b.args.body.now) (nodesIn b.args.cells.now) b.args.list b.requires.0.1 o
+    let o : each (λ k. leb (key_options (keys_in b.args.body.now) k) 3) (length (keys_in b.args.body.now)) ≡ false = ap (λ (i : ℕ). each (λ k. leb (key_options (keys_in b.args.body.now) k) 3) i) m ∙ sym c.before.options-known.ensures ∙ not-true _ c.if1.true in
+    ordering-options (keys_in b.args.body.now) (nodes_in b.args.cells.now) b.args.list b.requires.0.1 o
 
 node-count-requires : tie.Need-node-count-requires
 node-count-requires c κs = search rules
@@ -40,11 +40,11 @@ returns-2 : tie.Need-returns-2
 returns-2 c =
     let b = c.before.before.before.before.before.before in
     let m = count-keys b.args.body.now b.args.n b.requires.1.0 in
-    let o : each (λ k. leb (keyOptions (keysIn b.args.body.now) k) 3) (length (keysIn b.args.body.now)) ≡ true = ap (λ (i : ℕ). each (λ k. leb (keyOptions (keysIn b.args.body.now) k) 3) i) m ∙ sym c.before.before.before.before.options-known.ensures ∙ not-false _ c.before.before.before.if1.false in
-    let e : length (nodesIn b.args.cells.now) ≡ c.before.before.node-count.result = length-decode b.args.cells.now ∙ sym c.before.before.node-count.ensures in
-    let x : each (λ k. ltb (keyExpr (keysIn b.args.body.now) k) (length (nodesIn b.args.cells.now))) (length (keysIn b.args.body.now)) ≡ false =
-    ap (λ (i : ℕ). each (λ k. ltb (keyExpr (keysIn b.args.body.now) k) (length (nodesIn b.args.cells.now))) i) m ∙ ap (λ (j : ℕ). each (λ k. ltb (keyExpr (keysIn b.args.body.now) k) j) b.args.n) e ∙ sym c.before.exprs-below.ensures ∙ not-true _ c.if2.true in
-    ordering-unknown (keysIn b.args.body.now) (nodesIn b.args.cells.now) b.args.list b.requires.0.1 o x
+    let o : each (λ k. leb (key_options (keys_in b.args.body.now) k) 3) (length (keys_in b.args.body.now)) ≡ true = ap (λ (i : ℕ). each (λ k. leb (key_options (keys_in b.args.body.now) k) 3) i) m ∙ sym c.before.before.before.before.options-known.ensures ∙ not-false _ c.before.before.before.if1.false in
+    let e : length (nodes_in b.args.cells.now) ≡ c.before.before.node-count.result = length-decode b.args.cells.now ∙ sym c.before.before.node-count.ensures in
+    let x : each (λ k. ltb (key_expr (keys_in b.args.body.now) k) (length (nodes_in b.args.cells.now))) (length (keys_in b.args.body.now)) ≡ false =
+    ap (λ (i : ℕ). each (λ k. ltb (key_expr (keys_in b.args.body.now) k) (length (nodes_in b.args.cells.now))) i) m ∙ ap (λ (j : ℕ). each (λ k. ltb (key_expr (keys_in b.args.body.now) k) j) b.args.n) e ∙ sym c.before.exprs-below.ensures ∙ not-true _ c.if2.true in
+    ordering-unknown (keys_in b.args.body.now) (nodes_in b.args.cells.now) b.args.list b.requires.0.1 o x
 
 lent-keys-requires : tie.Need-lent-keys-requires
 lent-keys-requires c κs = search rules
@@ -67,21 +67,21 @@ add-in-requires : tie.Need-add-in-requires
 add-in-requires c κs =
     let b = c.before.before.before.before.before.before.before.before in
     let m = count-keys b.args.body.now b.args.n b.requires.1.0 in
-    let o : each (λ k. leb (keyOptions (keysIn b.args.body.now) k) 3) (length (keysIn b.args.body.now)) ≡ true = ap (λ (i : ℕ). each (λ k. leb (keyOptions (keysIn b.args.body.now) k) 3) i) m ∙ sym c.before.before.before.before.before.before.options-known.ensures ∙ not-false _ c.before.before.before.before.before.if1.false in
-    let e : length (nodesIn b.args.cells.now) ≡ c.before.before.before.before.node-count.result = length-decode b.args.cells.now ∙ sym c.before.before.before.before.node-count.ensures in
-    let x : each (λ k. ltb (keyExpr (keysIn b.args.body.now) k) (length (nodesIn b.args.cells.now))) (length (keysIn b.args.body.now)) ≡ true =
-    ap (λ (i : ℕ). each (λ k. ltb (keyExpr (keysIn b.args.body.now) k) (length (nodesIn b.args.cells.now))) i) m ∙ ap (λ (j : ℕ). each (λ k. ltb (keyExpr (keysIn b.args.body.now) k) j) b.args.n) e ∙ sym c.before.before.before.exprs-below.ensures ∙ not-false _ c.before.before.if2.false in
-    (b.requires.0.1, subst LentFit (sym c.before.lent-keys.ensures.1) (lent-fit (keysIn b.args.body.now) (length (nodesIn b.args.cells.now)) (omega (arith, length-decode b.args.cells.now, b.requires.0.0.few)) o x))
+    let o : each (λ k. leb (key_options (keys_in b.args.body.now) k) 3) (length (keys_in b.args.body.now)) ≡ true = ap (λ (i : ℕ). each (λ k. leb (key_options (keys_in b.args.body.now) k) 3) i) m ∙ sym c.before.before.before.before.before.before.options-known.ensures ∙ not-false _ c.before.before.before.before.before.if1.false in
+    let e : length (nodes_in b.args.cells.now) ≡ c.before.before.before.before.node-count.result = length-decode b.args.cells.now ∙ sym c.before.before.before.before.node-count.ensures in
+    let x : each (λ k. ltb (key_expr (keys_in b.args.body.now) k) (length (nodes_in b.args.cells.now))) (length (keys_in b.args.body.now)) ≡ true =
+    ap (λ (i : ℕ). each (λ k. ltb (key_expr (keys_in b.args.body.now) k) (length (nodes_in b.args.cells.now))) i) m ∙ ap (λ (j : ℕ). each (λ k. ltb (key_expr (keys_in b.args.body.now) k) j) b.args.n) e ∙ sym c.before.before.before.exprs-below.ensures ∙ not-false _ c.before.before.if2.false in
+    (b.requires.0.1, subst LentFit (sym c.before.lent-keys.ensures.1) (lent-fit (keys_in b.args.body.now) (length (nodes_in b.args.cells.now)) (omega (arith, length-decode b.args.cells.now, b.requires.0.0.few)) o x))
 
 returns-3 : tie.Need-returns-3
 returns-3 c =
     let b = c.before.before.before.before.before.before.before.before.before in
     let m = count-keys b.args.body.now b.args.n b.requires.1.0 in
-    let o : each (λ k. leb (keyOptions (keysIn b.args.body.now) k) 3) (length (keysIn b.args.body.now)) ≡ true = ap (λ (i : ℕ). each (λ k. leb (keyOptions (keysIn b.args.body.now) k) 3) i) m ∙ sym c.before.before.before.before.before.before.before.options-known.ensures ∙ not-false _ c.before.before.before.before.before.before.if1.false in
-    let e : length (nodesIn b.args.cells.now) ≡ c.before.before.before.before.before.node-count.result = length-decode b.args.cells.now ∙ sym c.before.before.before.before.before.node-count.ensures in
-    let x : each (λ k. ltb (keyExpr (keysIn b.args.body.now) k) (length (nodesIn b.args.cells.now))) (length (keysIn b.args.body.now)) ≡ true =
-    ap (λ (i : ℕ). each (λ k. ltb (keyExpr (keysIn b.args.body.now) k) (length (nodesIn b.args.cells.now))) i) m ∙ ap (λ (j : ℕ). each (λ k. ltb (keyExpr (keysIn b.args.body.now) k) j) b.args.n) e ∙ sym c.before.before.before.before.exprs-below.ensures ∙ not-false _ c.before.before.before.if2.false in
-    c.add-in.ensures ∙ ordering-added (keysIn b.args.body.now) (nodesIn b.args.cells.now) b.args.list b.requires.0.1 o x (take (1 + 2 * b.args.n) c.before.before.lent-keys.result) c.before.before.lent-keys.ensures.1
+    let o : each (λ k. leb (key_options (keys_in b.args.body.now) k) 3) (length (keys_in b.args.body.now)) ≡ true = ap (λ (i : ℕ). each (λ k. leb (key_options (keys_in b.args.body.now) k) 3) i) m ∙ sym c.before.before.before.before.before.before.before.options-known.ensures ∙ not-false _ c.before.before.before.before.before.before.if1.false in
+    let e : length (nodes_in b.args.cells.now) ≡ c.before.before.before.before.before.node-count.result = length-decode b.args.cells.now ∙ sym c.before.before.before.before.before.node-count.ensures in
+    let x : each (λ k. ltb (key_expr (keys_in b.args.body.now) k) (length (nodes_in b.args.cells.now))) (length (keys_in b.args.body.now)) ≡ true =
+    ap (λ (i : ℕ). each (λ k. ltb (key_expr (keys_in b.args.body.now) k) (length (nodes_in b.args.cells.now))) i) m ∙ ap (λ (j : ℕ). each (λ k. ltb (key_expr (keys_in b.args.body.now) k) j) b.args.n) e ∙ sym c.before.before.before.before.exprs-below.ensures ∙ not-false _ c.before.before.before.if2.false in
+    c.add-in.ensures ∙ ordering-added (keys_in b.args.body.now) (nodes_in b.args.cells.now) b.args.list b.requires.0.1 o x (take (1 + 2 * b.args.n) c.before.before.lent-keys.result) c.before.before.lent-keys.ensures.1
 
 pub add-ordering-in-spec : {M : Type 1} → statement M
 add-ordering-in-spec =

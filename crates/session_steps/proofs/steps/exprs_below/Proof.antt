@@ -8,15 +8,15 @@ use borrow.Author.Tests.{lt-ltb, le-ltb}
 use lib.Dec.{ltb}
 use Rattle.laws.specs.Tests.{each}
 use Rattle.laws.proofs.Each.{each_none, each_more, each-stops, each-ends}
-use Rattle.records.specs.Record.{keysIn}
-use Rattle.session_steps.specs.State.{keyExpr}
+use Rattle.records.specs.Record.{keys_in}
+use Rattle.session_steps.specs.State.{key_expr}
 use Rattle.session_steps.proofs.Bodies.{at-expr}
 use borrow.Author.Rules.{rules}
 use Rattle.session_steps.proofs.steps.exprs_below.Statement.{statement}
 use Rattle.session_steps.proofs.steps.exprs_below.Tie as tie
 
 abbrev Test : List ℕ → ℕ → ℕ → Bool
-Test body count k = ltb (keyExpr (keysIn body) k) count
+Test body count k = ltb (key_expr (keys_in body) k) count
 
 abbrev invariant-loop : tie.invariant-loop
 invariant-loop body n count k₀ k = (k ≤ n) × (each (Test body count) k ≡ true)
@@ -43,7 +43,7 @@ returns c =
     let b = c.before.before.before.before.before.before in
     let l = c.before.before.before.before.loop in
     let k : l.k < b.args.n = search rules in
-    each-stops (Test b.args.body.now b.args.count) b.args.n l.k k (le-ltb (keyExpr (keysIn b.args.body.now) l.k) b.args.count (omega (arith, at-expr b.args.body.now b.args.n b.requires l.k k, c.before.before.field.ensures, c.before.index.ensures.0, c.if1.true)))
+    each-stops (Test b.args.body.now b.args.count) b.args.n l.k k (le-ltb (key_expr (keys_in b.args.body.now) l.k) b.args.count (omega (arith, at-expr b.args.body.now b.args.n b.requires l.k k, c.before.before.field.ensures, c.before.index.ensures.0, c.if1.true)))
 
 add-k : tie.Need-overflow-add-k invariant-loop decreases-loop
 add-k c = search rules
@@ -56,7 +56,7 @@ loop-again c =
     let b = c.before.before.before.before.before.before in
     let l = c.before.before.before.before.loop in
     let k : l.k < b.args.n = search rules in
-    (search rules, each_more (Test b.args.body.now b.args.count) l.k l.invariant.1 (lt-ltb (keyExpr (keysIn b.args.body.now) l.k) b.args.count (omega (arith, at-expr b.args.body.now b.args.n b.requires l.k k, c.before.before.field.ensures, c.before.index.ensures.0, c.if1.false))))
+    (search rules, each_more (Test b.args.body.now b.args.count) l.k l.invariant.1 (lt-ltb (key_expr (keys_in b.args.body.now) l.k) b.args.count (omega (arith, at-expr b.args.body.now b.args.n b.requires l.k k, c.before.before.field.ensures, c.before.index.ensures.0, c.if1.false))))
 
 returns-2 : tie.Need-returns-2 invariant-loop decreases-loop
 returns-2 c =

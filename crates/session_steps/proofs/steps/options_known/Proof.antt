@@ -8,15 +8,15 @@ use borrow.Author.Tests.{le-leb, lt-leb}
 use lib.Dec.{leb}
 use Rattle.laws.specs.Tests.{each}
 use Rattle.laws.proofs.Each.{each_none, each_more, each-stops, each-ends}
-use Rattle.records.specs.Record.{keysIn}
-use Rattle.session_steps.specs.State.{keyOptions}
+use Rattle.records.specs.Record.{keys_in}
+use Rattle.session_steps.specs.State.{key_options}
 use Rattle.session_steps.proofs.Bodies.{at-options}
 use borrow.Author.Rules.{rules}
 use Rattle.session_steps.proofs.steps.options_known.Statement.{statement}
 use Rattle.session_steps.proofs.steps.options_known.Tie as tie
 
 abbrev Test : List ℕ → ℕ → Bool
-Test body k = leb (keyOptions (keysIn body) k) 3
+Test body k = leb (key_options (keys_in body) k) 3
 
 abbrev invariant-loop : tie.invariant-loop
 invariant-loop body n k₀ k = (k ≤ n) × (each (Test body) k ≡ true)
@@ -43,7 +43,7 @@ returns c =
     let b = c.before.before.before.before.before in
     let l = c.before.before.before.loop in
     let k : l.k < b.args.n = search rules in
-    each-stops (Test b.args.body.now) b.args.n l.k k (lt-leb (keyOptions (keysIn b.args.body.now) l.k) 3 (omega (arith, at-options b.args.body.now b.args.n b.requires l.k k, c.before.field.ensures, c.if1.true)))
+    each-stops (Test b.args.body.now) b.args.n l.k k (lt-leb (key_options (keys_in b.args.body.now) l.k) 3 (omega (arith, at-options b.args.body.now b.args.n b.requires l.k k, c.before.field.ensures, c.if1.true)))
 
 add-k : tie.Need-overflow-add-k invariant-loop decreases-loop
 add-k c = search rules
@@ -56,7 +56,7 @@ loop-again c =
     let b = c.before.before.before.before.before in
     let l = c.before.before.before.loop in
     let k : l.k < b.args.n = search rules in
-    (search rules, each_more (Test b.args.body.now) l.k l.invariant.1 (le-leb (keyOptions (keysIn b.args.body.now) l.k) 3 (omega (arith, at-options b.args.body.now b.args.n b.requires l.k k, c.before.field.ensures, c.if1.false))))
+    (search rules, each_more (Test b.args.body.now) l.k l.invariant.1 (le-leb (key_options (keys_in b.args.body.now) l.k) 3 (omega (arith, at-options b.args.body.now b.args.n b.requires l.k k, c.before.field.ensures, c.if1.false))))
 
 returns-2 : tie.Need-returns-2 invariant-loop decreases-loop
 returns-2 c =

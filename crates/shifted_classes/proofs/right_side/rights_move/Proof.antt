@@ -8,7 +8,7 @@ use borrow.Author.Tests.{not-true, not-false}
 use lib.ListN.{length, get_or}
 use Rattle.laws.specs.Tests.{each}
 use Rattle.laws.proofs.Each.{each_none, each_more, each-stops, each-ends}
-use Rattle.shifted_classes.specs.Inner.{rightsLent}
+use Rattle.shifted_classes.specs.Inner.{rights_lent}
 use Rattle.shifted_classes.proofs.PairPlaces.{length-rights, right-at, right-inside}
 use borrow.Author.Rules.{rules}
 use Rattle.shifted_classes.proofs.right_side.rights_move.Statement.{statement}
@@ -16,7 +16,7 @@ use Rattle.shifted_classes.proofs.right_side.rights_move.Tie as tie
 
 -- right side k can move, by the table
 abbrev Moves : List Bool → List ℕ → ℕ → Bool
-Moves table pairs k = get_or table (get_or (rightsLent pairs) k 0) false
+Moves table pairs k = get_or table (get_or (rights_lent pairs) k 0) false
 
 abbrev invariant-loop : tie.invariant-loop
 invariant-loop table pairs n k₀ k = (n ≡ length pairs / 2) × (k ≤ n) × (each (Moves table pairs) k ≡ true)
@@ -54,7 +54,7 @@ returns c =
     let s = c.before.before.before.before.before.before.before in
     let k = c.before.before.before.before.before.loop.k in
     let l : k < length s.args.pairs.now / 2 = omega (arith, c.before.before.before.before.loop-test.true, c.before.before.before.before.before.loop.invariant.0) in
-    each-stops (Moves s.args.table.now s.args.pairs.now) (length (rightsLent s.args.pairs.now)) k (omega (arith, length-rights s.args.pairs.now))
+    each-stops (Moves s.args.table.now s.args.pairs.now) (length (rights_lent s.args.pairs.now)) k (omega (arith, length-rights s.args.pairs.now))
     (ap (λ (i : ℕ). get_or s.args.table.now i false) (right-at s.args.pairs.now k l ∙ sym c.before.before.wide.ensures) ∙ not-true _ c.if1.true)
 
 add-k : tie.Need-overflow-add-k invariant-loop decreases-loop
@@ -77,7 +77,7 @@ loop-again c =
 returns-2 : tie.Need-returns-2 invariant-loop decreases-loop
 returns-2 c =
     let s = c.before.before.before in
-    each-ends (Moves s.args.table.now s.args.pairs.now) (length (rightsLent s.args.pairs.now)) c.before.loop.k
+    each-ends (Moves s.args.table.now s.args.pairs.now) (length (rights_lent s.args.pairs.now)) c.before.loop.k
     (omega (arith, length-rights s.args.pairs.now, c.before.loop.invariant.0, c.before.loop.invariant.1)) (omega (arith, length-rights s.args.pairs.now, c.before.loop.invariant.0, c.loop-test.false)) c.before.loop.invariant.2
 
 pub rights-move-spec : {M : Type 1} → statement M

@@ -5,13 +5,13 @@ use mathlib.Core.Path.{◌≡◌, sym, ap, subst, ◌∙◌}
 use native.Mathlib.Omega.{arith}
 use lib.ListN.{length, get_or}
 use borrow.Author.Tests.{not-true, not-false}
-use Rattle.arena.specs.Expression.{expressionAt}
-use Rattle.arena.specs.Layout.{cell_of, childrenOf, decode}
+use Rattle.arena.specs.Expression.{expression_at}
+use Rattle.arena.specs.Layout.{cell_of, children_of, decode}
 use Rattle.shifting.specs.Inner.{shifted_by, Ready}
 use Rattle.arena.specs.Inner.{Grew, Walked, WalkedAll}
 use Rattle.arena.proofs.Layouts.{length-decode}
-use Rattle.arena.proofs.Walking.{Through, children-count, placed_row, memo-kept, memo-answers, memo-noted, grew-number, through-begins, through-child, through-more, through-fails, through-ends}
-use Rattle.shifting.proofs.Shifts.{ready-small, literal-stays, ready-all, children-eight, child-lower, child-known, child-ready, children-full, operation-placeable, operation-walked}
+use Rattle.arena.proofs.Walking.{Through, children-count, placed_row, memo-kept, memo-answers, memo-noted, grew-number, through-begins, through-child, through-more, through_fails, through-ends}
+use Rattle.shifting.proofs.Shifts.{ready-small, literal-stays, ready-all, children_eight, child-lower, child-known, child-ready, children-full, operation-placeable, operation-walked}
 use borrow.Fn.Kinds.{In}
 use borrow.Fn.PlainCycle.{Measures, is, falls, and}
 use Rattle.shifting.proofs.shifting.shift.Reads as shift
@@ -123,7 +123,7 @@ shift-sub-t13 t c = search rules
 
 shift-returns : (t : ℕ) → shift-lts.Need-returns (shift-callees t) (shift-at t) shift.Post
 shift-returns t c =
-    rw c.before.before.wide.ensures (memo-answers (shifted_by c.before.before.before.args.lift) c.before.before.before.args.cells.now c.before.before.before.args.memo.now c.before.before.before.args.expr c.before.before.before.requires.1.known.holds c.before.before.before.requires.1.memo-true (λ z. c.if1.true (ap (λ (k : ℕ). get_or c.before.before.before.args.memo.now k 0) c.before.before.wide.ensures ∙ z)))
+    rw c.before.before.wide.ensures (memo-answers (shifted_by c.before.before.before.args.lift) c.before.before.before.args.cells.now c.before.before.before.args.memo.now c.before.before.before.args.expr c.before.before.before.requires.1.known.holds c.before.before.before.requires.1.memo_true (λ z. c.if1.true (ap (λ (k : ℕ). get_or c.before.before.before.args.memo.now k 0) c.before.before.wide.ensures ∙ z)))
 
 shift-shift-new-requires :
     (t : ℕ) → shift-lts.Need-shift-new-requires (shift-callees t) (shift-at t) shift.Post
@@ -135,7 +135,7 @@ shift-note-requires t c κs =
     let w = c.before.shift-new.ensures in (
       omega (arith, c.before.before.before.before.before.before.wide.ensures, c.before.before.before.before.before.before.before.requires.1.known.below, c.before.before.before.before.before.before.before.requires.1.known.holds.few),
       λ i q.
-          let g = grew-number (shifted_by c.before.before.before.before.before.before.before.args.lift) (shifted_by c.before.before.before.before.before.before.before.args.lift (expressionAt (decode c.before.before.before.before.before.before.before.args.cells.now) c.before.before.before.before.before.before.before.args.expr)) c.before.before.before.before.before.before.before.args.cells.now c.before.shift-new.new.0 i c.before.before.before.before.before.before.before.requires.1.known.holds (ready-small c.before.before.before.before.before.before.before.args.lift c.before.before.before.before.before.before.before.args.cells.now c.before.before.before.before.before.before.before.args.memo.now c.before.before.before.before.before.before.before.args.expr c.before.before.before.before.before.before.before.requires.1) (subst (Grew (shifted_by c.before.before.before.before.before.before.before.args.lift (expressionAt (decode c.before.before.before.before.before.before.before.args.cells.now) c.before.before.before.before.before.before.before.args.expr)) c.before.before.before.before.before.before.before.args.cells.now c.before.shift-new.new.0) q w.grew) in
+          let g = grew-number (shifted_by c.before.before.before.before.before.before.before.args.lift) (shifted_by c.before.before.before.before.before.before.before.args.lift (expression_at (decode c.before.before.before.before.before.before.before.args.cells.now) c.before.before.before.before.before.before.before.args.expr)) c.before.before.before.before.before.before.before.args.cells.now c.before.shift-new.new.0 i c.before.before.before.before.before.before.before.requires.1.known.holds (ready-small c.before.before.before.before.before.before.before.args.lift c.before.before.before.before.before.before.before.args.cells.now c.before.before.before.before.before.before.before.args.memo.now c.before.before.before.before.before.before.before.args.expr c.before.before.before.before.before.before.before.requires.1) (subst (Grew (shifted_by c.before.before.before.before.before.before.before.args.lift (expression_at (decode c.before.before.before.before.before.before.before.args.cells.now) c.before.before.before.before.before.before.before.args.expr)) c.before.before.before.before.before.before.before.args.cells.now c.before.shift-new.new.0) q w.grew) in
           omega (arith, g.0, length-decode c.before.shift-new.new.0, w.grew.holds.few),
     )
 
@@ -161,30 +161,30 @@ shift-children-wide-requires t c κs = search rules
 shift-children-loop-holds :
     (t : ℕ) → shift-children-lts.Need-loop-init (shift-children-callees t) (shift-children-at t) shift-children.Post shift-children-Inv-loop shift-children-μ-loop
 shift-children-loop-holds t c =
-    (search rules, through-begins (shifted_by c.before.before.args.lift) c.before.before.args.cells.now c.before.before.args.row.now c.before.before.args.memo.now c.before.before.requires.1.ready.known.holds c.before.before.requires.1.ready.memo-true c.before.before.requires.1.row_is)
+    (search rules, through-begins (shifted_by c.before.before.args.lift) c.before.before.args.cells.now c.before.before.args.row.now c.before.before.args.memo.now c.before.before.requires.1.ready.known.holds c.before.before.requires.1.ready.memo_true c.before.before.requires.1.row_is)
 
 shift-children-add-shift :
     (t : ℕ) → shift-children-lts.Need-overflow-add-shift (shift-children-callees t) (shift-children-at t) shift-children.Post shift-children-Inv-loop shift-children-μ-loop
 shift-children-add-shift t c =
-    let l : c.before.before.before.loop.k < length (childrenOf c.before.before.before.before.before.before.args.row.now) = omega (arith, children-count c.before.before.before.before.before.before.args.row.now, c.before.before.before.before.wide.ensures) in
-    omega (arith, l, children-eight c.before.before.before.before.before.before.args.lift c.before.before.before.before.before.before.args.cells.now c.before.before.before.before.before.before.args.memo.now c.before.before.before.before.before.before.args.row.now c.before.before.before.before.before.before.args.expr c.before.before.before.before.before.before.requires.1)
+    let l : c.before.before.before.loop.k < length (children_of c.before.before.before.before.before.before.args.row.now) = omega (arith, children-count c.before.before.before.before.before.before.args.row.now, c.before.before.before.before.wide.ensures) in
+    omega (arith, l, children_eight c.before.before.before.before.before.before.args.lift c.before.before.before.before.before.before.args.cells.now c.before.before.before.before.before.before.args.memo.now c.before.before.before.before.before.before.args.row.now c.before.before.before.before.before.before.args.expr c.before.before.before.before.before.before.requires.1)
 
 shift-children-mul-shift :
     (t : ℕ) → shift-children-lts.Need-overflow-mul-shift (shift-children-callees t) (shift-children-at t) shift-children.Post shift-children-Inv-loop shift-children-μ-loop
 shift-children-mul-shift t c =
-    let l : c.before.before.before.loop.k < length (childrenOf c.before.before.before.before.before.before.args.row.now) = omega (arith, children-count c.before.before.before.before.before.before.args.row.now, c.before.before.before.before.wide.ensures) in
-    omega (arith, l, children-eight c.before.before.before.before.before.before.args.lift c.before.before.before.before.before.before.args.cells.now c.before.before.before.before.before.before.args.memo.now c.before.before.before.before.before.before.args.row.now c.before.before.before.before.before.before.args.expr c.before.before.before.before.before.before.requires.1)
+    let l : c.before.before.before.loop.k < length (children_of c.before.before.before.before.before.before.args.row.now) = omega (arith, children-count c.before.before.before.before.before.before.args.row.now, c.before.before.before.before.wide.ensures) in
+    omega (arith, l, children_eight c.before.before.before.before.before.before.args.lift c.before.before.before.before.before.before.args.cells.now c.before.before.before.before.before.before.args.memo.now c.before.before.before.before.before.before.args.row.now c.before.before.before.before.before.before.args.expr c.before.before.before.before.before.before.requires.1)
 
 shift-children-element-copy-out-shift :
     (t : ℕ) → shift-children-lts.Need-element-copy-out-shift (shift-children-callees t) (shift-children-at t) shift-children.Post shift-children-Inv-loop shift-children-μ-loop
 shift-children-element-copy-out-shift t c =
-    let l : c.before.before.before.loop.k < length (childrenOf c.before.before.before.before.before.before.args.row.now) = omega (arith, children-count c.before.before.before.before.before.before.args.row.now, c.before.before.before.before.wide.ensures) in
-    omega (arith, l, children-eight c.before.before.before.before.before.before.args.lift c.before.before.before.before.before.before.args.cells.now c.before.before.before.before.before.before.args.memo.now c.before.before.before.before.before.before.args.row.now c.before.before.before.before.before.before.args.expr c.before.before.before.before.before.before.requires.1)
+    let l : c.before.before.before.loop.k < length (children_of c.before.before.before.before.before.before.args.row.now) = omega (arith, children-count c.before.before.before.before.before.before.args.row.now, c.before.before.before.before.wide.ensures) in
+    omega (arith, l, children_eight c.before.before.before.before.before.before.args.lift c.before.before.before.before.before.before.args.cells.now c.before.before.before.before.before.before.args.memo.now c.before.before.before.before.before.before.args.row.now c.before.before.before.before.before.before.args.expr c.before.before.before.before.before.before.requires.1)
 
 shift-children-shift-requires :
     (t : ℕ) → shift-children-lts.Need-shift-requires (shift-children-callees t) (shift-children-at t) shift-children.Post shift-children-Inv-loop shift-children-μ-loop
 shift-children-shift-requires t c κs =
-    let l : c.before.before.before.before.loop.k < length (childrenOf c.before.before.before.before.before.before.before.args.row.now) = omega (arith, children-count c.before.before.before.before.before.before.before.args.row.now, c.before.before.before.before.before.wide.ensures) in
+    let l : c.before.before.before.before.loop.k < length (children_of c.before.before.before.before.before.before.before.args.row.now) = omega (arith, children-count c.before.before.before.before.before.before.before.args.row.now, c.before.before.before.before.before.wide.ensures) in
     let h = c.before.before.before.before.loop.invariant.1 in
     let q = through-child (shifted_by c.before.before.before.before.before.before.before.args.lift) c.before.before.before.before.before.before.before.args.cells.now c.before.before.before.before.before.before.before.args.row.now c.before.before.before.before.loop.cells c.before.before.before.before.loop.memo c.before.before.before.before.loop.row c.before.before.before.before.loop.k h l in
     (omega (arith, q, child-lower c.before.before.before.before.before.before.before.args.lift c.before.before.before.before.before.before.before.args.cells.now c.before.before.before.before.before.before.before.args.memo.now c.before.before.before.before.before.before.before.args.row.now c.before.before.before.before.before.before.before.args.expr c.before.before.before.before.before.before.before.requires.1 c.before.before.before.before.loop.k l, c.before.before.before.before.before.before.before.requires.0), subst (Ready c.before.before.before.before.before.before.before.args.lift c.before.before.before.before.loop.cells c.before.before.before.before.loop.memo) (sym q) (child-ready c.before.before.before.before.before.before.before.args.lift c.before.before.before.before.before.before.before.args.cells.now c.before.before.before.before.before.before.before.args.memo.now c.before.before.before.before.before.before.before.args.row.now c.before.before.before.before.before.before.before.args.expr c.before.before.before.before.before.before.before.requires.1 c.before.before.before.before.loop.cells c.before.before.before.before.loop.memo c.before.before.before.before.loop.row c.before.before.before.before.loop.k h l))
@@ -200,29 +200,29 @@ shift-children-enum-told t c = search rules
 shift-children-returns :
     (t : ℕ) → shift-children-lts.Need-returns (shift-children-callees t) (shift-children-at t) shift-children.Post shift-children-Inv-loop shift-children-μ-loop
 shift-children-returns t c =
-    let l : c.before.before.before.before.before.before.before.loop.k < length (childrenOf c.before.before.before.before.before.before.before.before.before.before.args.row.now) = omega (arith, children-count c.before.before.before.before.before.before.before.before.before.before.args.row.now, c.before.before.before.before.before.before.before.before.wide.ensures) in
+    let l : c.before.before.before.before.before.before.before.loop.k < length (children_of c.before.before.before.before.before.before.before.before.before.before.args.row.now) = omega (arith, children-count c.before.before.before.before.before.before.before.before.before.before.args.row.now, c.before.before.before.before.before.before.before.before.wide.ensures) in
     let h = c.before.before.before.before.before.before.before.loop.invariant.1 in
     let q = through-child (shifted_by c.before.before.before.before.before.before.before.before.before.before.args.lift) c.before.before.before.before.before.before.before.before.before.before.args.cells.now c.before.before.before.before.before.before.before.before.before.before.args.row.now c.before.before.before.before.before.before.before.loop.cells c.before.before.before.before.before.before.before.loop.memo c.before.before.before.before.before.before.before.loop.row c.before.before.before.before.before.before.before.loop.k h l in
-    through-fails (shifted_by c.before.before.before.before.before.before.before.before.before.before.args.lift) c.before.before.before.before.before.before.before.before.before.before.args.cells.now c.before.before.before.before.before.before.before.before.before.before.args.row.now c.before.before.before.before.before.before.before.loop.cells c.before.before.before.before.before.before.before.loop.memo c.before.before.before.before.before.before.before.loop.row c.before.before.before.before.before.before.before.loop.k h l c.before.before.shift.new.0 c.before.before.shift.new.1.0 (child-known c.before.before.before.before.before.before.before.before.before.before.args.lift c.before.before.before.before.before.before.before.before.before.before.args.cells.now c.before.before.before.before.before.before.before.before.before.before.args.memo.now c.before.before.before.before.before.before.before.before.before.before.args.row.now c.before.before.before.before.before.before.before.before.before.before.args.expr c.before.before.before.before.before.before.before.before.before.before.requires.1 c.before.before.before.before.before.before.before.loop.k l) c.enum_told.given.0.0
-    (subst (Walked (shifted_by c.before.before.before.before.before.before.before.before.before.before.args.lift) c.before.before.before.before.before.before.before.loop.cells c.before.before.shift.new.0 c.before.before.shift.new.1.0 (get_or (childrenOf c.before.before.before.before.before.before.before.before.before.before.args.row.now) c.before.before.before.before.before.before.before.loop.k 0)) c.enum_told.given.1 (rw q at c.before.before.shift.ensures))
+    through_fails (shifted_by c.before.before.before.before.before.before.before.before.before.before.args.lift) c.before.before.before.before.before.before.before.before.before.before.args.cells.now c.before.before.before.before.before.before.before.before.before.before.args.row.now c.before.before.before.before.before.before.before.loop.cells c.before.before.before.before.before.before.before.loop.memo c.before.before.before.before.before.before.before.loop.row c.before.before.before.before.before.before.before.loop.k h l c.before.before.shift.new.0 c.before.before.shift.new.1.0 (child-known c.before.before.before.before.before.before.before.before.before.before.args.lift c.before.before.before.before.before.before.before.before.before.before.args.cells.now c.before.before.before.before.before.before.before.before.before.before.args.memo.now c.before.before.before.before.before.before.before.before.before.before.args.row.now c.before.before.before.before.before.before.before.before.before.before.args.expr c.before.before.before.before.before.before.before.before.before.before.requires.1 c.before.before.before.before.before.before.before.loop.k l) c.enum_told.given.0.0
+    (subst (Walked (shifted_by c.before.before.before.before.before.before.before.before.before.before.args.lift) c.before.before.before.before.before.before.before.loop.cells c.before.before.shift.new.0 c.before.before.shift.new.1.0 (get_or (children_of c.before.before.before.before.before.before.before.before.before.before.args.row.now) c.before.before.before.before.before.before.before.loop.k 0)) c.enum_told.given.1 (rw q at c.before.before.shift.ensures))
 
 shift-children-add-row :
     (t : ℕ) → shift-children-lts.Need-overflow-add-row (shift-children-callees t) (shift-children-at t) shift-children.Post shift-children-Inv-loop shift-children-μ-loop
 shift-children-add-row t c =
-    let l : c.before.before.before.before.before.before.before.before.loop.k < length (childrenOf c.before.before.before.before.before.before.before.before.before.before.before.args.row.now) = omega (arith, children-count c.before.before.before.before.before.before.before.before.before.before.before.args.row.now, c.before.before.before.before.before.before.before.before.before.wide.ensures) in
-    omega (arith, l, children-eight c.before.before.before.before.before.before.before.before.before.before.before.args.lift c.before.before.before.before.before.before.before.before.before.before.before.args.cells.now c.before.before.before.before.before.before.before.before.before.before.before.args.memo.now c.before.before.before.before.before.before.before.before.before.before.before.args.row.now c.before.before.before.before.before.before.before.before.before.before.before.args.expr c.before.before.before.before.before.before.before.before.before.before.before.requires.1)
+    let l : c.before.before.before.before.before.before.before.before.loop.k < length (children_of c.before.before.before.before.before.before.before.before.before.before.before.args.row.now) = omega (arith, children-count c.before.before.before.before.before.before.before.before.before.before.before.args.row.now, c.before.before.before.before.before.before.before.before.before.wide.ensures) in
+    omega (arith, l, children_eight c.before.before.before.before.before.before.before.before.before.before.before.args.lift c.before.before.before.before.before.before.before.before.before.before.before.args.cells.now c.before.before.before.before.before.before.before.before.before.before.before.args.memo.now c.before.before.before.before.before.before.before.before.before.before.before.args.row.now c.before.before.before.before.before.before.before.before.before.before.before.args.expr c.before.before.before.before.before.before.before.before.before.before.before.requires.1)
 
 shift-children-mul-row :
     (t : ℕ) → shift-children-lts.Need-overflow-mul-row (shift-children-callees t) (shift-children-at t) shift-children.Post shift-children-Inv-loop shift-children-μ-loop
 shift-children-mul-row t c =
-    let l : c.before.before.before.before.before.before.before.before.loop.k < length (childrenOf c.before.before.before.before.before.before.before.before.before.before.before.args.row.now) = omega (arith, children-count c.before.before.before.before.before.before.before.before.before.before.before.args.row.now, c.before.before.before.before.before.before.before.before.before.wide.ensures) in
-    omega (arith, l, children-eight c.before.before.before.before.before.before.before.before.before.before.before.args.lift c.before.before.before.before.before.before.before.before.before.before.before.args.cells.now c.before.before.before.before.before.before.before.before.before.before.before.args.memo.now c.before.before.before.before.before.before.before.before.before.before.before.args.row.now c.before.before.before.before.before.before.before.before.before.before.before.args.expr c.before.before.before.before.before.before.before.before.before.before.before.requires.1)
+    let l : c.before.before.before.before.before.before.before.before.loop.k < length (children_of c.before.before.before.before.before.before.before.before.before.before.before.args.row.now) = omega (arith, children-count c.before.before.before.before.before.before.before.before.before.before.before.args.row.now, c.before.before.before.before.before.before.before.before.before.wide.ensures) in
+    omega (arith, l, children_eight c.before.before.before.before.before.before.before.before.before.before.before.args.lift c.before.before.before.before.before.before.before.before.before.before.before.args.cells.now c.before.before.before.before.before.before.before.before.before.before.before.args.memo.now c.before.before.before.before.before.before.before.before.before.before.before.args.row.now c.before.before.before.before.before.before.before.before.before.before.before.args.expr c.before.before.before.before.before.before.before.before.before.before.before.requires.1)
 
 shift-children-element-write-row :
     (t : ℕ) → shift-children-lts.Need-element-write-row (shift-children-callees t) (shift-children-at t) shift-children.Post shift-children-Inv-loop shift-children-μ-loop
 shift-children-element-write-row t c =
-    let l : c.before.before.before.before.before.before.before.before.loop.k < length (childrenOf c.before.before.before.before.before.before.before.before.before.before.before.args.row.now) = omega (arith, children-count c.before.before.before.before.before.before.before.before.before.before.before.args.row.now, c.before.before.before.before.before.before.before.before.before.wide.ensures) in
-    omega (arith, l, children-eight c.before.before.before.before.before.before.before.before.before.before.before.args.lift c.before.before.before.before.before.before.before.before.before.before.before.args.cells.now c.before.before.before.before.before.before.before.before.before.before.before.args.memo.now c.before.before.before.before.before.before.before.before.before.before.before.args.row.now c.before.before.before.before.before.before.before.before.before.before.before.args.expr c.before.before.before.before.before.before.before.before.before.before.before.requires.1)
+    let l : c.before.before.before.before.before.before.before.before.loop.k < length (children_of c.before.before.before.before.before.before.before.before.before.before.before.args.row.now) = omega (arith, children-count c.before.before.before.before.before.before.before.before.before.before.before.args.row.now, c.before.before.before.before.before.before.before.before.before.wide.ensures) in
+    omega (arith, l, children_eight c.before.before.before.before.before.before.before.before.before.before.before.args.lift c.before.before.before.before.before.before.before.before.before.before.before.args.cells.now c.before.before.before.before.before.before.before.before.before.before.before.args.memo.now c.before.before.before.before.before.before.before.before.before.before.before.args.row.now c.before.before.before.before.before.before.before.before.before.before.before.args.expr c.before.before.before.before.before.before.before.before.before.before.before.requires.1)
 
 shift-children-add-k :
     (t : ℕ) → shift-children-lts.Need-overflow-add-k (shift-children-callees t) (shift-children-at t) shift-children.Post shift-children-Inv-loop shift-children-μ-loop
@@ -235,18 +235,18 @@ shift-children-loop-less t c = search rules
 shift-children-loop-again :
     (t : ℕ) → shift-children-lts.Need-loop-preserved (shift-children-callees t) (shift-children-at t) shift-children.Post shift-children-Inv-loop shift-children-μ-loop
 shift-children-loop-again t c =
-    let l : c.before.before.before.before.before.before.before.before.loop.k < length (childrenOf c.before.before.before.before.before.before.before.before.before.before.before.args.row.now) = omega (arith, children-count c.before.before.before.before.before.before.before.before.before.before.before.args.row.now, c.before.before.before.before.before.before.before.before.before.wide.ensures) in
+    let l : c.before.before.before.before.before.before.before.before.loop.k < length (children_of c.before.before.before.before.before.before.before.before.before.before.before.args.row.now) = omega (arith, children-count c.before.before.before.before.before.before.before.before.before.before.before.args.row.now, c.before.before.before.before.before.before.before.before.before.wide.ensures) in
     let h = c.before.before.before.before.before.before.before.before.loop.invariant.1 in
     let q = through-child (shifted_by c.before.before.before.before.before.before.before.before.before.before.before.args.lift) c.before.before.before.before.before.before.before.before.before.before.before.args.cells.now c.before.before.before.before.before.before.before.before.before.before.before.args.row.now c.before.before.before.before.before.before.before.before.loop.cells c.before.before.before.before.before.before.before.before.loop.memo c.before.before.before.before.before.before.before.before.loop.row c.before.before.before.before.before.before.before.before.loop.k h l in (
       search rules,
       through-more (shifted_by c.before.before.before.before.before.before.before.before.before.before.before.args.lift) c.before.before.before.before.before.before.before.before.before.before.before.args.cells.now c.before.before.before.before.before.before.before.before.before.before.before.args.row.now c.before.before.before.before.before.before.before.before.loop.cells c.before.before.before.before.before.before.before.before.loop.memo c.before.before.before.before.before.before.before.before.loop.row c.before.before.before.before.before.before.before.before.loop.k h l c.before.before.before.shift.new.0 c.before.before.before.shift.new.1.0 (child-known c.before.before.before.before.before.before.before.before.before.before.before.args.lift c.before.before.before.before.before.before.before.before.before.before.before.args.cells.now c.before.before.before.before.before.before.before.before.before.before.before.args.memo.now c.before.before.before.before.before.before.before.before.before.before.before.args.row.now c.before.before.before.before.before.before.before.before.before.before.before.args.expr c.before.before.before.before.before.before.before.before.before.before.before.requires.1 c.before.before.before.before.before.before.before.before.loop.k l) c.before.i.given.0.0
-          (subst (Walked (shifted_by c.before.before.before.before.before.before.before.before.before.before.before.args.lift) c.before.before.before.before.before.before.before.before.loop.cells c.before.before.before.shift.new.0 c.before.before.before.shift.new.1.0 (get_or (childrenOf c.before.before.before.before.before.before.before.before.before.before.before.args.row.now) c.before.before.before.before.before.before.before.before.loop.k 0)) c.before.i.given.1 (rw q at c.before.before.before.shift.ensures)),
+          (subst (Walked (shifted_by c.before.before.before.before.before.before.before.before.before.before.before.args.lift) c.before.before.before.before.before.before.before.before.loop.cells c.before.before.before.shift.new.0 c.before.before.before.shift.new.1.0 (get_or (children_of c.before.before.before.before.before.before.before.before.before.before.before.args.row.now) c.before.before.before.before.before.before.before.before.loop.k 0)) c.before.i.given.1 (rw q at c.before.before.before.shift.ensures)),
     )
 
 shift-children-returns-2 :
     (t : ℕ) → shift-children-lts.Need-returns-2 (shift-children-callees t) (shift-children-at t) shift-children.Post shift-children-Inv-loop shift-children-μ-loop
 shift-children-returns-2 t c =
-    let e : length (childrenOf c.before.before.before.before.args.row.now) ≡ c.before.loop.k = omega (arith, children-count c.before.before.before.before.args.row.now, c.before.before.wide.ensures) in
+    let e : length (children_of c.before.before.before.before.args.row.now) ≡ c.before.loop.k = omega (arith, children-count c.before.before.before.before.args.row.now, c.before.before.wide.ensures) in
     through-ends (shifted_by c.before.before.before.before.args.lift) c.before.before.before.before.args.cells.now c.before.before.before.before.args.row.now c.before.loop.cells c.before.loop.memo c.before.loop.row c.before.loop.k c.before.loop.invariant.1 e
 
 shift-new-wide-requires :
@@ -267,7 +267,7 @@ shift-new-returns :
     (t : ℕ) → shift-new-lts.Need-returns (shift-new-callees t) (shift-new-at t) shift-new.Post
 shift-new-returns t c =
     let g = rw c.before.before.before.before.before.wide.ensures at c.shift-column.ensures in
-    record { grew = g; memo-true = memo-kept (shifted_by c.before.before.before.before.before.before.args.lift) c.before.before.before.before.before.before.args.memo.now g.extends c.before.before.before.before.before.before.requires.1.memo-true }
+    record { grew = g; memo_true = memo-kept (shifted_by c.before.before.before.before.before.before.args.lift) c.before.before.before.before.before.before.args.memo.now g.extends c.before.before.before.before.before.before.requires.1.memo_true }
 
 shift-new-returns-2 :
     (t : ℕ) → shift-new-lts.Need-returns-2 (shift-new-callees t) (shift-new-at t) shift-new.Post

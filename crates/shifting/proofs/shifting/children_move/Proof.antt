@@ -9,7 +9,7 @@ use borrow.Author.Tests.{not-true, not-false}
 use lib.ListN.{length, get_or}
 use Rattle.laws.specs.Tests.{each}
 use Rattle.laws.proofs.Each.{each_none, each_more, each-stops, each-ends}
-use Rattle.arena.specs.Node.{nodeAt, childNumbers}
+use Rattle.arena.specs.Node.{node_at, child_numbers}
 use Rattle.arena.specs.Layout.{decode}
 use Rattle.arena.proofs.Children.{child-place}
 use Rattle.shifting.proofs.shifting.children_move.Statement.{statement}
@@ -17,7 +17,7 @@ use Rattle.shifting.proofs.shifting.children_move.Tie as tie
 
 -- the children of node e
 abbrev Children : List ℕ → ℕ → List ℕ
-Children cells e = childNumbers (nodeAt (decode cells) e)
+Children cells e = child_numbers (node_at (decode cells) e)
 
 -- child k can move, by the table
 abbrev Child : List ℕ → List Bool → ℕ → ℕ → Bool
@@ -46,13 +46,13 @@ element-copy-out-if1 : tie.Need-element-copy-out-if1 invariant-loop decreases-lo
 element-copy-out-if1 c =
     let s = c.before.before.before.before.before in
     let n = c.before.before.before.before.child-count.ensures in
-    omega (arith, child-place s.args.cells.now s.args.e s.requires c.before.before.before.loop.k (omega arith), c.before.child-in.ensures, c.wide.ensures)
+    omega (arith, child-place s.args.cells.now s.args.e s.requires c.before.before.before.loop.k (omega arith), c.before.child_in_lem.ensures, c.wide.ensures)
 
 returns : tie.Need-returns invariant-loop decreases-loop
 returns c =
     let s = c.before.before.before.before.before.before.before.args in
     let n = c.before.before.before.before.before.before.child-count.ensures in
-    let e = c.before.before.wide.ensures ∙ c.before.before.before.child-in.ensures in
+    let e = c.before.before.wide.ensures ∙ c.before.before.before.child_in_lem.ensures in
     each-stops (Child s.cells.now s.table.now s.e) (length (Children s.cells.now s.e)) c.before.before.before.before.before.loop.k (omega arith)
     (ap (λ (i : ℕ). get_or s.table.now i false) (sym e) ∙ not-true _ c.if1.true)
 
@@ -65,7 +65,7 @@ loop-less c = search rules
 loop-again : tie.Need-loop-preserved invariant-loop decreases-loop
 loop-again c =
     let s = c.before.before.before.before.before.before.before.args in
-    let e = c.before.before.wide.ensures ∙ c.before.before.before.child-in.ensures in (
+    let e = c.before.before.wide.ensures ∙ c.before.before.before.child_in_lem.ensures in (
       search rules,
       each_more (Child s.cells.now s.table.now s.e) c.before.before.before.before.before.loop.k c.before.before.before.before.before.loop.invariant.1
           (ap (λ (i : ℕ). get_or s.table.now i false) (sym e) ∙ not-false _ c.if1.false),

@@ -6,8 +6,8 @@ use mathlib.Core.Path.{◌≡◌, ◌∙◌}
 use native.Mathlib.Omega.{arith}
 use borrow.Author.Rules.{rules}
 use lib.ListN.{length, get_or, length-set, length-replicate}
-use Rattle.arena.specs.Expression.{expressionAt}
-use Rattle.shifting.specs.Shift.{canMove}
+use Rattle.arena.specs.Expression.{expression_at}
+use Rattle.shifting.specs.Shift.{can_move}
 use Rattle.arena.specs.Layout.{decode}
 use Rattle.shifting.specs.Inner.{lifted}
 use Rattle.shifting.proofs.Moves.{table_more}
@@ -16,7 +16,7 @@ use Rattle.shifting.proofs.shifting.movable.Tie as tie
 
 -- the expression of node j can move
 abbrev Moves : List ℕ → ℕ → ℕ → Bool
-Moves cells lift j = canMove (lifted lift) (expressionAt (decode cells) j)
+Moves cells lift j = can_move (lifted lift) (expression_at (decode cells) j)
 
 abbrev invariant-loop : tie.invariant-loop
 invariant-loop cells n lift table₀ i₀ table i = (i ≤ n) × ((length table ≡ 1024) × ((j : ℕ) → j < i → get_or table j false ≡ Moves cells lift j))

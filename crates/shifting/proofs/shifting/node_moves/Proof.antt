@@ -4,7 +4,7 @@ use mathlib.Core.Path.{sym, ap, ◌∙◌}
 use borrow.Author.Rules.{rules}
 use Rattle.laws.specs.Tests.{is_some}
 use Rattle.shifting.specs.Inner.{lifted}
-use Rattle.shifting.proofs.Moves.{column-moves, children-move}
+use Rattle.shifting.proofs.Moves.{column-moves, children_move_lem}
 use Rattle.shifting.proofs.shifting.node_moves.Statement.{statement}
 use Rattle.shifting.proofs.shifting.node_moves.Tie as tie
 
@@ -29,8 +29,8 @@ children-move-requires c κs = search rules
 returns-2 : tie.Need-returns-2
 returns-2 c =
     let s = c.before.before.before in
-    c.children-move.ensures
-    ∙ children-move s.args.cells.now s.args.e s.requires.0.0 (lifted s.args.lift) (λ q. c.before.if1.false (c.before.before.cell-of.ensures ∙ q)) s.args.table.now s.requires.1
+    c.children_move_lem.ensures
+    ∙ children_move_lem s.args.cells.now s.args.e s.requires.0.0 (lifted s.args.lift) (λ q. c.before.if1.false (c.before.before.cell-of.ensures ∙ q)) s.args.table.now s.requires.1
 
 pub node-moves-spec : {M : Type 1} → statement M
 node-moves-spec =

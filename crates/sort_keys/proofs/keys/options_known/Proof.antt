@@ -7,7 +7,7 @@ use lib.Dec.{leb}
 use lib.ListN.{length, get_or}
 use Rattle.laws.specs.Tests.{each}
 use Rattle.laws.proofs.Each.{each_none, each_more, each-stops, each-ends}
-use Rattle.sort_keys.specs.Layout.{optionsKnown}
+use Rattle.sort_keys.specs.Layout.{options_known}
 use Rattle.sort_keys.proofs.KeyLaws.{key-place}
 use borrow.Author.Tests.{le-leb, lt-leb}
 use borrow.Author.Rules.{rules}
@@ -44,7 +44,7 @@ shared-slice-read-if1 c =
     key-place (length c.before.before.before.args.keys.now) c.before.before.loop.k (search rules)
 
 returns : tie.Need-returns invariant-loop decreases-loop
-unfolding optionsKnown
+unfolding options_known
 returns c =
     each-stops (InSet c.before.before.before.before.args.keys.now) (length c.before.before.before.before.args.keys.now / 2) c.before.before.before.loop.k (search rules) (lt-leb (get_or c.before.before.before.before.args.keys.now (2 * c.before.before.before.loop.k + 1) 0) 3 (search rules))
 
@@ -60,7 +60,7 @@ loop-again c =
     (search rules, each_more (InSet c.before.before.before.before.args.keys.now) c.before.before.before.loop.k c.before.before.before.loop.invariant.1 (le-leb (get_or c.before.before.before.before.args.keys.now (2 * c.before.before.before.loop.k + 1) 0) 3 (search rules)))
 
 returns-2 : tie.Need-returns-2 invariant-loop decreases-loop
-unfolding optionsKnown
+unfolding options_known
 returns-2 c =
     each-ends (InSet c.before.before.args.keys.now) (length c.before.before.args.keys.now / 2) c.before.loop.k (search rules) (search rules) c.before.loop.invariant.1
 

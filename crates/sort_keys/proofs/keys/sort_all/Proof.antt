@@ -5,7 +5,7 @@ use native.Mathlib.Omega.{arith}
 use mir.Facts.{Fits-le}
 use lib.ListN.{length}
 use Rattle.sort_keys.proofs.KeyLaws.{key-place}
-use Rattle.sort_keys.proofs.Sorting.{SortedTo, sorted-begins, key-ready, key-known, sorted_more, sorted-fails, sorted-ends}
+use Rattle.sort_keys.proofs.Sorting.{SortedTo, sorted-begins, key-ready, key-known, sorted_more, sorted_fails, sorted-ends}
 use borrow.Author.Rules.{rules}
 use Rattle.sort_keys.proofs.keys.sort_all.Statement.{statement}
 use Rattle.sort_keys.proofs.keys.sort_all.Tie as tie
@@ -55,7 +55,7 @@ returns c =
     let b = c.before.before.before.before.before.before.before.before.before.before.before in
     let o = c.before.before.before.before.before.before.before.before.loop in
     let l : o.k < length b.args.keys.now / 2 = c.before.before.before.before.before.before.before.loop-test.true in
-    sorted-fails b.args.old b.args.firsts.now b.args.marks.now b.args.cells.now b.args.memo.now b.args.keys.now b.requires o.cells o.memo o.out o.k o.invariant.1 l c.before.before.before.normalize.new.0 c.before.before.before.normalize.new.1.1.0 c.before.before.before.normalize.result c.before.enum_told.given.0.0 c.before.enum_told.given.1 c.before.before.before.normalize.ensures c.no-keys2.result c.no-keys2.ensures
+    sorted_fails b.args.old b.args.firsts.now b.args.marks.now b.args.cells.now b.args.memo.now b.args.keys.now b.requires o.cells o.memo o.out o.k o.invariant.1 l c.before.before.before.normalize.new.0 c.before.before.before.normalize.new.1.1.0 c.before.before.before.normalize.result c.before.enum_told.given.0.0 c.before.enum_told.given.1 c.before.before.before.normalize.ensures c.no-keys2.result c.no-keys2.ensures
 
 mul-keep : tie.Need-overflow-mul-keep invariant-loop decreases-loop
 mul-keep c = search rules

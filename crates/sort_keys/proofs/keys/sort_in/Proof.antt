@@ -1,6 +1,6 @@
 -- `sort_keys::keys::sort_in` meets its contract.
 use native.Mathlib.Omega.{arith}
-use Rattle.sort_keys.proofs.SortCall.{keys-ready, sort-full, sort-over, sort-done}
+use Rattle.sort_keys.proofs.SortCall.{keys-ready, sort_full, sort_over, sort_done}
 use borrow.Author.Rules.{rules}
 use Rattle.sort_keys.proofs.keys.sort_in.Statement.{statement}
 use Rattle.sort_keys.proofs.keys.sort_in.Tie as tie
@@ -29,7 +29,7 @@ no-keys-requires c κs = search rules
 returns : tie.Need-returns
 returns c =
     let b = c.before.before.before.before.before.before.before.before.before.before.before.before.before.before in
-    sort-full b.args.cells.now b.args.g c.before.before.before.before.before.before.before.before.before.before.before.node-count.result b.args.keys.now c.before.before.before.before.before.before.before.before.before.before.class-firsts.result c.before.before.before.before.before.before.before.before.before.class-marks.result b.requires.0.0 b.requires.0.1 b.requires.1 c.before.before.before.before.before.before.before.before.before.before.before.node-count.ensures c.before.before.before.before.before.before.before.before.before.before.class-firsts.ensures c.before.before.before.before.before.before.before.before.before.class-marks.ensures c.before.before.before.sort-all.new.0 c.before.before.before.sort-all.result c.before.before.before.sort-all.ensures c.before.if1.true c.no_keys.result c.no_keys.ensures
+    sort_full b.args.cells.now b.args.g c.before.before.before.before.before.before.before.before.before.before.before.node-count.result b.args.keys.now c.before.before.before.before.before.before.before.before.before.before.class-firsts.result c.before.before.before.before.before.before.before.before.before.class-marks.result b.requires.0.0 b.requires.0.1 b.requires.1 c.before.before.before.before.before.before.before.before.before.before.before.node-count.ensures c.before.before.before.before.before.before.before.before.before.before.class-firsts.ensures c.before.before.before.before.before.before.before.before.before.class-marks.ensures c.before.before.before.sort-all.new.0 c.before.before.before.sort-all.result c.before.before.before.sort-all.ensures c.before.if1.true c.no_keys.result c.no_keys.ensures
 
 no-keys-requires-2 : tie.Need-no-keys-requires-2
 no-keys-requires-2 c κs = search rules
@@ -37,12 +37,12 @@ no-keys-requires-2 c κs = search rules
 returns-2 : tie.Need-returns-2
 returns-2 c =
     let b = c.before.before.before.before.before.before.before.before.before.before.before.before.before.before.before in
-    sort-over b.args.cells.now b.args.g c.before.before.before.before.before.before.before.before.before.before.before.before.node-count.result b.args.keys.now c.before.before.before.before.before.before.before.before.before.before.before.class-firsts.result c.before.before.before.before.before.before.before.before.before.before.class-marks.result b.requires.0.0 b.requires.0.1 b.requires.1 c.before.before.before.before.before.before.before.before.before.before.before.before.node-count.ensures c.before.before.before.before.before.before.before.before.before.before.before.class-firsts.ensures c.before.before.before.before.before.before.before.before.before.before.class-marks.ensures c.before.before.before.before.sort-all.new.0 c.before.before.before.before.sort-all.result c.before.before.before.before.sort-all.ensures c.before.before.if1.false c.before.if2.true c.no-keys2.result c.no-keys2.ensures
+    sort_over b.args.cells.now b.args.g c.before.before.before.before.before.before.before.before.before.before.before.before.node-count.result b.args.keys.now c.before.before.before.before.before.before.before.before.before.before.before.class-firsts.result c.before.before.before.before.before.before.before.before.before.before.class-marks.result b.requires.0.0 b.requires.0.1 b.requires.1 c.before.before.before.before.before.before.before.before.before.before.before.before.node-count.ensures c.before.before.before.before.before.before.before.before.before.before.before.class-firsts.ensures c.before.before.before.before.before.before.before.before.before.before.class-marks.ensures c.before.before.before.before.sort-all.new.0 c.before.before.before.before.sort-all.result c.before.before.before.before.sort-all.ensures c.before.before.if1.false c.before.if2.true c.no-keys2.result c.no-keys2.ensures
 
 returns-3 : tie.Need-returns-3
 returns-3 c =
     let b = c.before.before.before.before.before.before.before.before.before.before.before.before.before.before in
-    sort-done b.args.cells.now b.args.g c.before.before.before.before.before.before.before.before.before.before.before.node-count.result b.args.keys.now c.before.before.before.before.before.before.before.before.before.before.class-firsts.result c.before.before.before.before.before.before.before.before.before.class-marks.result b.requires.0.0 b.requires.0.1 b.requires.1 c.before.before.before.before.before.before.before.before.before.before.before.node-count.ensures c.before.before.before.before.before.before.before.before.before.before.class-firsts.ensures c.before.before.before.before.before.before.before.before.before.class-marks.ensures c.before.before.before.sort-all.new.0 c.before.before.before.sort-all.result c.before.before.before.sort-all.ensures c.before.if1.false c.if2.false
+    sort_done b.args.cells.now b.args.g c.before.before.before.before.before.before.before.before.before.before.before.node-count.result b.args.keys.now c.before.before.before.before.before.before.before.before.before.before.class-firsts.result c.before.before.before.before.before.before.before.before.before.class-marks.result b.requires.0.0 b.requires.0.1 b.requires.1 c.before.before.before.before.before.before.before.before.before.before.before.node-count.ensures c.before.before.before.before.before.before.before.before.before.before.class-firsts.ensures c.before.before.before.before.before.before.before.before.before.class-marks.ensures c.before.before.before.sort-all.new.0 c.before.before.before.sort-all.result c.before.before.before.sort-all.ensures c.before.if1.false c.if2.false
 
 pub sort-in-spec : {M : Type 1} → statement M
 sort-in-spec =

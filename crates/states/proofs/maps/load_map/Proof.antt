@@ -2,13 +2,13 @@
 use Prim.Native.Nat.{◌+◌, ◌-◌, ◌*◌}
 use Rattle.enumeration.proofs.Marks.{Filled, filled_none, filled_more, filled-all}
 use Rattle.dependencies.specs.Layout.{unused}
-use Rattle.states.specs.Maps.{nodeFrom, mapFrom}
+use Rattle.states.specs.Maps.{node_from, map_from}
 use borrow.Author.Rules.{rules}
 use Rattle.states.proofs.maps.load_map.Statement.{statement}
 use Rattle.states.proofs.maps.load_map.Tie as tie
 
 abbrev invariant-loop : tie.invariant-loop
-invariant-loop cells list₀ i₀ list i = Filled (λ j. nodeFrom cells (1 + 19 * j)) unused 64 i list
+invariant-loop cells list₀ i₀ list i = Filled (λ j. node_from cells (1 + 19 * j)) unused 64 i list
 
 abbrev decreases-loop : tie.decreases-loop
 decreases-loop cells list₀ i₀ list i = 64 - i
@@ -19,7 +19,7 @@ nothing-requires c κs = search rules
 loop-holds : tie.Need-loop-init invariant-loop decreases-loop
 loop-holds c =
     let x = c.before.args in
-    filled_none (λ j. nodeFrom x.cells.now (1 + 19 * j)) unused 64 c.nothing.result
+    filled_none (λ j. node_from x.cells.now (1 + 19 * j)) unused 64 c.nothing.result
 
 mul-node-from : tie.Need-overflow-mul-node-from invariant-loop decreases-loop
 mul-node-from c = search rules
@@ -46,7 +46,7 @@ loop-again : tie.Need-loop-preserved invariant-loop decreases-loop
 loop-again c =
     let x = c.before.before.before.before.args in
     let s = c.before.before.loop in
-    filled_more (λ j. nodeFrom x.cells.now (1 + 19 * j)) unused 64 s.i s.list c.node-from.result (search rules) s.invariant c.node-from.ensures
+    filled_more (λ j. node_from x.cells.now (1 + 19 * j)) unused 64 s.i s.list c.node-from.result (search rules) s.invariant c.node-from.ensures
 
 element-copy-out-widened : tie.Need-element-copy-out-widened invariant-loop decreases-loop
 element-copy-out-widened c = search rules
@@ -55,13 +55,13 @@ widened-requires : tie.Need-widened-requires invariant-loop decreases-loop
 widened-requires c κs = search rules
 
 returns : tie.Need-returns invariant-loop decreases-loop
-unfolding mapFrom
+unfolding map_from
 returns c =
     let x = c.before.before.before.before.before.args in
     let s = c.before.before.before.loop in
     λ t. record {
       count = c.widened.ensures t;
-      list = filled-all (λ j. nodeFrom x.cells.now (1 + 19 * j)) unused 64 s.i s.list (search rules) s.invariant t;
+      list = filled-all (λ j. node_from x.cells.now (1 + 19 * j)) unused 64 s.i s.list (search rules) s.invariant t;
     }
 
 pub load-map-spec : {M : Type 1} → statement M

@@ -3,7 +3,7 @@ use Prim.Native.Nat.{◌+◌}
 use mathlib.Core.Bool.{not}
 use lib.Dec.{eqb}
 use lib.ListN.{get_or}
-use Rattle.states.specs.Maps.{nodeFrom}
+use Rattle.states.specs.Maps.{node_from}
 use borrow.Author.Rules.{rules}
 use Rattle.states.proofs.maps.node_from.Statement.{statement}
 use Rattle.states.proofs.maps.node_from.Tie as tie
@@ -45,7 +45,7 @@ widened-requires : tie.Need-widened-requires
 widened-requires c κs = search rules
 
 returns : tie.Need-returns
-unfolding nodeFrom
+unfolding node_from
 returns c =
     let x = c.before.before.before.before.before.before.before.args in
     λ t. record {

@@ -7,7 +7,7 @@ use lib.ListN.{take}
 use Rattle.dependencies.specs.Layout.{place_in}
 use Rattle.dependencies.specs.declared.DependencyNode.{DependencyNode}
 use Rattle.dependencies.proofs.MapChecks.{sized, read_is}
-use Rattle.states.specs.Maps.{nodeCells, mapCells}
+use Rattle.states.specs.Maps.{node_cells, map_cells}
 use Rattle.states.specs.Inner.{NodeFits}
 use Rattle.states.proofs.Stored.{Rows, rows_none, rows_more, rows_all}
 use borrow.Author.Rules.{rules}
@@ -15,7 +15,7 @@ use Rattle.states.proofs.maps.put_map.Statement.{statement}
 use Rattle.states.proofs.maps.put_map.Tie as tie
 
 abbrev invariant-loop : tie.invariant-loop
-invariant-loop cells₀ map i₀ cells i = Rows (λ j. nodeCells (place_in map j)) map.count 19 64 i cells
+invariant-loop cells₀ map i₀ cells i = Rows (λ j. node_cells (place_in map j)) map.count 19 64 i cells
 
 abbrev decreases-loop : tie.decreases-loop
 decreases-loop cells₀ map i₀ cells i = 64 - i
@@ -29,7 +29,7 @@ element-write-cells c = search rules
 loop-holds : tie.Need-loop-init invariant-loop decreases-loop
 loop-holds c =
     let x = c.before.args in
-    rows_none (λ j. nodeCells (place_in x.t1 j)) x.t1.count 19 64 x.cells.now c.short.result c.short.ensures
+    rows_none (λ j. node_cells (place_in x.t1 j)) x.t1.count 19 64 x.cells.now c.short.result c.short.ensures
 
 mul-node : tie.Need-overflow-mul-node invariant-loop decreases-loop
 mul-node c = search rules
@@ -64,15 +64,15 @@ loop-again c =
     let s = c.before.before.before.before.loop in
     let l = c.before.before.before.loop-test.true in
     let w = c.put-node in
-    rows_more (λ j. nodeCells (place_in m j)) m.count 19 64 s.i s.cells w.new.1.0 l s.invariant c.before.put-node-arg.given.0.1 w.auto.1.0
-    (w.ensures ∙ ap (λ (n : DependencyNode). take (1 + 19 * s.i) s.cells ++ nodeCells n) (read_is m (sized m _ b.well-formed.0) s.i l))
+    rows_more (λ j. node_cells (place_in m j)) m.count 19 64 s.i s.cells w.new.1.0 l s.invariant c.before.put-node-arg.given.0.1 w.auto.1.0
+    (w.ensures ∙ ap (λ (n : DependencyNode). take (1 + 19 * s.i) s.cells ++ node_cells n) (read_is m (sized m _ b.well-formed.0) s.i l))
 
 returns : tie.Need-returns invariant-loop decreases-loop
-unfolding mapCells
+unfolding map_cells
 returns c =
     let m = c.before.before.before.args.t1 in
     let s = c.before.loop in
-    rows_all (λ j. nodeCells (place_in m j)) m.count 19 64 s.i s.cells (omega arith) c.loop-test.false s.invariant
+    rows_all (λ j. node_cells (place_in m j)) m.count 19 64 s.i s.cells (omega arith) c.loop-test.false s.invariant
 
 pub put-map-spec : {M : Type 1} → statement M
 put-map-spec =

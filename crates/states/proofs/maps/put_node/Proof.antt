@@ -4,7 +4,7 @@ use mathlib.Core.List.{◌∷◌, ◌++◌}
 use mathlib.Core.Path.{◌≡◌, ap, ap₂, ◌∙◌}
 use native.Mathlib.Omega.{arith}
 use lib.ListN.{take, length-set}
-use Rattle.states.specs.Maps.{nodeCells}
+use Rattle.states.specs.Maps.{node_cells}
 use Rattle.states.proofs.Stored.{length_two, length_three, written-three}
 use borrow.Author.Rules.{rules}
 use Rattle.states.proofs.maps.put_node.Statement.{statement}
@@ -63,7 +63,7 @@ same_length c =
     c.before.before.put-keys.auto.1.0 ∙ length_three x.cells.now x.at (x.at + 1) (x.at + 2) x.node.key t s
 
 returns : tie.Need-returns
-unfolding nodeCells
+unfolding node_cells
 returns c =
     let b = c.before.before.before.before.before.before.before.before in
     let x = b.args in

@@ -3,13 +3,13 @@ use Prim.Native.Nat.{◌+◌, ◌-◌, ◌*◌}
 use mathlib.Core.List.{[]}
 use Rattle.enumeration.proofs.Marks.{Filled, filled_none, filled_more, filled-all}
 use Rattle.orderings.specs.Layout.{row}
-use Rattle.states.specs.Orders.{orderingFrom, orderingsFrom}
+use Rattle.states.specs.Orders.{ordering_from, orderings_from}
 use borrow.Author.Rules.{rules}
 use Rattle.states.proofs.orders.load_orderings.Statement.{statement}
 use Rattle.states.proofs.orders.load_orderings.Tie as tie
 
 abbrev invariant-loop : tie.invariant-loop
-invariant-loop cells list₀ i₀ list i = Filled (λ j. orderingFrom cells (1 + 17 * j)) (row []) 32 i list
+invariant-loop cells list₀ i₀ list i = Filled (λ j. ordering_from cells (1 + 17 * j)) (row []) 32 i list
 
 abbrev decreases-loop : tie.decreases-loop
 decreases-loop cells list₀ i₀ list i = 32 - i
@@ -20,7 +20,7 @@ nothing-requires c κs = search rules
 loop-holds : tie.Need-loop-init invariant-loop decreases-loop
 loop-holds c =
     let x = c.before.args in
-    filled_none (λ j. orderingFrom x.cells.now (1 + 17 * j)) (row []) 32 c.nothing.result
+    filled_none (λ j. ordering_from x.cells.now (1 + 17 * j)) (row []) 32 c.nothing.result
 
 mul-ordering-from : tie.Need-overflow-mul-ordering-from invariant-loop decreases-loop
 mul-ordering-from c = search rules
@@ -47,7 +47,7 @@ loop-again : tie.Need-loop-preserved invariant-loop decreases-loop
 loop-again c =
     let x = c.before.before.before.before.args in
     let s = c.before.before.loop in
-    filled_more (λ j. orderingFrom x.cells.now (1 + 17 * j)) (row []) 32 s.i s.list c.Ordering-from.result (search rules) s.invariant c.Ordering-from.ensures
+    filled_more (λ j. ordering_from x.cells.now (1 + 17 * j)) (row []) 32 s.i s.list c.Ordering-from.result (search rules) s.invariant c.Ordering-from.ensures
 
 element-copy-out-widened : tie.Need-element-copy-out-widened invariant-loop decreases-loop
 element-copy-out-widened c = search rules
@@ -56,13 +56,13 @@ widened-requires : tie.Need-widened-requires invariant-loop decreases-loop
 widened-requires c κs = search rules
 
 returns : tie.Need-returns invariant-loop decreases-loop
-unfolding orderingsFrom
+unfolding orderings_from
 returns c =
     let x = c.before.before.before.before.before.args in
     let s = c.before.before.before.loop in
     λ t. record {
       count = c.widened.ensures t;
-      list = filled-all (λ j. orderingFrom x.cells.now (1 + 17 * j)) (row []) 32 s.i s.list (search rules) s.invariant t;
+      list = filled-all (λ j. ordering_from x.cells.now (1 + 17 * j)) (row []) 32 s.i s.list (search rules) s.invariant t;
     }
 
 pub load-orderings-spec : {M : Type 1} → statement M

@@ -1,5 +1,5 @@
 -- `states::orders::ordering_from` meets its contract.
-use Rattle.states.specs.Orders.{orderingFrom}
+use Rattle.states.specs.Orders.{ordering_from}
 use borrow.Author.Rules.{rules}
 use Rattle.states.proofs.orders.ordering_from.Statement.{statement}
 use Rattle.states.proofs.orders.ordering_from.Tie as tie
@@ -20,7 +20,7 @@ widened-requires : tie.Need-widened-requires
 widened-requires c κs = search rules
 
 returns : tie.Need-returns
-unfolding orderingFrom
+unfolding ordering_from
 returns c = λ t. record { size = c.widened.ensures t; keys = c.before.before.keys_from.ensures t }
 
 pub ordering-from-spec : {M : Type 1} → statement M

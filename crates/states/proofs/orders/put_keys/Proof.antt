@@ -5,7 +5,7 @@ use mathlib.Core.Path.{◌≡◌, refl, ◌∙◌}
 use native.Mathlib.Omega.{arith}
 use lib.ListN.{length, get_or, take, length-set}
 use Rattle.states.proofs.Taken.{written-turn}
-use Rattle.states.proofs.Stored.{written_none, written_all}
+use Rattle.states.proofs.Stored.{written_none, written_all_lem}
 use borrow.Author.Rules.{rules}
 use Rattle.states.proofs.orders.put_keys.Statement.{statement}
 use Rattle.states.proofs.orders.put_keys.Tie as tie
@@ -62,7 +62,7 @@ returns c =
     let b = c.before.before in
     let x = b.args in
     let s = c.before.loop in
-    written_all x.cells.now s.cells x.t1 x.at 16 s.k s.invariant.0 c.loop-test.false b.well-formed.0.1.0.1 s.invariant.1.1
+    written_all_lem x.cells.now s.cells x.t1 x.at 16 s.k s.invariant.0 c.loop-test.false b.well-formed.0.1.0.1 s.invariant.1.1
 
 pub put-keys-spec : {M : Type 1} → statement M
 put-keys-spec =

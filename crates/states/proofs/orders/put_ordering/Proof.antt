@@ -4,7 +4,7 @@ use mathlib.Core.List.{◌∷◌, ◌++◌}
 use mathlib.Core.Path.{◌≡◌, refl, ap, ◌∙◌}
 use native.Mathlib.Omega.{arith}
 use lib.ListN.{take, length-set}
-use Rattle.states.specs.Orders.{orderingCells}
+use Rattle.states.specs.Orders.{ordering_cells}
 use Rattle.states.proofs.Stored.{written-before}
 use borrow.Author.Rules.{rules}
 use Rattle.states.proofs.orders.put_ordering.Statement.{statement}
@@ -33,7 +33,7 @@ same_length c =
     c.before.before.put-keys.auto.1.0 ∙ length-set x.cells.now x.at c.before.before.before.before.short.result
 
 returns : tie.Need-returns
-unfolding orderingCells
+unfolding ordering_cells
 returns c =
     let x = c.before.before.before.before.before.before.before.args in
     let s = c.before.before.before.before.short in

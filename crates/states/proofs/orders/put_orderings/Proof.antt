@@ -7,14 +7,14 @@ use lib.ListN.{take}
 use Rattle.orderings.specs.Layout.{place_in}
 use Rattle.orderings.specs.declared.Ordering.{Ordering}
 use Rattle.orderings.proofs.ListChecks.{sized, read_is}
-use Rattle.states.specs.Orders.{orderingCells, orderingsCells}
+use Rattle.states.specs.Orders.{ordering_cells, orderings_cells}
 use Rattle.states.proofs.Stored.{Rows, rows_none, rows_more, rows_all}
 use borrow.Author.Rules.{rules}
 use Rattle.states.proofs.orders.put_orderings.Statement.{statement}
 use Rattle.states.proofs.orders.put_orderings.Tie as tie
 
 abbrev invariant-loop : tie.invariant-loop
-invariant-loop cells₀ orderings i₀ cells i = Rows (λ j. orderingCells (place_in orderings j)) orderings.count 17 32 i cells
+invariant-loop cells₀ orderings i₀ cells i = Rows (λ j. ordering_cells (place_in orderings j)) orderings.count 17 32 i cells
 
 abbrev decreases-loop : tie.decreases-loop
 decreases-loop cells₀ orderings i₀ cells i = 32 - i
@@ -28,7 +28,7 @@ element-write-cells c = search rules
 loop-holds : tie.Need-loop-init invariant-loop decreases-loop
 loop-holds c =
     let x = c.before.args in
-    rows_none (λ j. orderingCells (place_in x.t1 j)) x.t1.count 17 32 x.cells.now c.short.result c.short.ensures
+    rows_none (λ j. ordering_cells (place_in x.t1 j)) x.t1.count 17 32 x.cells.now c.short.result c.short.ensures
 
 mul-ordering : tie.Need-overflow-mul-ordering invariant-loop decreases-loop
 mul-ordering c = search rules
@@ -65,15 +65,15 @@ loop-again c =
     let s = c.before.before.before.before.loop in
     let l = c.before.before.before.loop-test.true in
     let w = c.put-ordering in
-    rows_more (λ j. orderingCells (place_in g j)) g.count 17 32 s.i s.cells w.new.1.0 l s.invariant c.before.put-ordering-arg.given.0.1 w.auto.1.0
-    (w.ensures ∙ ap (λ (o : Ordering). take (1 + 17 * s.i) s.cells ++ orderingCells o) (read_is g (sized g _ b.well-formed.0) s.i l))
+    rows_more (λ j. ordering_cells (place_in g j)) g.count 17 32 s.i s.cells w.new.1.0 l s.invariant c.before.put-ordering-arg.given.0.1 w.auto.1.0
+    (w.ensures ∙ ap (λ (o : Ordering). take (1 + 17 * s.i) s.cells ++ ordering_cells o) (read_is g (sized g _ b.well-formed.0) s.i l))
 
 returns : tie.Need-returns invariant-loop decreases-loop
-unfolding orderingsCells
+unfolding orderings_cells
 returns c =
     let x = c.before.before.before.args in
     let s = c.before.loop in
-    rows_all (λ j. orderingCells (place_in x.t1 j)) x.t1.count 17 32 s.i s.cells (omega arith) c.loop-test.false s.invariant
+    rows_all (λ j. ordering_cells (place_in x.t1 j)) x.t1.count 17 32 s.i s.cells (omega arith) c.loop-test.false s.invariant
 
 pub put-orderings-spec : {M : Type 1} → statement M
 put-orderings-spec =

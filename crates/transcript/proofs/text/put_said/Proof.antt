@@ -5,7 +5,7 @@ use mathlib.Core.Path.{sym, subst}
 use Rattle.lines.specs.Text.{spaced}
 use Rattle.lines.specs.Writing.{Put, RoomFor}
 use Rattle.lines.proofs.Puts.{put-none, put-fits, put-room, put_both}
-use Rattle.transcript.proofs.Saying.{said-quiet, said-normal-form, said-equality, equality-room, said-refused}
+use Rattle.transcript.proofs.Saying.{said-quiet, said_normal-form, said-equality, equality-room, said-refused}
 use borrow.Author.Rules.{rules}
 use Rattle.transcript.proofs.text.put_said.Statement.{statement}
 use Rattle.transcript.proofs.text.put_said.Tie as tie
@@ -24,7 +24,7 @@ wide-requires-2 c κs = search rules
 
 put-two-requires : tie.Need-put-two-requires
 put-two-requires c κs =
-    subst (λ (t : List ℕ). RoomFor c.before.before.before.before.before.before.before.args.out.now c.before.before.before.before.before.before.before.args.at t) (said-normal-form c.before.before.before.before.before.before.before.args.k c.before.before.before.before.before.before.before.args.said _ _ c.before.wide.result c.wide2.result c.before.before.before.before.said.given.1 c.before.wide.ensures c.wide2.ensures) c.before.before.before.before.before.before.before.requires
+    subst (λ (t : List ℕ). RoomFor c.before.before.before.before.before.before.before.args.out.now c.before.before.before.before.before.before.before.args.at t) (said_normal-form c.before.before.before.before.before.before.before.args.k c.before.before.before.before.before.before.before.args.said _ _ c.before.wide.result c.wide2.result c.before.before.before.before.said.given.1 c.before.wide.ensures c.wide2.ensures) c.before.before.before.before.before.before.before.requires
 
 enum-known-said-2 : tie.Need-enum-known-said-2
 enum-known-said-2 c = search rules
@@ -65,7 +65,7 @@ same_length c = search rules
 
 returns-2 : tie.Need-returns-2
 returns-2 c =
-    subst (λ (t : List ℕ). Put c.before.before.before.before.before.before.before.before.before.before.args.out.now c.before.before.before.before.before.before.before.before.before.before.args.at t c.before.before.put_two.new.0 c.before.before.put_two.result) (sym (said-normal-form c.before.before.before.before.before.before.before.before.before.before.args.k c.before.before.before.before.before.before.before.before.before.before.args.said _ _ c.before.before.before.before.wide.result c.before.before.before.wide2.result c.before.before.before.before.before.before.before.said.given.1 c.before.before.before.before.wide.ensures c.before.before.before.wide2.ensures)) c.before.before.put_two.ensures
+    subst (λ (t : List ℕ). Put c.before.before.before.before.before.before.before.before.before.before.args.out.now c.before.before.before.before.before.before.before.before.before.before.args.at t c.before.before.put_two.new.0 c.before.before.put_two.result) (sym (said_normal-form c.before.before.before.before.before.before.before.before.before.before.args.k c.before.before.before.before.before.before.before.before.before.before.args.said _ _ c.before.before.before.before.wide.result c.before.before.before.wide2.result c.before.before.before.before.before.before.before.said.given.1 c.before.before.before.before.wide.ensures c.before.before.before.wide2.ensures)) c.before.before.put_two.ensures
 
 same-length-2 : tie.Need-same-length-2
 same-length-2 c = search rules
