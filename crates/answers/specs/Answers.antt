@@ -1,6 +1,5 @@
 -- What the answers on orderings, dependency maps, records and sessions come to for a caller in numbers: the number that is returned, and the places lent for the answer afterwards. `old` is what stood in them: a refusal leaves it.
-use Rattle.std.specs.Prelude.{ℕ, List, [], ◌∷◌, eqb, ltb, length}
-use Rattle.laws.specs.Tests.{if◌then◌else◌}
+use Rattle.std.specs.Prelude.{ℕ, List, [], ◌∷◌, eqb, ltb, length, if◌then◌else◌}
 use Rattle.ordering_questions.specs.declared.OptionsAre.{OptionsAre}
 use Rattle.ordering_questions.specs.declared.OptionsAre.TheVariants.{Are, Absent as Options-Absent, Refused as Options-Refused}
 use Rattle.ordering_questions.specs.declared.PartialIs.{PartialIs}

@@ -1,6 +1,8 @@
 // Answers as numbers: what each says, written into the caller's array, and the number that is returned. Here stand the
 // answers on orderings, dependency maps, records and sessions; those on nodes and groups stand in the crate
 // group_answers.
+#![tactic(auto)]
+
 ghost use Rattle.std.specs.Prelude.{[], ◌∷◌, ◌≡◌, ◌<◌};
 ghost use Rattle.answers.specs.Answers.{options_in, partial_in, output_in, enumerated_in, item_in, written_in, given_from};
 

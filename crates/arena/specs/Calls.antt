@@ -1,7 +1,7 @@
 -- What each public call answers and what it leaves in the arena, in document 01's order of refusals.
 -- A refusal is a case that hands back what came in.
-use Rattle.std.specs.Prelude.{ℕ, List, ltb, leb, length, get_or}
-use Rattle.laws.specs.Tests.{if◌then◌else◌, each}
+use Rattle.std.specs.Prelude.{ℕ, List, ltb, leb, length, get_or, if◌then◌else◌}
+use Rattle.laws.specs.Tests.{each}
 use Rattle.arena.specs.Node.{Node, column, literal, operation, node_at, child_numbers}
 use Rattle.arena.specs.Arena.{Placed, placed, full, add}
 use Rattle.arena.specs.Layout.{encode, decode, lawful}

@@ -1,8 +1,7 @@
 -- What the inner functions ask and promise each other. The public contracts (Calls) cite nothing of this file.
-use Rattle.std.specs.Prelude.{ℕ, ◌+◌, ◌-◌, ◌*◌, ◌<◌, ◌≤◌, Bool, true, false, List, ◌≡◌, ltb, length, get_or, set}
+use Rattle.std.specs.Prelude.{ℕ, ◌+◌, ◌-◌, ◌*◌, ◌<◌, ◌≤◌, Bool, true, false, List, ◌≡◌, ltb, length, get_or, set, if◌then◌else◌}
 use Rattle.std.proofs.Math.Option.{Option, none, some}
 use Rattle.std.proofs.Math.Seq.{paste}
-use Rattle.laws.specs.Tests.{if◌then◌else◌}
 use Rattle.arena.specs.Node.{Node, operation}
 use Rattle.arena.specs.Expression.{Expression, Expressions, ∅, ◌▹◌, expression_at, expressions, those}
 use Rattle.arena.specs.Arena.{Sound, Allowed, Extends, Placed, placed, full, add_expression, add_expressions}

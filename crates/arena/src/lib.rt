@@ -8,6 +8,8 @@
 //
 // The functions of this file are the public calls and ask nothing of their caller. Those of the modules
 // serve the crates above, which hold an arena that is checked already, and say in `requires` what they ask.
+#![tactic(auto)]
+
 pub mod adding;
 pub mod cells;
 pub mod checking;
@@ -23,7 +25,7 @@ use checking::lawful_arena;
 use reading::{child_count, child_in, read_in};
 
 // What an addition answers: the number of the node, or of the refusal.
-#[derive(Drop)]
+#[derive(Clone, Copy)]
 pub enum Added {
     Number(u32),
     Refused(u32),
@@ -31,7 +33,7 @@ pub enum Added {
 
 // What a read answers: a column's name and index, a literal's value, an operation's label and how many
 // children it has, or the number of the refusal.
-#[derive(Drop)]
+#[derive(Clone, Copy)]
 pub enum Read {
     Column(u16, u16),
     Literal(u32),
@@ -41,7 +43,7 @@ pub enum Read {
 
 // What a read of a child answers: the child's number, that the node has no such child, or the number of
 // the refusal.
-#[derive(Drop)]
+#[derive(Clone, Copy)]
 pub enum Child {
     Number(u32),
     Absent,
@@ -49,7 +51,7 @@ pub enum Child {
 }
 
 // What a search answers.
-#[derive(Drop)]
+#[derive(Clone, Copy)]
 pub enum Found {
     At(usize),
     Nothing,

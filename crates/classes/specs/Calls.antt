@@ -1,6 +1,5 @@
 -- The check of a lent group, and what a call does with one, over the lent cells and the struct, in document 01's order of refusals.
-use Rattle.std.specs.Prelude.{ℕ, false, ◌&&◌, List, [], eqb}
-use Rattle.laws.specs.Tests.{if◌then◌else◌}
+use Rattle.std.specs.Prelude.{ℕ, false, ◌&&◌, List, [], eqb, if◌then◌else◌}
 use Rattle.arena.specs.Node.{Node}
 use Rattle.arena.specs.Layout.{lawful, decode as nodes}
 use Rattle.classes.specs.Class.{Class}

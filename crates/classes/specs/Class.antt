@@ -1,6 +1,5 @@
 -- A class: its members in order of arrival, and a constant.
-use Rattle.std.specs.Prelude.{ℕ, Bool, true, false, List, [], ◌∷◌, ◌++◌, eqb}
-use Rattle.laws.specs.Tests.{if◌then◌else◌}
+use Rattle.std.specs.Prelude.{ℕ, Bool, true, false, List, [], ◌∷◌, ◌++◌, eqb, if◌then◌else◌}
 use Rattle.arena.specs.Node.{Node, column, literal, operation, node_at}
 
 -- a constant: none, one value a partition, one value throughout that is not known, one value throughout

@@ -1,13 +1,13 @@
 -- A group is a list of classes. What document 01 says of it, in its order: the class of an expression, an equal condition, a constant, a gap, clearing.
 use Prim.Native.Nat.{ℕ, zero, suc, ◌+◌, ◌-◌, ◌<◌, ◌≤◌, min, max}
-use Rattle.std.specs.Prelude.{Bool, true, false, ◌||◌, ◌≡◌, eqb, get_or, take}
+use Rattle.std.specs.Prelude.{Bool, true, false, ◌||◌, ◌≡◌, eqb, get_or, take, if◌then◌else◌}
 use mathlib.Core.List.{List, [], ◌∷◌, ◌++◌}
 use Rattle.std.proofs.Math.Option.{Option, none, some}
 use Rattle.std.proofs.Math.Path.{ap}
 use Rattle.std.proofs.Common.{◌∙◌, length-take-le}
 use native.Mathlib.Omega.{arith}
 use Rattle.std.proofs.Math.ListN.{length, set, length-set}
-use Rattle.laws.specs.Tests.{if◌then◌else◌, first}
+use Rattle.laws.specs.Tests.{first}
 use Rattle.arena.specs.Node.{Node, node_at}
 use Rattle.classes.specs.Class.{Constant, no_constant, heterogeneous, unknown, known, Class, is_uniform, taken, carried, single, merged, same_constant}
 

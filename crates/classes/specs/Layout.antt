@@ -1,8 +1,8 @@
 -- How a group lies in its struct, and which structs are a group. The one file that speaks of the struct.
 -- The members of all classes stand in class order in one table of 256 places. Each class has its number of members, its flavour (0 no constant, 1 heterogeneous,
 -- 2 uniform unknown, 3 uniform with a value) and its value (0 where none is known), in tables of 64 places. Every unused place is 0.
-use Rattle.std.specs.Prelude.{ℕ, zero, suc, ◌+◌, ◌-◌, Bool, true, false, not, ◌&&◌, ◌||◌, List, ◌++◌, map, eqb, ltb, leb, length, get_or, replicate}
-use Rattle.laws.specs.Tests.{if◌then◌else◌, each}
+use Rattle.std.specs.Prelude.{ℕ, zero, suc, ◌+◌, ◌-◌, Bool, true, false, not, ◌&&◌, ◌||◌, List, ◌++◌, map, eqb, ltb, leb, length, get_or, replicate, if◌then◌else◌}
+use Rattle.laws.specs.Tests.{each}
 use Rattle.laws.specs.Lists.{table}
 use Rattle.arena.specs.Node.{Node, column, literal, operation, node_at}
 use Rattle.classes.specs.Class.{Constant, no_constant, heterogeneous, unknown, known, Class}

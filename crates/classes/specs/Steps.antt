@@ -1,7 +1,6 @@
 -- What a call that changes a group comes to, over the list of classes: the answer and the classes afterwards.
 -- A refusal is a case that hands back what came in.
-use Rattle.std.specs.Prelude.{ℕ, Bool, false, ◌&&◌, List, leb, length}
-use Rattle.laws.specs.Tests.{if◌then◌else◌}
+use Rattle.std.specs.Prelude.{ℕ, Bool, false, ◌&&◌, List, leb, length, if◌then◌else◌}
 use Rattle.classes.specs.Class.{Class}
 use Rattle.classes.specs.Group.{total}
 

@@ -7,6 +7,8 @@
 // The functions of the modules serve the crates above, which hold a group that is checked already. Opening a group,
 // its check and the question for a class stand in the crate group_checks, the calls that change a group in the crate
 // conditions, the two questions in the crate questions.
+#![tactic(auto)]
+
 pub mod building;
 pub mod finding;
 pub mod refusing;
@@ -14,7 +16,7 @@ pub mod single;
 
 // A group: its member limit, the number of its classes and of all members, and the tables. The members of all
 // classes stand in class order in one table; unused places are 0.
-#[derive(Drop)]
+#[derive(Clone, Copy)]
 pub struct Group {
     pub limit: usize,
     pub count: usize,
@@ -27,14 +29,14 @@ pub struct Group {
 
 // A constant: flavour 0 none, 1 heterogeneous, 2 uniform unknown, 3 uniform with a value; the value is 0 but
 // for flavour 3.
-#[derive(Drop)]
+#[derive(Clone, Copy)]
 pub struct Mark {
     pub flavour: u32,
     pub value: u32,
 }
 
 // What a call that changes a group answers: the refusal's number or 0, the answer, and the group afterwards.
-#[derive(Drop)]
+#[derive(Clone, Copy)]
 pub struct Changed {
     pub number: u32,
     pub answer: bool,
@@ -42,7 +44,7 @@ pub struct Changed {
 }
 
 // What a search for a class answers.
-#[derive(Drop)]
+#[derive(Clone, Copy)]
 pub enum Place {
     At(usize),
     Nowhere,

@@ -1,6 +1,5 @@
 -- A call with a constant, over the lent cells and the struct. An equal condition and clearing are a call on a lent group (`onGroup`) with their step.
-use Rattle.std.specs.Prelude.{ℕ, ◌+◌, Bool, true, false, ◌&&◌, ◌||◌, List, eqb, leb}
-use Rattle.laws.specs.Tests.{if◌then◌else◌}
+use Rattle.std.specs.Prelude.{ℕ, ◌+◌, Bool, true, false, ◌&&◌, ◌||◌, List, eqb, leb, if◌then◌else◌}
 use Rattle.classes.specs.Layout.{constant_from}
 use Rattle.classes.specs.Calls.{on_group}
 use Rattle.classes.specs.declared.Group.{Group}

@@ -1,7 +1,6 @@
 -- The calls that change a group, over the list of classes: what they answer and the classes afterwards, in document 01's order of refusals.
-use Rattle.std.specs.Prelude.{ℕ, Bool, false, ◌&&◌, eqb, ltb, length}
+use Rattle.std.specs.Prelude.{ℕ, Bool, false, ◌&&◌, eqb, ltb, length, if◌then◌else◌}
 use mathlib.Core.List.{List, [], ◌∷◌, ◌++◌}
-use Rattle.laws.specs.Tests.{if◌then◌else◌}
 use Rattle.arena.specs.Node.{Node}
 use Rattle.classes.specs.Class.{Constant, Class}
 use Rattle.classes.specs.Group.{equal_condition, with_constant, cleared}

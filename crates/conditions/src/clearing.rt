@@ -10,7 +10,7 @@ use classes::building::remove_class_at_idx;
 use classes::{Changed, Group};
 
 // Where clearing has come to: the group, the next place, and whether anything changed.
-#[derive(Drop)]
+#[derive(Clone, Copy)]
 pub struct Clearing {
     pub group: Group,
     pub next: usize,

@@ -1,10 +1,9 @@
 // Equal conditions, on an arena and a group that are checked already.
-ghost use Rattle.std.specs.Prelude.{true, false, [], ◌∷◌, ◌++◌, ◌≡◌, ◌<◌, ◌+◌, eqb};
+ghost use Rattle.std.specs.Prelude.{true, false, [], ◌∷◌, ◌++◌, ◌≡◌, ◌<◌, ◌+◌, eqb, if◌then◌else◌};
 ghost use Rattle.arena.specs.Layout.{decode as nodes};
 ghost use Rattle.arena.specs.Inner.{Known};
 ghost use Rattle.classes.specs.Class.{single};
 ghost use Rattle.classes.specs.Group.{class_of, merged_at, joined, pair, equal_condition};
-ghost use Rattle.laws.specs.Tests.{if◌then◌else◌};
 ghost use Rattle.classes.specs.Steps.{judged};
 ghost use Rattle.classes.specs.Layout.{encode, decode};
 ghost use Rattle.classes.specs.Calls.{changed};

@@ -4,6 +4,8 @@
 // The functions of this file are the public calls and ask nothing of their caller: each checks the lent arena and
 // the group for itself, in the order 12, 11, 1, 4, and a refusal gives its number and hands the group back as it
 // was. Those of the modules serve the crates above, which hold a group that is checked already.
+#![tactic(auto)]
+
 pub mod clearing;
 pub mod constants;
 pub mod equating;

@@ -1,8 +1,7 @@
 -- What each public call answers, over the lent cells and the struct, in document 01's order of refusals.
 -- A refusal is a case that hands back what came in.
-use Rattle.std.specs.Prelude.{ℕ, ◌+◌, ◌*◌, Bool, true, ◌&&◌, List, eqb, ltb, leb}
+use Rattle.std.specs.Prelude.{ℕ, ◌+◌, ◌*◌, Bool, true, ◌&&◌, List, eqb, ltb, leb, if◌then◌else◌}
 use Rattle.std.proofs.Math.Option.{Option, none, some}
-use Rattle.laws.specs.Tests.{if◌then◌else◌}
 use Rattle.arena.specs.Layout.{count, lawful}
 use Rattle.dependencies.specs.Map.{Dependent, inserted, fits}
 use Rattle.dependencies.specs.Layout.{encode, decode, lawful_map, keys_inside}

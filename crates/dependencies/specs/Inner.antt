@@ -1,9 +1,8 @@
 -- What the inner functions ask and promise each other. The public contracts cite nothing of this file.
-use Rattle.std.specs.Prelude.{ℕ, ◌<◌, ◌≤◌, Bool, true, false, List, ◌≡◌, leb, length, get_or}
-use Rattle.std.proofs.Math.Option.{Option, none, some}
-use Rattle.laws.specs.Tests.{if◌then◌else◌}
-use Rattle.dependencies.specs.Map.{Dependent, entry_at, with_dependency}
-use Rattle.dependencies.specs.Layout.{row, entry_of, encode, decode, place_in, lawful_map}
+use Rattle.std.specs.Prelude.{ℕ, ◌<◌, ◌≤◌, true, false, ◌≡◌, leb, length, if◌then◌else◌}
+use Rattle.std.proofs.Math.Option.{Option}
+use Rattle.dependencies.specs.Map.{with_dependency}
+use Rattle.dependencies.specs.Layout.{row, entry_of, encode, decode, place_in}
 use Rattle.dependencies.specs.declared.DependencyNode.{DependencyNode}
 use Rattle.dependencies.specs.declared.DependencyMap.{DependencyMap}
 use Rattle.dependencies.specs.declared.Extended.{Extended}

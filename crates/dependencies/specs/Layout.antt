@@ -1,9 +1,9 @@
 -- How a dependency map lies in its struct, and which structs are one. The one file that speaks of the struct.
 -- A place for each of 64 keys: the key, whether it has a target, the target, the number of its dependencies and 16 places for them. Every unused place is 0.
-use Rattle.std.specs.Prelude.{ℕ, ◌+◌, ◌-◌, Bool, true, false, not, ◌&&◌, ◌||◌, List, [], ◌++◌, map, eqb, ltb, leb, length, get_or, replicate}
+use Rattle.std.specs.Prelude.{ℕ, ◌+◌, ◌-◌, Bool, true, false, not, ◌&&◌, ◌||◌, List, [], ◌++◌, map, eqb, ltb, leb, length, get_or, replicate, if◌then◌else◌}
 use Rattle.std.proofs.Math.Option.{Option, none, some}
 use Rattle.laws.specs.Lists.{table}
-use Rattle.laws.specs.Tests.{if◌then◌else◌, each}
+use Rattle.laws.specs.Tests.{each}
 use Rattle.classes.specs.Layout.{fresh}
 use Rattle.orderings.specs.Ordering.{expr_of}
 use Rattle.dependencies.specs.Map.{Dependent}

@@ -1,8 +1,8 @@
 -- A dependency map: its keys in order of arrival, each with a target, if it has one, and the keys that it depends on.
 -- A key is an expression and options 0 to 3, as one number: expression · 4 + options.
-use Rattle.std.specs.Prelude.{ℕ, Bool, ◌&&◌, List, [], ◌∷◌, ◌++◌, eqb, leb, length, get_or, set}
+use Rattle.std.specs.Prelude.{ℕ, Bool, ◌&&◌, List, [], ◌∷◌, ◌++◌, eqb, leb, length, get_or, set, if◌then◌else◌}
 use Rattle.std.proofs.Math.Option.{Option, none, some}
-use Rattle.laws.specs.Tests.{if◌then◌else◌, each, first}
+use Rattle.laws.specs.Tests.{each, first}
 use Rattle.classes.specs.Group.{among}
 
 -- a key of the map, its target, and what it depends on

@@ -4,6 +4,8 @@
 // The functions of this file are the public calls and ask nothing of their caller: each checks the lent arena and the
 // map for itself, and a refusal gives its number of document 01's table and hands the map back as it was. Those of the
 // modules serve the crates above, which hold an arena and a map that are checked already.
+#![tactic(auto)]
+
 pub mod checking;
 pub mod inserting;
 
@@ -17,7 +19,7 @@ use inserting::{given_below, insert_in, options_known};
 
 // A key of the map: the key as expression · 4 + options, whether it has a target, the target likewise, how many
 // dependencies it has, and these; unused places are 0.
-#[derive(Drop)]
+#[derive(Clone, Copy)]
 pub struct DependencyNode {
     pub key: u16,
     pub projected: bool,
@@ -27,28 +29,28 @@ pub struct DependencyNode {
 }
 
 // A dependency map: how many keys it has, and the keys in order of arrival; unused places are 0.
-#[derive(Drop)]
+#[derive(Clone, Copy)]
 pub struct DependencyMap {
     pub count: usize,
     pub list: [DependencyNode; 64],
 }
 
 // A key that is given, its expression and its options, or none.
-#[derive(Drop)]
+#[derive(Clone, Copy)]
 pub enum Given {
     Key(u32, u32),
     Nothing,
 }
 
 // What an insert answers: the refusal's number or 0, and the map; beside a refusal the map that was given.
-#[derive(Drop)]
+#[derive(Clone, Copy)]
 pub struct Inserted {
     pub number: u32,
     pub map: DependencyMap,
 }
 
 // A key with a dependency more, or that it has no room for it.
-#[derive(Drop)]
+#[derive(Clone, Copy)]
 pub struct Extended {
     pub fits: bool,
     pub node: DependencyNode,

@@ -1,1 +1,2 @@
 // No functions: theorems on the dependency map (proofs/), which no proof of a function needs.
+#![tactic(auto)]

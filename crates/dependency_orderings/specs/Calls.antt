@@ -1,7 +1,7 @@
 -- What each public call answers and what it leaves in the output, over the lent cells and the struct, in document 01's order of refusals.
 -- A refusal is a case that hands back what came in.
-use Rattle.std.specs.Prelude.{ℕ, ◌+◌, ◌*◌, ◌/◌, ◌&&◌, List, [], ◌++◌, map, eqb, ltb, leb, length, get_or, drop}
-use Rattle.laws.specs.Tests.{if◌then◌else◌, each}
+use Rattle.std.specs.Prelude.{ℕ, ◌+◌, ◌*◌, ◌/◌, ◌&&◌, List, [], ◌++◌, map, eqb, ltb, leb, length, get_or, drop, if◌then◌else◌}
+use Rattle.laws.specs.Tests.{each}
 use Rattle.arena.specs.Layout.{count}
 use Rattle.sort_keys.specs.Layout.{keys_of, options_known, none_cut, packed}
 use Rattle.dependencies.specs.Layout.{decode}

@@ -1,7 +1,6 @@
 -- What the inner functions ask and promise each other. The public contracts cite nothing of this file.
-use Rattle.std.specs.Prelude.{ℕ, ◌+◌, ◌*◌, ◌<◌, ◌≤◌, ◌/◌, Bool, true, false, not, ◌||◌, List, [], ◌≡◌, eqb, ltb, leb, length, get_or, set, take, replicate}
+use Rattle.std.specs.Prelude.{ℕ, ◌+◌, ◌*◌, ◌<◌, ◌≤◌, ◌/◌, Bool, true, false, not, ◌||◌, List, [], ◌≡◌, eqb, ltb, leb, length, get_or, set, take, replicate, if◌then◌else◌}
 use Rattle.std.proofs.Math.Option.{some}
-use Rattle.laws.specs.Tests.{if◌then◌else◌}
 use Rattle.classes.specs.Group.{among}
 use Rattle.orderings.specs.Inner.{all_short}
 use Rattle.dependencies.specs.Map.{place_of, with_dependency}

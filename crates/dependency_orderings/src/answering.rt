@@ -121,6 +121,7 @@ pub fn answer_prefixes(m: DependencyMap, key: u16, out: &mut [u16]) -> Enumerate
 }
 
 // What was gathered is over a bound: more than 16 different keys, more than 6 that contribute, or orderings over theirs.
+#[tactic(auto, unfolding(crate::specs::Inner::over_bound))]
 fn over_bound(g: Gathered) -> bool
     ensures { result ≡ over_bound g }
 {

@@ -8,6 +8,7 @@ use dependencies::checking::check_map;
 use sort_keys::keys::{exprs_below, options_known};
 
 // The check of a map and a key.
+#[tactic(auto, unfolding(crate::specs::Calls::prefix_number))]
 pub fn prefix_number(cells: &[u32; 11265], m: DependencyMap, expr: u32, options: u32) -> u32
     ensures { result ≡ prefix_number cells.now m expr options }
 {
@@ -25,6 +26,7 @@ pub fn prefix_number(cells: &[u32; 11265], m: DependencyMap, expr: u32, options:
 }
 
 // The check of a map and keys.
+#[tactic(auto, using(crate::proofs::AnswerLaws::generate_cut))]
 pub fn generate_number(cells: &[u32; 11265], m: DependencyMap, keys: &[u32]) -> u32
     ensures { result ≡ generate_number cells.now m keys.now }
 {

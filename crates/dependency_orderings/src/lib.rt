@@ -4,6 +4,8 @@
 // the keys for itself. An answer is written from the output's first place on: for each ordering its key count, then
 // expression and options of each key, one ordering directly after the other. A refusal gives its number of document 01's
 // table and leaves the output as it was.
+#![tactic(auto)]
+
 pub mod answering;
 pub mod checking;
 pub mod gathering;
@@ -21,7 +23,7 @@ use products::Lists;
 
 // What an enumeration answers: the refusal's number or 0, how many orderings were written, and how many places of the
 // output they take; beside a refusal none.
-#[derive(Drop)]
+#[derive(Clone, Copy)]
 pub struct Enumerated {
     pub number: u32,
     pub count: usize,
@@ -30,7 +32,7 @@ pub struct Enumerated {
 
 // What the walks of the given keys came to: 0, or 6 or 7 where one stopped; how many different keys there were, 17 for
 // more; the places of the map that were walked; whether more than 6 contributed; and their lists.
-#[derive(Drop)]
+#[derive(Clone, Copy)]
 pub struct Gathered {
     pub number: u32,
     pub different: usize,

@@ -1,7 +1,6 @@
 -- What the inner functions ask and promise each other, here and in the crates above. The public contracts cite nothing of this file.
-use Rattle.std.specs.Prelude.{ℕ, zero, suc, ◌+◌, ◌*◌, ◌<◌, ◌≤◌, Bool, true, false, not, ◌&&◌, ◌||◌, List, [], ◌∷◌, ◌++◌, map, ◌≡◌, eqb, ltb, length, get_or, drop, set, replicate}
+use Rattle.std.specs.Prelude.{ℕ, zero, suc, ◌+◌, ◌*◌, ◌<◌, ◌≤◌, Bool, true, false, not, ◌&&◌, ◌||◌, List, [], ◌∷◌, ◌++◌, map, ◌≡◌, eqb, ltb, length, get_or, drop, set, replicate, if◌then◌else◌}
 use Rattle.laws.specs.Lists.{table}
-use Rattle.laws.specs.Tests.{if◌then◌else◌}
 use Rattle.orderings.specs.Ordering.{pushed}
 use Rattle.orderings.specs.Lists.{ordering_at}
 use Rattle.orderings.specs.Layout.{row}

@@ -1,7 +1,6 @@
 -- The walk over a dependency map: which orderings lead to a key, each pair of target and dependency expanded once.
-use Rattle.std.specs.Prelude.{ℕ, zero, suc, ◌+◌, Bool, false, ◌&&◌, ◌||◌, List, [], ◌∷◌, ◌++◌, map, eqb, length}
+use Rattle.std.specs.Prelude.{ℕ, zero, suc, ◌+◌, Bool, false, ◌&&◌, ◌||◌, List, [], ◌∷◌, ◌++◌, map, eqb, length, if◌then◌else◌}
 use Rattle.std.proofs.Math.Option.{Option, none, some}
-use Rattle.laws.specs.Tests.{if◌then◌else◌}
 use Rattle.orderings.specs.Ordering.{pushed}
 use Rattle.dependencies.specs.Map.{Dependent, entry_at, place_of}
 

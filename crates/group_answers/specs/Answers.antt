@@ -1,6 +1,5 @@
 -- What the answers on nodes, groups, normal forms and projections come to for a caller in numbers: the number that is returned, and the places lent for the answer afterwards. `old` is what stood in them: a refusal leaves it.
-use Rattle.std.specs.Prelude.{ℕ, Bool, true, false, List, [], ◌∷◌, eqb}
-use Rattle.laws.specs.Tests.{if◌then◌else◌}
+use Rattle.std.specs.Prelude.{ℕ, Bool, true, false, List, [], ◌∷◌, eqb, if◌then◌else◌}
 use Rattle.arena.specs.declared.Added.{Added}
 use Rattle.arena.specs.declared.Added.TheVariants.{Number as Added-Number, Refused as Added-Refused}
 use Rattle.arena.specs.declared.Read.{Read}

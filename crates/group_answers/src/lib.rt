@@ -1,5 +1,7 @@
 // Answers as numbers: what the calls on nodes and groups say, normal forms and projections among it, written into the
 // caller's array, and the number that is returned.
+#![tactic(auto)]
+
 ghost use Rattle.std.specs.Prelude.{[], ◌∷◌, ◌≡◌, ◌<◌};
 ghost use Rattle.group_states.specs.Inner.{FitsIfDone};
 ghost use Rattle.group_answers.specs.Answers.{added_in, read_in, child_in, class_in, changed_in, answer_in, constant_in, key_in, sorted_in, projected_in, bit};

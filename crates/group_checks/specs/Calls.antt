@@ -1,7 +1,6 @@
 -- What opening a group answers, and the question for the class of an expression. The check's definition is `groupNumber`, Calls of the crate classes.
-use Rattle.std.specs.Prelude.{ℕ, true, false, ◌&&◌, List, [], ◌∷◌, ltb, leb, length, get_or}
+use Rattle.std.specs.Prelude.{ℕ, true, false, ◌&&◌, List, [], ◌∷◌, ltb, leb, length, get_or, if◌then◌else◌}
 use Rattle.std.proofs.Math.Option.{Option, none, some}
-use Rattle.laws.specs.Tests.{if◌then◌else◌}
 use Rattle.arena.specs.Node.{Node}
 use Rattle.classes.specs.Class.{Class}
 use Rattle.classes.specs.Group.{class_at, class_of}

@@ -4,6 +4,8 @@
 // The functions of this file are public calls and ask nothing of their caller: each checks the lent arena and the
 // group for itself, in the order 12, 11, 1. Those of the module serve the crates above, whose calls check a group with
 // them.
+#![tactic(auto)]
+
 pub mod checking;
 
 ghost use Rattle.std.specs.Prelude.{◌≡◌};
@@ -19,7 +21,7 @@ use classes::{Changed, Group, Mark, Place};
 
 // What the question for an expression's class answers: its place, how many members it has, the first of them,
 // and its constant; or that there is none.
-#[derive(Drop)]
+#[derive(Clone, Copy)]
 pub enum ClassIs {
     At(usize, usize, u32, Mark),
     Nowhere,

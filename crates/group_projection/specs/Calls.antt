@@ -1,8 +1,7 @@
 -- What the public call answers and what it leaves in the arena, over the lent cells, the struct and the lent mapping, in document 01's order of refusals.
 -- A refusal is a case that hands back what came in.
-use Rattle.std.specs.Prelude.{ℕ, false, List, eqb}
+use Rattle.std.specs.Prelude.{ℕ, false, List, eqb, if◌then◌else◌}
 use Rattle.std.proofs.Math.Option.{Option}
-use Rattle.laws.specs.Tests.{if◌then◌else◌}
 use Rattle.arena.specs.Node.{Node}
 use Rattle.arena.specs.Arena.{Placed, placed, full}
 use Rattle.arena.specs.Layout.{decode as nodes}

@@ -1,7 +1,6 @@
 -- Projecting a group: for each class the projections of its members, for each normal form of sources their targets; the classes that say nothing are filtered out, `new`, and then the constants of the sources for each of their targets.
-use Rattle.std.specs.Prelude.{ℕ, zero, suc, Bool, true, List, [], ◌∷◌, ◌++◌, map, eqb, length, get_or, take, drop}
+use Rattle.std.specs.Prelude.{ℕ, zero, suc, Bool, true, List, [], ◌∷◌, ◌++◌, map, eqb, length, get_or, take, drop, if◌then◌else◌}
 use Rattle.std.proofs.Math.Option.{Option, none, some}
-use Rattle.laws.specs.Tests.{if◌then◌else◌}
 use Rattle.arena.specs.Node.{Node}
 use Rattle.arena.specs.Expression.{expressions, those}
 use Rattle.arena.specs.Arena.{Placed, placed, and_then, add_expressions}

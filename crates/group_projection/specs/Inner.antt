@@ -1,15 +1,13 @@
 -- What the inner functions ask and promise each other. The public contract cites nothing of this file.
-use Rattle.std.specs.Prelude.{ℕ, ◌+◌, ◌-◌, ◌<◌, ◌≤◌, Bool, true, false, List, [], ◌∷◌, ◌≡◌, length, get_or, take}
+use Rattle.std.specs.Prelude.{ℕ, ◌+◌, ◌<◌, ◌≤◌, Bool, false, List, ◌≡◌, length, get_or, if◌then◌else◌}
 use Rattle.std.proofs.Math.Option.{Option, none, some}
-use Rattle.laws.specs.Tests.{if◌then◌else◌}
 use Rattle.arena.specs.Node.{Node}
 use Rattle.arena.specs.Expression.{those, expressions}
-use Rattle.arena.specs.Arena.{Extends, Placed, placed, full, add_expressions}
+use Rattle.arena.specs.Arena.{Extends, placed, full, add_expressions}
 use Rattle.arena.specs.Layout.{count, decode as nodes}
-use Rattle.arena.specs.Inner.{Holds, map_all, Memo}
+use Rattle.arena.specs.Inner.{Holds, map_all}
 use Rattle.classes.specs.Class.{Class}
 use Rattle.classes.specs.Steps.{fits}
-use Rattle.classes.specs.Layout.{encode, decode}
 use Rattle.classes.specs.Calls.{no_group}
 use Rattle.classes.specs.Inner.{Coded, Held}
 use Rattle.classes.specs.declared.Group.{Group}
@@ -17,7 +15,7 @@ use Rattle.classes.specs.declared.Changed.{Changed}
 use Rattle.normal.specs.Inner.{rewriting}
 use Rattle.merging.specs.Calls.{made_group}
 use Rattle.mappings.specs.Mapping.{Mapped, sources}
-use Rattle.mappings.specs.Layout.{decode as mapping, Checked}
+use Rattle.mappings.specs.Layout.{decode as mapping}
 use Rattle.mappings.specs.declared.Mapping.{Mapping}
 use Rattle.group_projection.specs.Calls.{project_by}
 

@@ -4,6 +4,8 @@
 // The function of this file is the public call and asks nothing of its caller: it checks the lent arena, the group and
 // the mapping for itself, and a refusal gives its number of document 01's table and leaves everything as it was. Those
 // of the modules serve the crates above, which hold states that are checked already.
+#![tactic(auto)]
+
 pub mod constants;
 pub mod listing;
 pub mod normal_forms;
@@ -18,7 +20,7 @@ use mappings::lent::{project_number, read_mapping};
 use projecting::project_in;
 
 // The numbers of the sources' normal forms, in a table of 64 places, or that the arena has no room.
-#[derive(Drop)]
+#[derive(Clone, Copy)]
 pub struct Forms {
     pub fits: bool,
     pub numbers: [u32; 64],

@@ -1,7 +1,6 @@
 // The list of classes that reaches `new`: the members' projections class by class, then the targets of sources with one
 // normal form; a class that says nothing is left out.
-ghost use Rattle.std.specs.Prelude.{Bool, true, [], ◌∷◌, ◌++◌, ◌≡◌, ℕ, ◌≤◌, ◌<◌, ◌+◌, length, get_or, take, drop};
-ghost use Rattle.laws.specs.Tests.{if◌then◌else◌};
+ghost use Rattle.std.specs.Prelude.{Bool, true, [], ◌∷◌, ◌++◌, ◌≡◌, ℕ, ◌≤◌, ◌<◌, ◌+◌, length, get_or, take, drop, if◌then◌else◌};
 ghost use Rattle.arena.specs.Layout.{count, decode as nodes};
 ghost use Rattle.arena.specs.Inner.{Holds, Known};
 ghost use Rattle.classes.specs.Group.{class_at};

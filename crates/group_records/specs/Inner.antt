@@ -1,7 +1,6 @@
 -- What the inner functions ask and promise each other. The public contracts cite nothing of this file.
-use Rattle.std.specs.Prelude.{ℕ, ◌-◌, ◌≤◌, Bool, true, false, ◌&&◌, List, [], map, ◌≡◌, leb, length, drop}
+use Rattle.std.specs.Prelude.{ℕ, ◌-◌, ◌≤◌, Bool, true, false, ◌&&◌, List, [], map, ◌≡◌, leb, length, drop, if◌then◌else◌}
 use Rattle.std.proofs.Math.Option.{Option, none, some}
-use Rattle.laws.specs.Tests.{if◌then◌else◌}
 use Rattle.arena.specs.Layout.{lawful}
 use Rattle.classes.specs.Layout.{encode, padded}
 use Rattle.classes.specs.declared.Group.{Group}

@@ -2,6 +2,8 @@
 //
 // The function of this file is the public call and asks nothing of its caller. What a record is stands in the crate
 // records.
+#![tactic(auto)]
+
 pub mod group;
 
 ghost use Rattle.std.specs.Prelude.{◌≡◌};

@@ -1,6 +1,5 @@
 -- A group in 451 cells: limit, classes, members; for each of 64 classes its size, its flavour, its value; 256 places for members.
-use Rattle.std.specs.Prelude.{ℕ, List, ◌∷◌, ◌++◌, eqb, get_or}
-use Rattle.laws.specs.Tests.{if◌then◌else◌}
+use Rattle.std.specs.Prelude.{ℕ, List, ◌∷◌, ◌++◌, eqb, get_or, if◌then◌else◌}
 use Rattle.classes.specs.declared.Group.{Group}
 use Rattle.classes.specs.declared.Changed.{Changed}
 use Rattle.states.specs.Cells.{part}

@@ -2,4 +2,6 @@
 // layout of its cells.
 //
 // Reading asks nothing: any cells are read as some struct, which the call that is lent it checks.
+#![tactic(auto)]
+
 pub mod groups;

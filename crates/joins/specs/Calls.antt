@@ -1,7 +1,6 @@
 -- What the public call answers and what it leaves in the arena, in document 01's order of refusals.
 -- A refusal is a case that hands back what came in.
-use Rattle.std.specs.Prelude.{ℕ, false, ◌&&◌, List, [], ◌++◌, eqb, leb, pos, length}
-use Rattle.laws.specs.Tests.{if◌then◌else◌}
+use Rattle.std.specs.Prelude.{ℕ, false, ◌&&◌, List, [], ◌++◌, eqb, leb, pos, length, if◌then◌else◌}
 use Rattle.arena.specs.Node.{Node}
 use Rattle.arena.specs.Arena.{Placed, placed, full}
 use Rattle.shifting.specs.Shift.{moved}

@@ -1,7 +1,6 @@
 -- Joining two groups: the right side shifted behind the left one, `new` over both, and for Inner the pairs as equal conditions.
-use Rattle.std.specs.Prelude.{ℕ, List, [], ◌∷◌, ◌++◌, map, length, drop}
+use Rattle.std.specs.Prelude.{ℕ, List, [], ◌∷◌, ◌++◌, map, length, drop, if◌then◌else◌}
 use Rattle.std.proofs.Math.Option.{Option, none, some}
-use Rattle.laws.specs.Tests.{if◌then◌else◌}
 use Rattle.arena.specs.Node.{Node}
 use Rattle.classes.specs.Class.{Class}
 use Rattle.classes.specs.Group.{equal_condition}

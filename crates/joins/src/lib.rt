@@ -4,6 +4,8 @@
 // The function of this file is the public call and asks nothing of its caller: it checks what it is lent for itself, and
 // a refusal gives its number of document 01's table and leaves everything as it was. Those of the modules serve the
 // crates above, which hold an arena and groups that are checked already.
+#![tactic(auto)]
+
 pub mod joining;
 pub mod kinds;
 
@@ -16,7 +18,7 @@ use joining::{join_by, join_number};
 
 // What a kind of join keeps: the left side, the right side, the right side shifted behind the left one, and the pairs
 // as equal conditions.
-#[derive(Drop)]
+#[derive(Clone, Copy)]
 pub struct JoinKind {
     pub left: bool,
     pub right: bool,

@@ -1,13 +1,12 @@
 -- What is lent in parts, one directly after the other: `next` says where the part after the one at a place begins, `end` where all of them end.
 -- A part takes at least one place, so as many steps as places are enough to pass them all: what counts the steps down says under it, proved, what it comes to, and nothing after looks at the count.
 use Prim.Native.Nat.{ℕ, zero, suc, ◌+◌, ◌-◌, ◌<◌, ◌≤◌}
-use Rattle.std.specs.Prelude.{Bool, true, ◌&&◌, ◌≡◌}
+use Rattle.std.specs.Prelude.{Bool, true, ◌&&◌, ◌≡◌, if◌then◌else◌}
 use mathlib.Core.List.{List, [], ◌∷◌}
 use Rattle.std.proofs.Math.Path.{refl, ap}
 use Rattle.std.proofs.Common.{◌∙◌, lt-ltb, le-ltb}
 use native.Mathlib.Omega.{arith}
 use Rattle.std.proofs.Math.Dec.{ltb}
-use Rattle.laws.specs.Tests.{if◌then◌else◌}
 
 -- what f makes of each part from a place on, in at most n steps
 unfoldable pub parts_from : {A : Type 0} → (ℕ → A) → (ℕ → ℕ) → ℕ → ℕ → ℕ → List A

@@ -1,12 +1,6 @@
 -- Tests as Booleans: a choice, "for all numbers below n", "the first number below n that".
-use Rattle.std.specs.Prelude.{ℕ, zero, suc, ◌+◌, Bool, true, false, ◌&&◌}
+use Rattle.std.specs.Prelude.{ℕ, zero, suc, ◌+◌, Bool, true, false, ◌&&◌, if◌then◌else◌}
 use Rattle.std.proofs.Math.Option.{Option, none, some}
-
-infix 10 if◌then◌else◌
--- the first where the test is true, the second where it is false
-abbrev pub if◌then◌else◌ : {A : Type 0} → Bool → A → A → A
-if true then a else b = a
-if false then a else b = b
 
 -- p holds for each number below n
 unfoldable pub each : (ℕ → Bool) → ℕ → Bool

@@ -1,6 +1,5 @@
 -- The check of a list of classes that is lent, in document 01's order of refusals.
-use Rattle.std.specs.Prelude.{ℕ, ◌&&◌, List, length}
-use Rattle.laws.specs.Tests.{if◌then◌else◌}
+use Rattle.std.specs.Prelude.{ℕ, ◌&&◌, List, length, if◌then◌else◌}
 use Rattle.arena.specs.Layout.{lawful, decode as nodes}
 use Rattle.classes.specs.Steps.{fits}
 use Rattle.lent_classes.specs.Lent.{flavours_known, whole, members_apart, literals_uniform, members_below, classes_lent}

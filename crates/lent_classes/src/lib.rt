@@ -2,4 +2,6 @@
 // into a group's tables.
 //
 // The check asks nothing of its caller. The reading asks for a list that has passed it.
+#![tactic(auto)]
+
 pub mod lent;

@@ -1,7 +1,6 @@
 -- Lines of text: a word, then numbers in decimal, each after a space, then a line end. Bytes are ASCII.
-use Rattle.std.specs.Prelude.{ℕ, zero, suc, ◌+◌, ◌/◌, ◌%◌, ◌<◌, ◌≤◌, Bool, true, false, List, [], ◌∷◌, ◌++◌, ◌≡◌, refl, ltb}
+use Rattle.std.specs.Prelude.{ℕ, zero, suc, ◌+◌, ◌/◌, ◌%◌, ◌<◌, ◌≤◌, Bool, true, false, List, [], ◌∷◌, ◌++◌, ◌≡◌, refl, ltb, if◌then◌else◌}
 use Rattle.std.proofs.Common.{arith, ltb-false, lt-ltb, le-ltb}
-use Rattle.laws.specs.Tests.{if◌then◌else◌}
 
 -- a number in decimal, in at most n digits
 unfoldable pub digits : ℕ → ℕ → List ℕ

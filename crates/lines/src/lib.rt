@@ -1,5 +1,7 @@
 // Lines of text, written into lent bytes: a word, then numbers in decimal, each after a space, then a line end. Each
 // function asks for room, writes from a place on and answers the place after what it wrote.
+#![tactic(auto)]
+
 ghost use Rattle.std.specs.Prelude.{◌∷◌, [], ◌++◌};
 ghost use Rattle.lines.specs.Text.{decimal, spaced, line};
 ghost use Rattle.lines.specs.Writing.{Put, RoomFor};

@@ -1,5 +1,5 @@
 -- The rows that the promises on projected values speak of. Theorems cite them, and no contract.
-use Rattle.std.specs.Prelude.{ℕ, ◌<◌, true, List, [], ◌≡◌, length, get_or}
+use Rattle.std.specs.Prelude.{ℕ, ◌<◌, true, List, ◌≡◌, length, get_or}
 use Rattle.arena.specs.Node.{Node}
 use Rattle.arena.specs.Expression.{expression_at}
 use Rattle.arena.specs.Value.{Meaning, Row, value}

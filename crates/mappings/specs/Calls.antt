@@ -1,6 +1,5 @@
 -- The check of everything that a projection is lent: an arena, a group and a mapping.
-use Rattle.std.specs.Prelude.{ℕ, ◌&&◌, List, eqb, length}
-use Rattle.laws.specs.Tests.{if◌then◌else◌}
+use Rattle.std.specs.Prelude.{ℕ, ◌&&◌, List, eqb, length, if◌then◌else◌}
 use Rattle.arena.specs.Layout.{decode as nodes}
 use Rattle.classes.specs.Layout.{in_set}
 use Rattle.classes.specs.Calls.{group_number}

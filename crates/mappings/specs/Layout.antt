@@ -1,5 +1,5 @@
 -- How a mapping lies in its struct: a place for each of 64 sources, the source, the number of its targets and 8 places for them.
-use Rattle.std.specs.Prelude.{ℕ, ◌<◌, ◌≤◌, List, length, get_or, replicate}
+use Rattle.std.specs.Prelude.{ℕ, ◌<◌, ◌≤◌, List, get_or, replicate}
 use Rattle.laws.specs.Lists.{table}
 use Rattle.mappings.specs.Mapping.{Mapped}
 use Rattle.mappings.specs.declared.Source.{Source}

@@ -1,7 +1,7 @@
 -- A projection mapping: sources in their order, each with its targets. What a source becomes stands in an output schema, and its first target is what an expression is projected to.
-use Rattle.std.specs.Prelude.{ℕ, ◌<◌, ◌≤◌, Bool, ◌&&◌, List, [], ◌∷◌, map, ltb, leb, length, get_or}
+use Rattle.std.specs.Prelude.{ℕ, Bool, ◌&&◌, List, [], ◌∷◌, map, ltb, length, get_or, if◌then◌else◌}
 use Rattle.std.proofs.Math.Option.{Option, none, some}
-use Rattle.laws.specs.Tests.{if◌then◌else◌, each}
+use Rattle.laws.specs.Tests.{each}
 use Rattle.classes.specs.Layout.{fresh}
 
 -- a source and its targets

@@ -2,10 +2,12 @@
 // laid out once for the walks that read them.
 //
 // The functions serve the crates above, which hold the calls; the check asks nothing of its caller.
+#![tactic(auto)]
+
 pub mod lent;
 
 // A source: its expression, how many targets it has, and the targets; unused places are 0.
-#[derive(Drop)]
+#[derive(Clone, Copy)]
 pub struct Source {
     pub expr: u32,
     pub size: usize,
@@ -13,7 +15,7 @@ pub struct Source {
 }
 
 // A mapping: how many sources it has, and the sources in their order; unused places have none.
-#[derive(Drop)]
+#[derive(Clone, Copy)]
 pub struct Mapping {
     pub count: usize,
     pub list: [Source; 64],

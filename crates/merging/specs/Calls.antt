@@ -1,8 +1,7 @@
 -- What the public call answers, in document 01's order of refusals. A refusal makes no group.
 -- At the end, what calls answer that make a group of a lent one: their refusal is a case that hands back what came in.
-use Rattle.std.specs.Prelude.{ℕ, true, false, List, eqb}
+use Rattle.std.specs.Prelude.{ℕ, true, false, List, eqb, if◌then◌else◌}
 use Rattle.std.proofs.Math.Option.{Option, none, some}
-use Rattle.laws.specs.Tests.{if◌then◌else◌}
 use Rattle.arena.specs.Node.{Node}
 use Rattle.classes.specs.Class.{Class}
 use Rattle.classes.specs.Layout.{encode}

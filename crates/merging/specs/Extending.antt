@@ -1,6 +1,5 @@
 -- The class functions of the text: extend, push, a class of expressions, contains_any, is_trivial.
-use Rattle.std.specs.Prelude.{ℕ, Bool, false, not, ◌&&◌, ◌||◌, List, [], ◌∷◌, eqb, length}
-use Rattle.laws.specs.Tests.{if◌then◌else◌}
+use Rattle.std.specs.Prelude.{ℕ, Bool, false, not, ◌&&◌, ◌||◌, List, [], ◌∷◌, eqb, length, if◌then◌else◌}
 use Rattle.arena.specs.Node.{Node}
 use Rattle.classes.specs.Class.{Class, no_constant, single, merged, is_constant}
 use Rattle.classes.specs.Group.{among}

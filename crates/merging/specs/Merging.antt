@@ -1,12 +1,11 @@
 -- `new`: a list of classes that may be empty, say nothing or overlap becomes a group.
 use Prim.Native.Nat.{ℕ, zero, suc, ◌+◌, ◌-◌, ◌<◌, ◌≤◌}
-use Rattle.std.specs.Prelude.{◌&&◌, List, ◌≡◌, ltb}
+use Rattle.std.specs.Prelude.{◌&&◌, List, ◌≡◌, ltb, if◌then◌else◌}
 use Rattle.std.proofs.Math.Option.{Option, none, some}
 use Rattle.std.proofs.Math.Path.{ap}
 use Rattle.std.proofs.Common.{◌∙◌}
 use native.Mathlib.Omega.{arith}
 use Rattle.std.proofs.Math.ListN.{length}
-use Rattle.laws.specs.Tests.{if◌then◌else◌}
 use Rattle.classes.specs.Class.{Class}
 use Rattle.classes.specs.Group.{class_at, removed, merged_at, length_removed}
 use Rattle.classes.proofs.Places.{length-merged_at}

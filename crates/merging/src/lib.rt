@@ -3,6 +3,8 @@
 // The function of this file is the public call and asks nothing of its caller: it checks what it is lent for itself, and
 // a refusal gives its number of document 01's table and makes no group. Those of the modules serve the crates above,
 // which hold an arena and groups that are checked already.
+#![tactic(auto)]
+
 pub mod bridging;
 pub mod extending;
 
@@ -15,7 +17,7 @@ use classes::{Changed, Group};
 use lent_classes::lent::{lent_classes, new_number};
 
 // One step of bridging: the group after it, and the place where the next one looks.
-#[derive(Drop)]
+#[derive(Clone, Copy)]
 pub struct Bridged {
     pub group: Group,
     pub next: usize,

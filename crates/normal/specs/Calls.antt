@@ -1,7 +1,6 @@
 -- What the public call answers and what it leaves in the arena, over the lent cells and the struct, in document 01's order of refusals.
 -- A refusal is a case that hands back what came in.
-use Rattle.std.specs.Prelude.{ℕ, List, eqb, ltb, length}
-use Rattle.laws.specs.Tests.{if◌then◌else◌}
+use Rattle.std.specs.Prelude.{ℕ, List, eqb, ltb, length, if◌then◌else◌}
 use Rattle.arena.specs.Node.{Node}
 use Rattle.arena.specs.Expression.{expression_at, expressions, those}
 use Rattle.arena.specs.Arena.{Placed, add_expression, add_expressions}

@@ -1,6 +1,5 @@
 -- What the inner functions ask and promise each other. The public contracts (Calls) cite nothing of this file.
-use Rattle.std.specs.Prelude.{ℕ, ◌<◌, ◌≤◌, List, ◌≡◌, ltb, get_or, take}
-use Rattle.laws.specs.Tests.{if◌then◌else◌}
+use Rattle.std.specs.Prelude.{ℕ, ◌<◌, ◌≤◌, List, ◌≡◌, ltb, get_or, take, if◌then◌else◌}
 use Rattle.arena.specs.Node.{Node, operation, node_at}
 use Rattle.arena.specs.Expression.{Expression}
 use Rattle.arena.specs.Layout.{count, children_of, decode}

@@ -4,6 +4,8 @@
 // The function of this file is the public call and asks nothing of its caller: it checks the lent arena and the group
 // for itself, in the order 12, 11, 1, 3, and a refusal gives its number and leaves every cell as it was. Those of the
 // modules serve the crates above, which hold states that are checked already.
+#![tactic(auto)]
+
 pub mod normalizing;
 pub mod table;
 

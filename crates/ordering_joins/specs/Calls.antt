@@ -1,7 +1,6 @@
 -- What each call that joins the orderings of lists or shifts them answers, over the lent cells and the struct, in document 01's order of refusals.
 -- A refusal is a case that hands back what came in.
-use Rattle.std.specs.Prelude.{ℕ, List, [], eqb, leb, length, ℤ}
-use Rattle.laws.specs.Tests.{if◌then◌else◌}
+use Rattle.std.specs.Prelude.{ℕ, List, [], eqb, leb, length, ℤ, if◌then◌else◌}
 use Rattle.arena.specs.Node.{Node}
 use Rattle.arena.specs.Arena.{Placed, placed, full}
 use Rattle.shifting.specs.Shift.{moved}

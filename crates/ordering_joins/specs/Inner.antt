@@ -1,6 +1,5 @@
 -- What the inner functions ask and promise each other. The public contracts cite nothing of this file.
-use Rattle.std.specs.Prelude.{ℕ, ◌<◌, ◌≤◌, Bool, true, false, ◌&&◌, List, [], ◌∷◌, ◌++◌, ◌≡◌, eqb, length, get_or, take, drop}
-use Rattle.laws.specs.Tests.{if◌then◌else◌}
+use Rattle.std.specs.Prelude.{ℕ, ◌<◌, ◌≤◌, Bool, true, false, ◌&&◌, List, [], ◌∷◌, ◌++◌, ◌≡◌, eqb, length, get_or, take, drop, if◌then◌else◌}
 use Rattle.arena.specs.Node.{Node}
 use Rattle.arena.specs.Arena.{Extends, Placed, placed, full, and_then}
 use Rattle.arena.specs.Layout.{count as cell_count, decode as nodes}

@@ -1,5 +1,7 @@
 // Orderings joined and shifted: the ordering of all orderings of a list, each ordering extended by each of another list, and
 // every key's columns shifted by an offset.
+#![tactic(auto)]
+
 pub mod joining;
 pub mod offsetting;
 
@@ -13,7 +15,7 @@ use orderings::making::refusal;
 use orderings::{Listed, Ordering, Orderings};
 
 // What the joined ordering answers: the refusal's number or 0, and the ordering; none where the list is empty.
-#[derive(Drop)]
+#[derive(Clone, Copy)]
 pub struct Output {
     pub number: u32,
     pub ordering: Ordering,

@@ -1,7 +1,6 @@
 -- What each question answers, over the orderings of a lent list that passes the check, in document 01's order of refusals.
-use Rattle.std.specs.Prelude.{ℕ, List, ltb}
+use Rattle.std.specs.Prelude.{ℕ, List, ltb, if◌then◌else◌}
 use Rattle.std.proofs.Math.Option.{Option, none, some}
-use Rattle.laws.specs.Tests.{if◌then◌else◌}
 use Rattle.ordering_questions.specs.Questions.{get_options, partial_const}
 use Rattle.ordering_questions.specs.declared.OptionsAre.{OptionsAre}
 use Rattle.ordering_questions.specs.declared.OptionsAre.TheVariants.{Are, Absent, Refused as Options-Refused}

@@ -4,6 +4,8 @@
 // The functions of this file are the public calls and ask nothing of their caller: each checks what it is lent for
 // itself, and a refusal gives its number of document 01's table. Those of the module ask of a list that is checked
 // already.
+#![tactic(auto)]
+
 pub mod questions;
 
 ghost use Rattle.std.specs.Prelude.{◌≡◌};
@@ -17,7 +19,7 @@ use orderings::checking::check_list;
 use questions::{options_in, partial_in};
 
 // What the question for an expression's options answers.
-#[derive(Drop)]
+#[derive(Clone, Copy)]
 pub enum OptionsAre {
     Are(u32),
     Absent,
@@ -25,7 +27,7 @@ pub enum OptionsAre {
 }
 
 // What the question whether an expression is partly constant answers.
-#[derive(Drop)]
+#[derive(Clone, Copy)]
 pub enum PartialIs {
     Yes,
     No,

@@ -1,7 +1,7 @@
 -- What each public call answers, over the lent cells and the struct, in document 01's order of refusals.
 -- A refusal is a case that hands back what came in.
-use Rattle.std.specs.Prelude.{ℕ, Bool, ◌&&◌, List, [], eqb, leb, length}
-use Rattle.laws.specs.Tests.{if◌then◌else◌, each}
+use Rattle.std.specs.Prelude.{ℕ, Bool, ◌&&◌, List, [], eqb, leb, length, if◌then◌else◌}
+use Rattle.laws.specs.Tests.{each}
 use Rattle.arena.specs.Layout.{count, lawful}
 use Rattle.orderings.specs.Lists.{ordering_at}
 use Rattle.orderings.specs.Layout.{encode, decode, lawful_list, keys_inside}

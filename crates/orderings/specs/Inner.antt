@@ -1,6 +1,6 @@
 -- What the inner functions ask and promise each other. The public contracts cite nothing of this file.
-use Rattle.std.specs.Prelude.{ℕ, ◌+◌, ◌<◌, ◌≤◌, Bool, true, false, List, [], ◌≡◌, leb, length, drop, set}
-use Rattle.laws.specs.Tests.{if◌then◌else◌, each}
+use Rattle.std.specs.Prelude.{ℕ, ◌+◌, ◌<◌, ◌≤◌, Bool, true, false, List, [], ◌≡◌, leb, length, drop, set, if◌then◌else◌}
+use Rattle.laws.specs.Tests.{each}
 use Rattle.orderings.specs.Ordering.{extended}
 use Rattle.orderings.specs.Lists.{ordering_at}
 use Rattle.orderings.specs.Good.{Good, GoodOrdering}

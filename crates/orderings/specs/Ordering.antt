@@ -1,6 +1,5 @@
 -- An ordering is a list of keys. A key is an expression and options 0 to 3 (1 for descending plus 2 for nulls first), as one number: expression · 4 + options.
-use Rattle.std.specs.Prelude.{ℕ, ◌/◌, ◌%◌, Bool, false, ◌||◌, List, [], ◌∷◌, ◌++◌, eqb}
-use Rattle.laws.specs.Tests.{if◌then◌else◌}
+use Rattle.std.specs.Prelude.{ℕ, ◌/◌, ◌%◌, Bool, false, ◌||◌, List, [], ◌∷◌, ◌++◌, eqb, if◌then◌else◌}
 
 -- the expression of a key
 unfoldable pub expr_of : ℕ → ℕ

@@ -2,6 +2,8 @@
 //
 // A key is an expression and options 0 to 3, one number: expression · 4 + options. An ordering has 1 to 16 keys, no
 // expression twice; a list has at most 32 orderings. A list goes in by value and comes back by value.
+#![tactic(auto)]
+
 pub mod checking;
 pub mod making;
 pub mod pushing;
@@ -13,28 +15,28 @@ use checking::check_list;
 use making::{no_orderings, refusal};
 
 // An ordering: how many keys it has, and the keys; unused places are 0.
-#[derive(Drop)]
+#[derive(Clone, Copy)]
 pub struct Ordering {
     pub size: usize,
     pub keys: [u16; 16],
 }
 
 // A list of orderings: how many there are, and the orderings; unused places are empty orderings.
-#[derive(Drop)]
+#[derive(Clone, Copy)]
 pub struct Orderings {
     pub count: usize,
     pub list: [Ordering; 32],
 }
 
 // What a call that makes a list answers: the refusal's number or 0, and the list; beside a refusal the list that was given.
-#[derive(Drop)]
+#[derive(Clone, Copy)]
 pub struct Listed {
     pub number: u32,
     pub list: Orderings,
 }
 
 // What extending an ordering answers: whether it has at most 16 keys, and the ordering, an empty one where it has more.
-#[derive(Drop)]
+#[derive(Clone, Copy)]
 pub struct Extended {
     pub fits: bool,
     pub ordering: Ordering,

@@ -1,6 +1,6 @@
 -- The orderings of several dependencies: the prefix orderings of each that has some, one of each in all ways, and each such choice in all orders.
 use Rattle.std.specs.Prelude.{ℕ, List, [], ◌∷◌, ◌++◌, map, length, get_or}
-use Rattle.std.proofs.Math.Option.{none, some}
+use Rattle.std.proofs.Math.Option.{some}
 use Rattle.orderings.specs.Ordering.{extended}
 use Rattle.dependencies.specs.Map.{Dependent, with_dependency}
 use Rattle.enumeration.specs.Walk.{Walk, found, stopped, prefix_orderings}

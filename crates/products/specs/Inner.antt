@@ -1,7 +1,6 @@
 -- What the inner functions ask and promise each other, here and in the crates above. The public contracts cite nothing of this file.
-use Rattle.std.specs.Prelude.{ℕ, zero, suc, ◌+◌, ◌-◌, ◌*◌, ◌<◌, ◌≤◌, true, false, List, [], ◌∷◌, ◌++◌, map, ◌≡◌, leb, length, get_or, replicate}
+use Rattle.std.specs.Prelude.{ℕ, zero, suc, ◌+◌, ◌-◌, ◌*◌, ◌<◌, ◌≤◌, true, false, List, [], ◌∷◌, ◌++◌, map, ◌≡◌, leb, length, get_or, replicate, if◌then◌else◌}
 use Rattle.laws.specs.Lists.{table}
-use Rattle.laws.specs.Tests.{if◌then◌else◌}
 use Rattle.orderings.specs.Layout.{row, keys_of}
 use Rattle.orderings.specs.Inner.{ShortOrdering}
 use Rattle.products.specs.declared.Shape.{Shape}

@@ -1,6 +1,5 @@
 -- The orders of n places, in lexicographic order, and products of lists whose last part varies fastest.
-use Rattle.std.specs.Prelude.{ℕ, zero, suc, ◌+◌, List, [], ◌∷◌, ◌++◌, map, ltb}
-use Rattle.laws.specs.Tests.{if◌then◌else◌}
+use Rattle.std.specs.Prelude.{ℕ, zero, suc, ◌+◌, List, [], ◌∷◌, ◌++◌, map, ltb, if◌then◌else◌}
 
 -- a place of n as a place of one more, where place i is passed over
 unfoldable pub passing : ℕ → ℕ → ℕ

@@ -2,6 +2,8 @@
 // choice and each order is made from its number; nothing is kept of the one before it.
 //
 // The functions of the modules serve the crates above, which hold lists that are within the bounds.
+#![tactic(auto)]
+
 pub mod choosing;
 pub mod ordering;
 
@@ -9,35 +11,35 @@ use enumeration::Found;
 use orderings::Ordering;
 
 // How many lists there are, and where each ends among the orderings of all of them.
-#[derive(Drop)]
+#[derive(Clone, Copy)]
 pub struct Shape {
     pub size: usize,
     pub ends: [usize; 6],
 }
 
 // Lists of orderings: where each ends, and the orderings of all of them, list after list.
-#[derive(Drop)]
+#[derive(Clone, Copy)]
 pub struct Lists {
     pub shape: Shape,
     pub found: Found,
 }
 
 // One ordering of each list: how many they are, and these; unused places are empty orderings.
-#[derive(Drop)]
+#[derive(Clone, Copy)]
 pub struct Choice {
     pub size: usize,
     pub rows: [Ordering; 6],
 }
 
 // An order of places: how many places there are, and these; unused places are 0.
-#[derive(Drop)]
+#[derive(Clone, Copy)]
 pub struct Order {
     pub size: usize,
     pub places: [usize; 6],
 }
 
 // A number, or that what is counted is over its bound.
-#[derive(Drop)]
+#[derive(Clone, Copy)]
 pub struct Counted {
     pub fits: bool,
     pub count: usize,

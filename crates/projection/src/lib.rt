@@ -7,6 +7,8 @@
 // group, the mapping and the expressions for itself, in the order 12, 11, 1, 3, 8, and a refusal gives its number and
 // leaves every cell and the output as they were. Those of the modules serve the crates above, which hold states that
 // are checked already.
+#![tactic(auto)]
+
 pub mod listing;
 pub mod walking;
 
@@ -21,7 +23,7 @@ use mappings::lent::{project_number, read_mapping};
 use walking::project_in;
 
 // What the projection of an expression answers: its number, that there is none, or the number of the refusal.
-#[derive(Drop)]
+#[derive(Clone, Copy)]
 pub enum Projected {
     Number(u32),
     Nothing,

@@ -1,7 +1,6 @@
 -- Projecting an expression: a mapped source becomes its first target; else a literal stays; else the first mapping whose source's class holds it gives its first target; else all children must project; a childless node does not.
-use Rattle.std.specs.Prelude.{ℕ, List, [], ◌∷◌, map, eqb, get_or}
+use Rattle.std.specs.Prelude.{ℕ, List, [], ◌∷◌, map, eqb, get_or, if◌then◌else◌}
 use Rattle.std.proofs.Math.Option.{Option, none, some}
-use Rattle.laws.specs.Tests.{if◌then◌else◌}
 use Rattle.arena.specs.Node.{Node, column, literal, operation, node_at, made}
 use Rattle.arena.specs.Expression.{Expression, Expressions, op, ∅, ◌▹◌, expression_at}
 use Rattle.arena.specs.Arena.{Placed, placed, and_then, add_expression}

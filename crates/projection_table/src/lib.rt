@@ -3,4 +3,6 @@
 //
 // The function asks for an arena, a group and a mapping that are checked already, and changes nothing: what is missing
 // of the projections is added by the crates above.
+#![tactic(auto)]
+
 pub mod table;

@@ -1,6 +1,5 @@
 -- A sequence of equal conditions, call by call: each call is lent the group that the one before it handed back, refused or not. The arena is lent to all of them.
-use Rattle.std.specs.Prelude.{ℕ, List, [], ◌∷◌, ◌++◌, eqb}
-use Rattle.laws.specs.Tests.{if◌then◌else◌}
+use Rattle.std.specs.Prelude.{ℕ, List, [], ◌∷◌, ◌++◌, eqb, if◌then◌else◌}
 use Rattle.classes.specs.Layout.{decode}
 use Rattle.classes.specs.Steps.{Outcome}
 use Rattle.classes.specs.Calls.{on_group}

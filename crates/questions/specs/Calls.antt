@@ -1,6 +1,5 @@
 -- What each question answers, over the nodes and the classes of a lent group, with its number and its values.
-use Rattle.std.specs.Prelude.{ℕ, ◌&&◌, List, [], ◌∷◌, ltb, length}
-use Rattle.laws.specs.Tests.{if◌then◌else◌}
+use Rattle.std.specs.Prelude.{ℕ, ◌&&◌, List, [], ◌∷◌, ltb, length, if◌then◌else◌}
 use Rattle.arena.specs.Node.{Node}
 use Rattle.classes.specs.Class.{Class}
 use Rattle.classes.specs.Layout.{mark_of}

@@ -1,7 +1,7 @@
 -- The two questions. Each is answered for every number of the arena, from the answers for the nodes before it.
-use Rattle.std.specs.Prelude.{ℕ, Bool, false, ◌&&◌, ◌||◌, List, eqb, ltb, length, get_or}
+use Rattle.std.specs.Prelude.{ℕ, Bool, false, ◌&&◌, ◌||◌, List, eqb, ltb, length, get_or, if◌then◌else◌}
 use Rattle.std.proofs.Math.Option.{Option, none, some}
-use Rattle.laws.specs.Tests.{if◌then◌else◌, each}
+use Rattle.laws.specs.Tests.{each}
 use Rattle.arena.specs.Node.{Node, node_at, child_numbers, made}
 use Rattle.classes.specs.Class.{Constant, no_constant, heterogeneous, unknown, known, Class, carried, is_constant}
 use Rattle.classes.specs.Group.{class_at, class_of, same_class}

@@ -4,6 +4,8 @@
 // The functions of this file are the public calls and ask nothing of their caller: each checks the lent arena and
 // the group for itself, in the order 12, 11, 1. Those of the module serve the crates above, which hold a group that
 // is checked already.
+#![tactic(auto)]
+
 pub mod questions;
 
 ghost use Rattle.std.specs.Prelude.{◌≡◌};
@@ -16,7 +18,7 @@ use group_checks::checking::check_group;
 use questions::{constant_in, equal_in};
 
 // What the equality question answers.
-#[derive(Drop)]
+#[derive(Clone, Copy)]
 pub enum Answer {
     Yes,
     No,
@@ -24,7 +26,7 @@ pub enum Answer {
 }
 
 // What the constant question answers.
-#[derive(Drop)]
+#[derive(Clone, Copy)]
 pub enum ConstantIs {
     Is(Mark),
     Refused(u32),

@@ -1,7 +1,6 @@
 -- For join kinds 4 to 9: which of two lent group records a join keeps, as a part of the caller's bytes. The body is not read.
-use Rattle.std.specs.Prelude.{ℕ, ◌+◌, Bool, ◌&&◌, List, [], eqb, ltb, take}
+use Rattle.std.specs.Prelude.{ℕ, ◌+◌, Bool, ◌&&◌, List, [], eqb, ltb, take, if◌then◌else◌}
 use Rattle.std.proofs.Math.Option.{Option, none, some}
-use Rattle.laws.specs.Tests.{if◌then◌else◌}
 use Rattle.records.specs.Fields.{field}
 use Rattle.records.specs.Record.{is_whole, record_size}
 

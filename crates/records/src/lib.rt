@@ -2,6 +2,8 @@
 //
 // A record of a session has one of the kinds 1 to 8; kind 16 is a group. The functions of this file are the public
 // calls and ask nothing of their caller.
+#![tactic(auto)]
+
 pub mod fields;
 pub mod kinds;
 
@@ -14,7 +16,7 @@ use kinds::{body_length, is_whole, read_body};
 // What a record says: a column's name and index, a literal's value, an operation's label and how many children follow,
 // an equal pair, a constant's expression, flavour and value, the expression of a normal form, those of an equality
 // question, how many keys of an ordering follow; or that it is malformed.
-#[derive(Drop)]
+#[derive(Clone, Copy)]
 pub enum Item {
     Column(u16, u16),
     Literal(u32),

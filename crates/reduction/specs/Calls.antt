@@ -1,7 +1,6 @@
 -- What each call that reduces a list answers, over the lent cells, the struct and lists of keys lent as numbers, in document 01's order of refusals.
 -- A refusal is a case that hands back what came in.
-use Rattle.std.specs.Prelude.{ℕ, ◌&&◌, List, [], ◌++◌, eqb}
-use Rattle.laws.specs.Tests.{if◌then◌else◌}
+use Rattle.std.specs.Prelude.{ℕ, ◌&&◌, List, [], ◌++◌, eqb, if◌then◌else◌}
 use Rattle.arena.specs.Layout.{count, lawful}
 use Rattle.orderings.specs.Ordering.{same_key}
 use Rattle.orderings.specs.Lists.{built_all}

@@ -1,7 +1,7 @@
 -- Comparing two orderings, as `remove_redundant_entries` does it, over any match m of two keys: a suffix of one that is a prefix of the other is cut off; an ordering cut to nothing is replaced by the last. Cuts are counted.
-use Rattle.std.specs.Prelude.{ℕ, ◌+◌, ◌-◌, min, Bool, List, [], ◌∷◌, eqb, length, get_or, take, set}
+use Rattle.std.specs.Prelude.{ℕ, ◌+◌, ◌-◌, min, Bool, List, [], ◌∷◌, eqb, length, get_or, take, set, if◌then◌else◌}
 use Rattle.std.proofs.Math.Option.{Option, none, some}
-use Rattle.laws.specs.Tests.{if◌then◌else◌, each, first}
+use Rattle.laws.specs.Tests.{each, first}
 use Rattle.orderings.specs.Lists.{ordering_at}
 
 -- the last n keys of a are the first n keys of b

@@ -1,5 +1,5 @@
 -- What comparing leaves, in numbers: so many orderings fewer, and for each cut at least one key fewer. Laws only, on which the equations of Reduction rest; a reader may pass over them.
-use Rattle.std.specs.Prelude.{ℕ, zero, suc, ◌+◌, ◌-◌, ◌<◌, ◌≤◌, min, Bool, true, false, List, [], ◌∷◌, ◌≡◌, refl, eqb, length, take, set}
+use Rattle.std.specs.Prelude.{ℕ, zero, suc, ◌+◌, ◌-◌, ◌<◌, ◌≤◌, min, Bool, true, false, List, [], ◌∷◌, ◌≡◌, refl, eqb, length, take, set, if◌then◌else◌}
 use Rattle.std.proofs.Math.Option.{Option, none, some}
 use Rattle.std.proofs.Common.{ap, ◌∙◌, eqb-true, length-take-le, get_or-take}
 use Rattle.std.proofs.Math.Decide.{ℕ_discrete}
@@ -7,7 +7,6 @@ use native.Mathlib.Omega.{arith}
 use Rattle.std.proofs.lemmas.Bool.{eqb-false}
 use Rattle.std.proofs.Math.ListN.{length-set}
 use Rattle.std.proofs.Math.Seq.{set_out}
-use Rattle.laws.specs.Tests.{if◌then◌else◌}
 use Rattle.laws.proofs.First.{first_some}
 use Rattle.orderings.specs.Lists.{ordering_at}
 use Rattle.reduction.specs.Comparing.{meets, overlap, removed, Resolved, apart, trimmed, emptied, resolved_by, resolve, Way, onward, again, anew, Compared, second, compared, keys_in}

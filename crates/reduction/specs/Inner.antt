@@ -1,7 +1,6 @@
 -- What the inner functions ask and promise each other. The public contracts cite nothing of this file.
-use Rattle.std.specs.Prelude.{ℕ, ◌+◌, ◌<◌, ◌≤◌, true, List, ◌≡◌, eqb, leb, length}
+use Rattle.std.specs.Prelude.{ℕ, ◌+◌, ◌<◌, ◌≤◌, true, List, ◌≡◌, eqb, leb, length, if◌then◌else◌}
 use Rattle.std.proofs.Math.Option.{Option, none, some}
-use Rattle.laws.specs.Tests.{if◌then◌else◌}
 use Rattle.reduction.specs.Lent.{key_count, expr_lent, options_lent, exprs_inside, options_known}
 use Rattle.reduction.specs.Reduction.{Way, onward, again, anew, Compared, Turn, Reduced, keys_in}
 use Rattle.orderings.specs.Layout.{encode, decode}

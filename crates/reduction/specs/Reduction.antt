@@ -1,14 +1,13 @@
 -- Reduction, as `remove_redundant_entries` does it, over any match m of two keys. Cuts and passes are counted.
 -- The text's three loops are counted down to end. Under each stands, proved, what it comes to; what counts down is exact or more than enough, and nothing after looks at it.
 use Prim.Native.Nat.{ℕ, zero, suc, ◌+◌, ◌-◌, ◌<◌, ◌≤◌}
-use Rattle.std.specs.Prelude.{Bool, true, false, List, ◌≡◌, eqb, ltb}
+use Rattle.std.specs.Prelude.{Bool, true, false, List, ◌≡◌, eqb, ltb, if◌then◌else◌}
 use Rattle.std.proofs.Math.Path.{refl, ap}
 use Rattle.std.proofs.Common.{◌∙◌, add-one, lt-ltb, le-ltb, ltb-true, ne_eqb}
 use Rattle.std.proofs.Math.Decide.{dec_lt}
 use native.Mathlib.Omega.{arith}
 use Rattle.std.proofs.lemmas.Bool.{eqb-false}
 use Rattle.std.proofs.Math.ListN.{length}
-use Rattle.laws.specs.Tests.{if◌then◌else◌}
 use Rattle.reduction.specs.Fewer.{goes, Left, compared-left}
 pub use Rattle.reduction.specs.Comparing.{Resolved, apart, trimmed, emptied, Way, onward, again, anew, Compared}
 unfoldable pub use Rattle.reduction.specs.Comparing.{meets, overlap, removed, resolved_by, resolve, second, compared, keys_in}

@@ -1,5 +1,7 @@
 // Reduction of lists of orderings (`remove_redundant_entries`), and the calls that make a list from lists of keys, lent as
 // numbers, and reduce it.
+#![tactic(auto)]
+
 pub mod lent;
 pub mod reducing;
 
@@ -12,7 +14,7 @@ use orderings::{Listed, Orderings};
 
 // What comparing two orderings came to: how the comparing goes on (0 with the next, 1 with the same place, 2 from the
 // first place anew), how many cuts were made, and the list.
-#[derive(Drop)]
+#[derive(Clone, Copy)]
 pub struct Contest {
     pub way: u32,
     pub cuts: usize,
@@ -20,7 +22,7 @@ pub struct Contest {
 }
 
 // What a loop of the reduction came to: the place where the next one goes on, the cuts so far, and the list.
-#[derive(Drop)]
+#[derive(Clone, Copy)]
 pub struct Turned {
     pub next: usize,
     pub cuts: usize,
@@ -28,7 +30,7 @@ pub struct Turned {
 }
 
 // What reduction came to: the list, and how many cuts and passes were made.
-#[derive(Drop)]
+#[derive(Clone, Copy)]
 pub struct Reduction {
     pub list: Orderings,
     pub cuts: usize,

@@ -1,6 +1,5 @@
 // Reduction (`remove_redundant_entries`), over a list that is checked already.
-ghost use Rattle.std.specs.Prelude.{◌≡◌, ◌≤◌, ◌<◌, ◌+◌, ◌-◌, eqb, length, set, take};
-ghost use Rattle.laws.specs.Tests.{if◌then◌else◌};
+ghost use Rattle.std.specs.Prelude.{◌≡◌, ◌≤◌, ◌<◌, ◌+◌, ◌-◌, eqb, length, set, take, if◌then◌else◌};
 ghost use Rattle.orderings.specs.Ordering.{same_key};
 ghost use Rattle.reduction.specs.Reduction.{meets as meets_by, overlap as overlap_by, removed as removed_at, resolve, second as second_by, compared, round as round_by, pass as pass_by, reduced as reduced_by};
 ghost use Rattle.orderings.specs.Lists.{ordering_at};

@@ -1,6 +1,6 @@
 -- What a session holds, and what each record does to it.
-use Rattle.std.specs.Prelude.{ℕ, ◌+◌, ◌*◌, Bool, true, false, List, [], ◌∷◌, ◌++◌, map, eqb, ltb, leb, length, get_or}
-use Rattle.laws.specs.Tests.{if◌then◌else◌, each}
+use Rattle.std.specs.Prelude.{ℕ, ◌+◌, ◌*◌, Bool, true, false, List, [], ◌∷◌, ◌++◌, map, eqb, ltb, leb, length, get_or, if◌then◌else◌}
+use Rattle.laws.specs.Tests.{each}
 use Rattle.arena.specs.Node.{Node}
 use Rattle.arena.specs.Calls.{add_column, add_literal, add_operation}
 use Rattle.arena.specs.declared.Added.{Added}

@@ -9,14 +9,14 @@ use orderings::Orderings;
 use orderings::making::no_orderings;
 
 // The group and the orderings.
-#[derive(Drop)]
+#[derive(Clone, Copy)]
 pub struct Holding {
     pub group: Group,
     pub list: Orderings,
 }
 
 // What a record is answered with: nothing, a normal form, a yes or a no, or a refusal.
-#[derive(Drop)]
+#[derive(Clone, Copy)]
 pub enum Said {
     Quiet,
     NormalForm(u32, u32),
@@ -25,7 +25,7 @@ pub enum Said {
 }
 
 // The answer and what is held afterwards.
-#[derive(Drop)]
+#[derive(Clone, Copy)]
 pub struct Stepped {
     pub said: Said,
     pub holding: Holding,

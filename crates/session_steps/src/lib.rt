@@ -3,5 +3,7 @@
 //
 // A record has the effect of the call that it stands for. The functions serve the crate transcript, whose session goes
 // over the records: it holds an arena, a group and orderings that are checked already.
+#![tactic(auto)]
+
 pub mod holding;
 pub mod steps;

@@ -3,10 +3,12 @@
 //
 // The functions serve the crate joins, which holds an arena and groups that are checked already, and say in `requires`
 // what they ask.
+#![tactic(auto)]
+
 pub mod right_side;
 
 // The members of a group's classes, shifted, in a table of 256 places, or that the arena has no room.
-#[derive(Drop)]
+#[derive(Clone, Copy)]
 pub struct Members {
     pub fits: bool,
     pub members: [u32; 256],

@@ -1,6 +1,5 @@
 -- What the shift of an expression answers and what it leaves in the arena, in document 01's order of refusals.
-use Rattle.std.specs.Prelude.{ℕ, List, ltb, ℤ, length}
-use Rattle.laws.specs.Tests.{if◌then◌else◌}
+use Rattle.std.specs.Prelude.{ℕ, List, ltb, ℤ, length, if◌then◌else◌}
 use Rattle.arena.specs.Node.{Node}
 use Rattle.arena.specs.Expression.{expression_at}
 use Rattle.arena.specs.Arena.{add_expression}

@@ -1,7 +1,6 @@
 -- What the inner functions ask and promise each other. The public contract (Calls) cites nothing of this file.
-use Rattle.std.specs.Prelude.{ℕ, ◌+◌, ◌-◌, ◌≤◌, true, ◌&&◌, List, ◌≡◌, ltb, leb, get_or}
+use Rattle.std.specs.Prelude.{ℕ, ◌+◌, ◌-◌, ◌≤◌, true, ◌&&◌, List, ◌≡◌, ltb, leb, get_or, if◌then◌else◌}
 use Rattle.std.proofs.Math.Option.{Option, none, some}
-use Rattle.laws.specs.Tests.{if◌then◌else◌}
 use Rattle.arena.specs.Node.{operation, node_at}
 use Rattle.arena.specs.Expression.{Expression, expression_at}
 use Rattle.shifting.specs.Shift.{can_move, shifted}

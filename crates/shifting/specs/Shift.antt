@@ -1,7 +1,7 @@
 -- Shifting an expression by a signed offset: names stay, every column's index moves.
-use Rattle.std.specs.Prelude.{ℕ, Bool, true, ◌&&◌, ltb, ℤ, pos, negsuc, ◌+ℤ◌}
+use Rattle.std.specs.Prelude.{ℕ, Bool, true, ◌&&◌, ltb, ℤ, pos, negsuc, ◌+ℤ◌, if◌then◌else◌}
 use Rattle.std.proofs.Math.Option.{Option, none, some, get_or}
-use Rattle.laws.specs.Tests.{if◌then◌else◌, is_some}
+use Rattle.laws.specs.Tests.{is_some}
 use Rattle.arena.specs.Expression.{Expression, Expressions, col, lit, op, ∅, ◌▹◌}
 
 -- a whole number as a column's index, if it lies in 0..65,535

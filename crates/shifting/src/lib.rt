@@ -4,6 +4,8 @@
 // file checks them for itself and asks nothing of its caller, and a refusal gives its number of document 01's
 // table and leaves every cell as it was. Those of the module serve the crates above, which hold an arena that is
 // checked already, and say in `requires` what they ask.
+#![tactic(auto)]
+
 pub mod shifting;
 
 ghost use Rattle.std.specs.Prelude.{◌≡◌};

@@ -1,7 +1,7 @@
 -- What each public call answers and what it leaves in the arena, over the lent cells and the struct, in document 01's order of refusals.
 -- A refusal is a case that hands back what came in.
-use Rattle.std.specs.Prelude.{ℕ, ◌&&◌, List, ltb, leb, length, get_or}
-use Rattle.laws.specs.Tests.{if◌then◌else◌, each}
+use Rattle.std.specs.Prelude.{ℕ, ◌&&◌, List, ltb, leb, length, get_or, if◌then◌else◌}
+use Rattle.laws.specs.Tests.{each}
 use Rattle.arena.specs.Node.{Node}
 use Rattle.arena.specs.Arena.{Placed, placed, full}
 use Rattle.arena.specs.declared.Added.{Added}

@@ -1,6 +1,5 @@
 -- What the inner functions ask and promise each other. The public contracts (Calls) cite nothing of this file.
-use Rattle.std.specs.Prelude.{ℕ, ◌+◌, ◌*◌, ◌/◌, ◌<◌, ◌≤◌, Bool, ◌&&◌, ◌||◌, List, [], ◌∷◌, ◌≡◌, eqb, ltb, leb, length, get_or, take, set}
-use Rattle.laws.specs.Tests.{if◌then◌else◌}
+use Rattle.std.specs.Prelude.{ℕ, ◌+◌, ◌*◌, ◌/◌, ◌<◌, ◌≤◌, Bool, ◌&&◌, ◌||◌, List, [], ◌∷◌, ◌≡◌, eqb, ltb, leb, length, get_or, take, set, if◌then◌else◌}
 use Rattle.arena.specs.Node.{Node, node_at}
 use Rattle.arena.specs.Expression.{expressions, those}
 use Rattle.arena.specs.Arena.{Extends, Placed, placed, full, and_then, add_expressions}

@@ -1,6 +1,5 @@
 -- Sort keys and their normal forms.
-use Rattle.std.specs.Prelude.{ℕ, Bool, List, [], ◌∷◌, map}
-use Rattle.laws.specs.Tests.{if◌then◌else◌}
+use Rattle.std.specs.Prelude.{ℕ, Bool, List, [], ◌∷◌, map, if◌then◌else◌}
 use Rattle.arena.specs.Node.{Node}
 use Rattle.classes.specs.Class.{Class, is_uniform}
 use Rattle.questions.specs.Questions.{expr_constant}

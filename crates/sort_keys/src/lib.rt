@@ -4,6 +4,8 @@
 // The functions of this file are the public calls and ask nothing of their caller: each checks the lent arena, the
 // group and the keys for itself, in the order 12, 11, 1, 3, 5, and a refusal gives its number and leaves every cell
 // as it was. Those of the module serve the crates above, which hold states that are checked already.
+#![tactic(auto)]
+
 pub mod keys;
 
 ghost use Rattle.std.specs.Prelude.{◌≡◌};
@@ -17,7 +19,7 @@ use keys::{exprs_below, no_keys, options_known, sort_in};
 use normal::normalize_expr;
 
 // What the normal form of a sort key answers: its expression and its options, or the number of the refusal.
-#[derive(Drop)]
+#[derive(Clone, Copy)]
 pub enum KeyIs {
     Is(u32, u32),
     Refused(u32),
@@ -25,7 +27,7 @@ pub enum KeyIs {
 
 // What the normal forms of sort keys answer: the refusal's number or 0, how many keys there are, and the keys, each as
 // expression · 4 + options; unused places are 0.
-#[derive(Drop)]
+#[derive(Clone, Copy)]
 pub struct Sorted {
     pub number: u32,
     pub size: usize,

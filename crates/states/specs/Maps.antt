@@ -1,6 +1,5 @@
 -- A dependency map in 1,217 cells: its count, then for each of 64 keys the key, its target + 1 (0 for none), how many dependencies it has, and 16 places for them.
-use Rattle.std.specs.Prelude.{ℕ, ◌+◌, ◌-◌, ◌*◌, not, List, ◌∷◌, eqb, get_or}
-use Rattle.laws.specs.Tests.{if◌then◌else◌}
+use Rattle.std.specs.Prelude.{ℕ, ◌+◌, ◌-◌, ◌*◌, not, List, ◌∷◌, eqb, get_or, if◌then◌else◌}
 use Rattle.laws.specs.Lists.{table}
 use Rattle.dependencies.specs.Layout.{place_in}
 use Rattle.dependencies.specs.declared.DependencyNode.{DependencyNode}

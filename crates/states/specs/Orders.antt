@@ -1,6 +1,5 @@
 -- An ordering in 17 cells, its size and 16 places for keys, and a list in 545: its count and 32 orderings.
-use Rattle.std.specs.Prelude.{ℕ, ◌+◌, ◌*◌, List, [], ◌∷◌, eqb, get_or}
-use Rattle.laws.specs.Tests.{if◌then◌else◌}
+use Rattle.std.specs.Prelude.{ℕ, ◌+◌, ◌*◌, List, ◌∷◌, eqb, get_or, if◌then◌else◌}
 use Rattle.laws.specs.Lists.{table}
 use Rattle.orderings.specs.Layout.{place_in}
 use Rattle.orderings.specs.declared.Ordering.{Ordering}

@@ -4,6 +4,8 @@
 //
 // Reading asks nothing: any cells are read as some struct, which the call that is lent it checks. The constants say the
 // sizes and layouts; the C header has the same ones.
+#![tactic(auto)]
+
 pub mod maps;
 pub mod numbers;
 pub mod orders;

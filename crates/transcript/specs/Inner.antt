@@ -5,14 +5,14 @@ use Rattle.records.specs.declared.Item.TheVariants.{Column, Literal, Operation, 
 use Rattle.lines.specs.Text.{line}
 use Rattle.session_steps.specs.declared.holding.Said.{Said}
 use Rattle.session_steps.specs.declared.holding.Said.TheVariants.{Quiet, NormalForm, Equality, Refused}
-use Rattle.transcript.specs.Session.{bit, n-word, q_word, r-word}
+use Rattle.transcript.specs.Session.{bit, n_word, q_word, r_word}
 
 -- what is printed for what a record is answered with
 unfoldable pub said_text : ℕ → Said → List ℕ
 said_text k Quiet = []
-said_text k (NormalForm e r) = line n-word (e ∷ r ∷ [])
+said_text k (NormalForm e r) = line n_word (e ∷ r ∷ [])
 said_text k (Equality a b v) = line q_word (a ∷ b ∷ bit v ∷ [])
-said_text k (Refused number) = line r-word (k ∷ number ∷ [])
+said_text k (Refused number) = line r_word (k ∷ number ∷ [])
 
 -- a record is malformed
 unfoldable pub is_malformed : Item → Bool

@@ -1,10 +1,9 @@
 -- A session: input bytes to the text that is printed.
-use Rattle.std.specs.Prelude.{ℕ, zero, suc, ◌+◌, ◌<◌, ◌≤◌, Bool, true, false, List, [], ◌∷◌, ◌++◌, ◌≡◌, refl, eqb, leb, length, drop}
+use Rattle.std.specs.Prelude.{ℕ, zero, suc, ◌+◌, ◌<◌, ◌≤◌, Bool, true, false, List, [], ◌∷◌, ◌++◌, ◌≡◌, refl, eqb, leb, length, drop, if◌then◌else◌}
 use Rattle.std.proofs.Math.Option.{Option, none, some}
 use Rattle.std.proofs.Common.{ap, ◌∙◌, arith, eq-eqb, ne_eqb}
 use Rattle.std.proofs.lemmas.Bool.{eqb-false}
 use Rattle.std.proofs.Math.ListN.{length-drop}
-use Rattle.laws.specs.Tests.{if◌then◌else◌}
 use Rattle.classes.specs.Group.{total}
 use Rattle.records.specs.Record.{Record, read_record, record_size}
 use Rattle.records.proofs.Items.{size_least, size-most}
@@ -81,14 +80,14 @@ bit true = 1
 bit false = 0
 
 -- the words `n`, `q`, `r`, `end`
-abbrev pub n-word : List ℕ
-n-word = 110 ∷ []
+abbrev pub n_word : List ℕ
+n_word = 110 ∷ []
 
 abbrev pub q_word : List ℕ
 q_word = 113 ∷ []
 
-abbrev pub r-word : List ℕ
-r-word = 114 ∷ []
+abbrev pub r_word : List ℕ
+r_word = 114 ∷ []
 
 abbrev pub end_word : List ℕ
 end_word = 101 ∷ 110 ∷ 100 ∷ []
@@ -96,9 +95,9 @@ end_word = 101 ∷ 110 ∷ 100 ∷ []
 -- what is printed for record k: `n E R`, `q A B V`, `r K N`, or nothing
 unfoldable pub reply_text : ℕ → Reply → List ℕ
 reply_text k quiet = []
-reply_text k (normal_form e r) = line n-word (e ∷ r ∷ [])
+reply_text k (normal_form e r) = line n_word (e ∷ r ∷ [])
 reply_text k (equality a b v) = line q_word (a ∷ b ∷ bit v ∷ [])
-reply_text k (refusal number) = line r-word (k ∷ number ∷ [])
+reply_text k (refusal number) = line r_word (k ∷ number ∷ [])
 
 -- what is printed for records, the first of them record k
 unfoldable pub replies : ℕ → State → List Record → List ℕ
@@ -108,7 +107,7 @@ replies k s (r ∷ rs) = reply_text k (step r s).0 ++ replies (k + 1) (step r s)
 -- what is printed for a malformed record: it has the number after the last, and stops the session
 unfoldable pub stop_text : ℕ → Bool → List ℕ
 stop_text k true = []
-stop_text k false = line r-word (k ∷ 9 ∷ [])
+stop_text k false = line r_word (k ∷ 9 ∷ [])
 
 -- the last line: classes, members, orderings
 unfoldable pub end_text : State → List ℕ
@@ -123,7 +122,7 @@ script_text k s script =
 unfoldable pub session_text : List ℕ → List ℕ
 session_text bytes =
     if leb (length bytes) 65536 then script_text 1 start (read_all bytes)
-    else line r-word (0 ∷ 9 ∷ []) ++ end_text start
+    else line r_word (0 ∷ 9 ∷ []) ++ end_text start
 
 -- the call on lent output: 8 where the text doesn't fit, and then nothing is written; else its length, and the text at the start of the output
 unfoldable pub session : List ℕ → List ℕ → Written × List ℕ

@@ -3,6 +3,8 @@
 // It opens a group of limit 256, takes the records one after the other and answers each with a line or with nothing;
 // a malformed record stops it, and another refusal doesn't. Its last line counts classes, members and orderings. What
 // one record does is in the crate session_steps.
+#![tactic(auto)]
+
 pub mod text;
 
 ghost use Rattle.std.specs.Prelude.{◌≡◌, ◌≤◌, [], ◌++◌, length, take, drop};
@@ -22,7 +24,7 @@ use text::{put_end, put_refusal, put_said};
 pub const ENOUGH: usize = 131096;
 
 // What a session answers: how many bytes were written, or the number of the refusal.
-#[derive(Drop)]
+#[derive(Clone, Copy)]
 pub enum Written {
     Bytes(usize),
     Refused(u32),

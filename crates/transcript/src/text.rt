@@ -2,7 +2,7 @@
 ghost use Rattle.std.specs.Prelude.{◌∷◌, [], ◌≡◌};
 ghost use Rattle.lines.specs.Text.{line};
 ghost use Rattle.lines.specs.Writing.{Put, RoomFor};
-ghost use Rattle.transcript.specs.Session.{r-word, end-word, bit as bit_of};
+ghost use Rattle.transcript.specs.Session.{r_word, end_word, bit as bit_of};
 ghost use Rattle.transcript.specs.Inner.{said_text};
 
 use arena::cells::wide;
@@ -11,16 +11,16 @@ use session_steps::holding::{Holding, Said};
 
 // Writes the line of a refusal: the number of its record, and its own.
 pub fn put_refusal(out: &mut [u8], at: usize, k: usize, number: usize) -> usize
-    requires { RoomFor out.old at (line r-word (k ∷ number ∷ [])) }
-    ensures { Put out.old at (line r-word (k ∷ number ∷ [])) out.new result }
+    requires { RoomFor out.old at (line r_word (k ∷ number ∷ [])) }
+    ensures { Put out.old at (line r_word (k ∷ number ∷ [])) out.new result }
 {
     put_two(out, at, 114, k, number)
 }
 
 // Writes the last line: classes, members, orderings.
 pub fn put_end(out: &mut [u8], at: usize, h: Holding) -> usize
-    requires { RoomFor out.old at (line end-word (h.group.count ∷ h.group.used ∷ h.list.count ∷ [])) }
-    ensures { Put out.old at (line end-word (h.group.count ∷ h.group.used ∷ h.list.count ∷ [])) out.new result }
+    requires { RoomFor out.old at (line end_word (h.group.count ∷ h.group.used ∷ h.list.count ∷ [])) }
+    ensures { Put out.old at (line end_word (h.group.count ∷ h.group.used ∷ h.list.count ∷ [])) out.new result }
 {
     let one = put_byte(out, at, 101);
     let two = put_byte(out, one, 110);
