@@ -1,5 +1,6 @@
 -- A refusal leaves everything as it was: where the number that a function returns is not 0, the place for the answer, every lent state and the lent arena are what they were.
 -- First what each answer comes to in numbers, then the calls that also change a lent arena or write into a lent output.
+use Rattle.std.specs.Prelude.{if◌then◌else◌}
 use Prim.Native.Nat.{ℕ, ◌<◌}
 use mathlib.Core.Bool.{Bool, true, false}
 use mathlib.Core.List.{List, [], ◌∷◌}
@@ -7,7 +8,6 @@ use mathlib.Core.Path.{◌≡◌, refl, ap, ◌∙◌}
 use lib.Dec.{eqb, leb}
 use lib.IntN.{ℤ}
 use lib.ListN.{length}
-use Rattle.laws.specs.Tests.{if◌then◌else◌}
 use Rattle.arena.specs.Node.{Node}
 use Rattle.arena.specs.Arena.{Sound}
 use Rattle.arena.specs.Calls.{added_number, lent, add_column, add_literal, add_operation}

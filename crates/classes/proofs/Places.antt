@@ -1,4 +1,5 @@
 -- Where expressions stand: how often a number is among the members, the class of an expression, and what a class removed, changed or added comes to.
+use Rattle.std.specs.Prelude.{if◌then◌else◌}
 use Prim.Native.Nat.{ℕ, zero, suc, ◌+◌, ◌-◌, ◌<◌, ◌≤◌}
 use mathlib.Core.Bool.{Bool, true, false, ◌||◌}
 use mathlib.Core.List.{List, [], ◌∷◌, ◌++◌}
@@ -11,7 +12,6 @@ use borrow.Author.Tests.{eqb-true, eq-eqb, ne_eqb}
 use lib.Dec.{eqb}
 use lib.ListN.{length, get_or, take, set, length-append, length-set, get_or-append}
 use lib.Seq.{take-length, take-suc, set_out, get_or-set_same, get_or-set_other, get_or-take, get_or-append_seam, length-take-le}
-use Rattle.laws.specs.Tests.{if◌then◌else◌}
 use Rattle.laws.proofs.Booleans.{true_not_false}
 use Rattle.laws.proofs.First.{first_some, first-none, first-only, first-missing}
 use Rattle.classes.specs.Class.{Constant, no_constant, Class, merged}

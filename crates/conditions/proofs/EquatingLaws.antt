@@ -1,4 +1,5 @@
 -- An equal condition on the struct: two classes joined, and what a call with two expressions comes to.
+use Rattle.std.specs.Prelude.{if◌then◌else◌}
 use Prim.Native.Nat.{ℕ, ◌+◌, ◌-◌, ◌<◌, ◌≤◌}
 use mathlib.Core.Bool.{true, false}
 use mathlib.Core.List.{List, [], ◌∷◌, ◌++◌}
@@ -10,7 +11,6 @@ use native.Mathlib.Omega.{arith}
 use borrow.Author.Tests.{eq-eqb, ne_eqb}
 use lib.Dec.{eqb}
 use lib.ListN.{length, get_or}
-use Rattle.laws.specs.Tests.{if◌then◌else◌}
 use Rattle.arena.specs.Node.{Node, node_at}
 use Rattle.classes.specs.Class.{Constant, Class, carried, single, merged}
 use Rattle.classes.specs.Group.{class_at, class_of, total, removed, length_removed, merged_at, pair, joined, equated, equal_condition}

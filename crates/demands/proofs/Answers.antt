@@ -1,4 +1,5 @@
 -- Facts about "in one class" that hold of every list of classes, and the ways a call can come out.
+use Rattle.std.specs.Prelude.{if◌then◌else◌}
 use Prim.Native.Nat.{ℕ, ◌<◌}
 use mathlib.Core.Bool.{Bool, true, false, ◌&&◌}
 use mathlib.Core.List.{List, []}
@@ -9,7 +10,7 @@ use native.Mathlib.Omega.{arith}
 use borrow.Author.Tests.{eqb-true, eq-eqb, ltb-true}
 use lib.Dec.{eqb, ltb}
 use lib.ListN.{length}
-use Rattle.laws.specs.Tests.{if◌then◌else◌, first, first_from}
+use Rattle.laws.specs.Tests.{first, first_from}
 use Rattle.laws.proofs.Booleans.{and_left, and_right}
 use Rattle.arena.specs.Node.{Node}
 use Rattle.classes.specs.Class.{Constant, Class}

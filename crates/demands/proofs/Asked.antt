@@ -1,4 +1,5 @@
 -- The number of each question's answer: the check's, else 1 where an expression is unknown, else 0.
+use Rattle.std.specs.Prelude.{if◌then◌else◌}
 use Prim.Native.Nat.{ℕ}
 use mathlib.Core.Bool.{Bool, true, false, ◌&&◌}
 use mathlib.Core.List.{List}
@@ -6,7 +7,6 @@ use mathlib.Core.Option.{Option, none, some}
 use mathlib.Core.Path.{◌≡◌, refl}
 use lib.Dec.{eqb, ltb}
 use lib.ListN.{length}
-use Rattle.laws.specs.Tests.{if◌then◌else◌}
 use Rattle.arena.specs.Layout.{decode as nodes}
 use Rattle.classes.specs.Group.{class_of}
 use Rattle.classes.specs.Layout.{decode, mark_of}

@@ -1,4 +1,5 @@
 -- Demand 3, first sentence: after any sequence of equal conditions, refused ones included, two different expressions are in one class exactly if a chain of accepted pairs joins them.
+use Rattle.std.specs.Prelude.{if◌then◌else◌}
 use Prim.Native.Nat.{ℕ}
 use mathlib.Core.Bool.{Bool, true, false}
 use mathlib.Core.List.Memᴰ
@@ -7,7 +8,6 @@ use mathlib.Core.Logic.{◌⊎◌, inl, inr, ◌↔◌}
 use mathlib.Core.Path.{◌≡◌, refl, sym, subst}
 use native.Mathlib.Decide.{ℕ_discrete}
 use lib.Dec.{eqb}
-use Rattle.laws.specs.Tests.{if◌then◌else◌}
 use Rattle.laws.proofs.Booleans.{true_not_false}
 use Rattle.arena.specs.Node.{Node}
 use Rattle.classes.specs.Class.{Class}

@@ -1,4 +1,5 @@
 -- A good group stays good: by an equal condition, a constant and clearing, refused or not.
+use Rattle.std.specs.Prelude.{if◌then◌else◌}
 use Prim.Native.Nat.{ℕ, zero, suc, ◌+◌, ◌-◌, ◌<◌, ◌≤◌, min, max}
 use mathlib.Core.Bool.{Bool, true, false}
 use mathlib.Core.List.{List, [], ◌∷◌}
@@ -9,7 +10,7 @@ use native.Mathlib.Decide.{ℕ_discrete, dec_lt}
 use native.Mathlib.Omega.{arith}
 use lib.Dec.{eqb}
 use lib.ListN.{length, set, length-set, length-append, get_or-eq_default}
-use Rattle.laws.specs.Tests.{if◌then◌else◌, first}
+use Rattle.laws.specs.Tests.{first}
 use Rattle.laws.proofs.Booleans.{true_not_false}
 use Rattle.laws.proofs.First.{first_some}
 use Rattle.arena.specs.Node.{Node, literal, node_at}

@@ -1,4 +1,5 @@
 -- Laws for the check of a lent map: what the struct's type says of its array, the tests by their places, and what a map that passes is.
+use Rattle.std.specs.Prelude.{if◌then◌else◌}
 use Prim.Native.Nat.{ℕ, ◌+◌, ◌-◌, ◌<◌, ◌≤◌}
 use mathlib.Core.Bool.{Bool, true, false, not, ◌&&◌, ◌||◌}
 use mathlib.Core.List.{List, []}
@@ -8,8 +9,8 @@ use borrow.Author.Tests.{leb-true, eq-eqb, ne_eqb}
 use denote.Laws.{Is}
 use mir.Val.{Val}
 use lib.Dec.{eqb, ltb, leb}
-use lib.ListN.{length, get_or, length-map}
-use Rattle.laws.specs.Tests.{if◌then◌else◌, each}
+use lib.ListN.{length, get_or}
+use Rattle.laws.specs.Tests.{each}
 use Rattle.laws.proofs.Booleans.{and_left, and_right}
 use Rattle.laws.proofs.Each.{each_holds}
 use Rattle.arena.specs.Layout.{count, lawful}
@@ -21,12 +22,11 @@ use Rattle.dependencies.specs.Layout.{unused, place_in, rest_unused, lawful_entr
 use Rattle.dependencies.specs.Calls.{map_number}
 use Rattle.dependencies.specs.declared.DependencyNode.{DependencyNode}
 use Rattle.dependencies.specs.declared.DependencyMap.{DependencyMap}
-use Rattle.dependencies.specs.contracts.DependencyNode.{the_field}
 use Rattle.dependencies.specs.contracts.DependencyMap.{the_row}
 
 -- the struct has 64 places: its type says so
 pub sized : (m : DependencyMap) (vs : List Val) → Is the_row m vs → length m.list ≡ 64
-sized m vs p = sym (length-map m.list the_field.into) ∙ p.1.1.1.0.1.0.1
+sized m vs p = p.1.1.1.0.1.0.1
 
 -- what the code reads past the end
 abbrev pub no_place : DependencyNode

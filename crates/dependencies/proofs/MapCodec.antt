@@ -1,4 +1,5 @@
 -- The struct of a dependency map: what stands where, that nothing is lost, that a struct which passes the check is the layout of a map, and what writing a place makes of the map.
+use Rattle.std.specs.Prelude.{if◌then◌else◌}
 use Prim.Native.Nat.{ℕ, zero, suc, ◌+◌, ◌-◌, ◌<◌, ◌≤◌}
 use mathlib.Core.Bool.{Bool, true, false, not, ◌&&◌, ◌||◌}
 use mathlib.Core.List.{List, [], ◌∷◌, ◌++◌, map, map-append}
@@ -6,7 +7,6 @@ use mathlib.Core.Option.{Option, none, some}
 use mathlib.Core.Path.{◌≡◌, refl, sym, ap, ◌∙◌, subst}
 use native.Mathlib.Decide.{dec_lt}
 use native.Mathlib.Omega.{arith}
-use borrow.Author.Rules.{length_unmapped}
 use borrow.Author.Tests.{eqb-true, not-true}
 use denote.Array.{each as owned}
 use denote.Laws.{Is}
@@ -16,7 +16,7 @@ use lib.Dec.{eqb, leb}
 use lib.ListN.{length, get_or, set, replicate, length-append, length-replicate, length-set, length-map, get_or-eq_default, get_or-map}
 use lib.Seq.{ext_get_or, set_at, append_snoc, set-append_left}
 use Rattle.laws.specs.Lists.{table}
-use Rattle.laws.specs.Tests.{if◌then◌else◌, each}
+use Rattle.laws.specs.Tests.{each}
 use Rattle.laws.proofs.Booleans.{and_left, and_right}
 use Rattle.laws.proofs.Each.{each_holds}
 use Rattle.laws.proofs.Table.{length-table, get_or-table, table_is}
@@ -27,7 +27,7 @@ use Rattle.dependencies.specs.Layout.{is_there, number_or0, row, entry_of, unuse
 use Rattle.dependencies.specs.Inner.{Coded, Held}
 use Rattle.dependencies.specs.declared.DependencyNode.{DependencyNode}
 use Rattle.dependencies.specs.declared.DependencyMap.{DependencyMap}
-use Rattle.dependencies.specs.contracts.DependencyNode.{the_field}
+use Rattle.dependencies.specs.contracts.DependencyNode.{the_row as the_row'}
 use Rattle.dependencies.specs.contracts.DependencyMap.{the_row}
 use Rattle.dependencies.proofs.MapChecks.{sized, Fresh, LawfulAt, FreshAt, UnusedAt, entry-size, lawful-few, lawful-entries}
 
@@ -59,11 +59,11 @@ pub record Sized (m : DependencyMap) : Type 0 where
   pub places : length m.list ≡ 64
   pub dependencies : (i : ℕ) → i < 64 → length (place_in m i).dependencies ≡ 16
 
-dependencies-sized : (rs : List DependencyNode) (us : List Val) → shadow (owned the_field.row.Denot the_field.row.own_val (map the_field.into rs) us) → (i : ℕ) → i < length rs
+dependencies-sized : (rs : List DependencyNode) (us : List Val) → shadow (owned DependencyNode the_row'.own_val rs us) → (i : ℕ) → i < length rs
     → length (get_or rs i unused).dependencies ≡ 16
 dependencies-sized [] us p i l = absurd (omega arith)
 dependencies-sized (r ∷ rs) [] p i l = absurd p
-dependencies-sized (r ∷ rs) (u ∷ us) p zero l = length_unmapped ℕ r.dependencies 16 p.0.1.1.1.1.1.1.0.1.0.1
+dependencies-sized (r ∷ rs) (u ∷ us) p zero l = p.0.1.1.1.1.1.1.0.1.0.1
 dependencies-sized (r ∷ rs) (u ∷ us) p (suc i) l = dependencies-sized rs us p.1 i (omega arith)
 
 -- the struct's type says so

@@ -1,4 +1,5 @@
 -- Maps that pass the check, without their struct: what the check says of the entries, and that entries of which this holds lie in a struct that passes.
+use Rattle.std.specs.Prelude.{if◌then◌else◌}
 use Prim.Native.Nat.{ℕ, ◌+◌, ◌-◌, ◌<◌, ◌≤◌}
 use mathlib.Core.Bool.{Bool, true, false, not, ◌&&◌, ◌||◌}
 use mathlib.Core.List.{List, ◌++◌}
@@ -9,7 +10,7 @@ use borrow.Author.Tests.{le-leb, ltb-true, lt-ltb, eq-eqb, ne_eqb, not-true}
 use lib.Dec.{eqb, ltb, leb}
 use lib.ListN.{length, get_or, replicate, get_or-eq_default}
 use Rattle.laws.specs.Lists.{table}
-use Rattle.laws.specs.Tests.{if◌then◌else◌, each}
+use Rattle.laws.specs.Tests.{each}
 use Rattle.laws.proofs.Booleans.{true_not_false, and_both}
 use Rattle.laws.proofs.Each.{each_all, each_holds}
 use Rattle.laws.proofs.Table.{get_or-table}

@@ -1,4 +1,5 @@
 -- Theorems on the dependency map: what is opened and what an insert makes passes the check, a refusal hands the map back, and what an insert adds and keeps.
+use Rattle.std.specs.Prelude.{if◌then◌else◌}
 use Prim.Native.Nat.{ℕ, ◌+◌, ◌*◌, ◌<◌, ◌≤◌}
 use mathlib.Core.Bool.{Bool, true, false, ◌&&◌}
 use mathlib.Core.List.{List, [], ◌∷◌, ◌++◌}
@@ -10,7 +11,7 @@ use borrow.Author.Tests.{leb-true, ltb-true, eqb-true}
 use lib.Dec.{eqb, ltb, leb}
 use lib.ListN.{length, get_or, set, length-append, length-set, get_or-append}
 use lib.Seq.{get_or_at, get_or-set_same, get_or-set_other, ext_get_or}
-use Rattle.laws.specs.Tests.{if◌then◌else◌, each}
+use Rattle.laws.specs.Tests.{each}
 use Rattle.laws.proofs.Booleans.{true_not_false, and_left, and_right}
 use Rattle.laws.proofs.Each.{each_holds}
 use Rattle.arena.specs.Layout.{count, lawful}

@@ -1,8 +1,9 @@
 -- The answers: orderings against their bounds and the output, lists as they lie in their struct, what was gathered, and the checks of what is given.
+use Rattle.std.specs.Prelude.{if◌then◌else◌}
 use Prim.Native.Nat.{ℕ, zero, suc, ◌+◌, ◌-◌, ◌*◌, ◌<◌, ◌≤◌, ◌%◌}
 use mathlib.Core.Bool.{Bool, true, false, ◌||◌}
 use mathlib.Core.List.{List, [], ◌∷◌, ◌++◌, append-nil}
-use mathlib.Core.Option.{none, some}
+use mathlib.Core.Option.{none}
 use mathlib.Core.Path.{◌≡◌, refl, sym, ap, ap₂, ◌∙◌, subst}
 use native.Mathlib.Nat.{zero-add, mul_comm}
 use native.Mathlib.Numerals.{add-one}
@@ -11,7 +12,7 @@ use borrow.Author.Tests.{eqb-true, eq-eqb, ne_eqb, ltb-true, ltb-false, lt-ltb, 
 use lib.Dec.{eqb, ltb, leb}
 use lib.ListN.{length, get_or, take, drop, set, replicate, length-append, get_or-append}
 use lib.Seq.{take_all, get_or-append-add}
-use Rattle.laws.specs.Tests.{if◌then◌else◌, each}
+use Rattle.laws.specs.Tests.{each}
 use Rattle.laws.proofs.Booleans.{true_not_false, and_both, and_fails_left, and_fails_right}
 use Rattle.laws.proofs.Table.{table_is}
 use Rattle.arena.specs.Layout.{count}
@@ -30,7 +31,7 @@ use Rattle.dependencies.specs.Inner.{Held}
 use Rattle.dependencies.specs.declared.DependencyMap.{DependencyMap}
 use Rattle.dependencies.proofs.MapChecks.{number-lawful, number-arena}
 use Rattle.dependencies.proofs.MapCodec.{Sized, held-lawful}
-use Rattle.enumeration.specs.Walk.{Walk, found, stopped, prefix_orderings}
+use Rattle.enumeration.specs.Walk.{Walk, prefix_orderings}
 use Rattle.enumeration.specs.Bounds.{fitting}
 use Rattle.enumeration.specs.Inner.{Rows, Came}
 use Rattle.enumeration.specs.declared.Found.{Found}
@@ -38,7 +39,7 @@ use Rattle.enumeration.proofs.Keeps.{fitting-few, fitting-short}
 use Rattle.enumeration.proofs.WalkLaws.{prefix-missing}
 use Rattle.products.proofs.BoundLaws.{Full, lists-full, prefix_bounds_follow}
 use Rattle.products.specs.Orders.{product}
-use Rattle.products.specs.Generate.{once_each, lists, stops, contributing, all_orders, generated}
+use Rattle.products.specs.Generate.{once_each, contributing, all_orders, generated}
 use Rattle.products.specs.Inner.{joined, start_of, length_of, lengths_of, list_of, lists_of, Laid, factorial, times_all, choices, counted}
 use Rattle.products.specs.declared.Shape.{Shape}
 use Rattle.products.specs.declared.Lists.{Lists}

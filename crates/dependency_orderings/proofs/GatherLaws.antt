@@ -1,4 +1,5 @@
 -- What the walks of the given keys come to, key by key.
+use Rattle.std.specs.Prelude.{if◌then◌else◌}
 use Prim.Native.Nat.{ℕ, ◌+◌, ◌/◌, ◌<◌, ◌≤◌}
 use mathlib.Core.Bool.{Bool, true, false, not, ◌||◌}
 use mathlib.Core.List.{List, [], ◌∷◌, ◌++◌, map, append-nil, append_assoc}
@@ -12,7 +13,6 @@ use borrow.Author.Tests.{leb-true, leb-false, le-leb, lt-leb, eqb-true, eq-eqb, 
 use lib.Dec.{eqb, leb}
 use lib.ListN.{length, get_or, set, take, drop, length-append, length-set, length-map, length-replicate, take-append-drop, get_or-map}
 use lib.Seq.{take_all, take-suc, take-append-le, get_or-set_same, get_or-set_other}
-use Rattle.laws.specs.Tests.{if◌then◌else◌}
 use Rattle.laws.proofs.Booleans.{true_not_false, and_left, and_right, and_both, same_test}
 use Rattle.laws.proofs.First.{first_some}
 use Rattle.classes.specs.Group.{among}

@@ -1,4 +1,5 @@
 -- The account of pairs: what a mark says, and how many places are left without one.
+use Rattle.std.specs.Prelude.{if◌then◌else◌}
 use Prim.Native.Nat.{ℕ, zero, suc, ◌+◌, ◌*◌, ◌<◌, ◌≤◌}
 use mathlib.Core.Bool.{Bool, true, false, ◌&&◌, ◌||◌}
 use mathlib.Core.List.{List, [], ◌∷◌, ◌++◌}
@@ -9,10 +10,9 @@ use borrow.Author.Tests.{eqb-true, eq-eqb}
 use denote.Laws.{Is}
 use mir.Val.{Val}
 use lib.Dec.{eqb}
-use lib.ListN.{length, get_or, set, replicate, length-set, length-replicate, length-map, get_or-replicate, get_or-eq_default}
+use lib.ListN.{length, get_or, set, replicate, length-set, length-replicate, get_or-replicate, get_or-eq_default}
 use lib.Seq.{get_or-set_same, get_or-set_other}
 use Rattle.laws.specs.Lists.{table}
-use Rattle.laws.specs.Tests.{if◌then◌else◌}
 use Rattle.laws.proofs.Booleans.{same_test}
 use Rattle.laws.proofs.Table.{length-table, get_or-table, table_is}
 use Rattle.orderings.proofs.Codec.{get_d_any}
@@ -26,7 +26,6 @@ use Rattle.enumeration.specs.Inner.{unmarked, seen_at, told, fresh, hits, marked
 use Rattle.enumeration.specs.declared.Frame.{Frame}
 use Rattle.enumeration.specs.declared.Seen.{Seen}
 use Rattle.enumeration.specs.declared.DependencyEnumerator.{DependencyEnumerator}
-use Rattle.enumeration.specs.contracts.Seen.{the_field}
 use Rattle.enumeration.specs.contracts.DependencyEnumerator.{the_row}
 
 -- A loop that writes a table
@@ -58,7 +57,7 @@ module _ {A : Type 0} (f : ℕ → A) (d : A) (n : ℕ) where
 
 -- the account has marks for 64 keys: its type says so
 pub seen-sized : (e : DependencyEnumerator) (vs : List Val) → Is the_row e vs → length e.seen ≡ 64
-seen-sized e vs p = sym (length-map e.seen the_field.into) ∙ p.1.1.1.1.0.1.0.1
+seen-sized e vs p = p.1.1.1.1.0.1.0.1
 
 -- what it reads past the end
 abbrev pub no_marks : Seen

@@ -1,6 +1,7 @@
 -- The walk from a key doesn't depend on the count of pairs that bounds it: each pair is expanded once, so the count is never used up.
+use Rattle.std.specs.Prelude.{if◌then◌else◌}
 use Prim.Native.Nat.{ℕ, zero, suc, ◌+◌, ◌<◌, ◌≤◌}
-use mathlib.Core.Bool.{Bool, true, false, ◌&&◌, ◌||◌, or_true}
+use mathlib.Core.Bool.{Bool, true, false, ◌&&◌, ◌||◌, or-true}
 use mathlib.Core.List.{List, [], ◌∷◌, ◌++◌, map}
 use mathlib.Core.Logic.{◌⊎◌, inl, inr}
 use mathlib.Core.Option.{Option, none, some}
@@ -9,7 +10,6 @@ use native.Mathlib.Omega.{arith}
 use borrow.Author.Tests.{eq-eqb}
 use lib.Dec.{eqb}
 use lib.ListN.{length, get_or}
-use Rattle.laws.specs.Tests.{if◌then◌else◌}
 use Rattle.laws.proofs.Booleans.{true_not_false}
 use Rattle.orderings.specs.Ordering.{pushed}
 use Rattle.dependencies.specs.Map.{Dependent, entry_at, place_of}
@@ -48,7 +48,7 @@ seen_more t d (q ∷ s) p e = go (eqb q.0 t && eqb q.1 d) e (seen_more t d s p)
 seen_last : (t d : ℕ) (s : List (ℕ × ℕ)) → is_seen t d (s ++ ((t, d) ∷ [])) ≡ true
 unfolding is_seen
 seen_last t d [] = rw (eq-eqb t t refl, eq-eqb d d refl)
-seen_last t d (q ∷ s) = rw (seen_last t d s) (or_true (eqb q.0 t && eqb q.1 d))
+seen_last t d (q ∷ s) = rw (seen_last t d s) (or-true (eqb q.0 t && eqb q.1 d))
 
 -- of some dependencies, at most all are unseen
 unseen_of-few : (t : ℕ) (ds : List ℕ) (s : List (ℕ × ℕ)) → unseen_of t ds s ≤ length ds

@@ -1,5 +1,6 @@
 -- Theorems on what the two calls answer and leave in the output: what is written, what stays, what a refusal is, which keys an answer has, and that what is written reads back.
 -- The theorems are what is public, with the words that they are stated in; all else serves them.
+use Rattle.std.specs.Prelude.{if◌then◌else◌}
 use Prim.Native.Nat.{ℕ, zero, suc, ◌+◌, ◌*◌, ◌-◌, ◌<◌, ◌≤◌, ◌/◌}
 use mathlib.Core.Bool.{Bool, true, false, ◌&&◌}
 use mathlib.Core.List.{List, [], ◌∷◌, ◌++◌, append-nil, append_assoc}
@@ -10,7 +11,7 @@ use borrow.Author.Tests.{eqb-false, leb-true, le-leb}
 use lib.Dec.{eqb, ltb, leb}
 use lib.ListN.{length, get_or, drop, length-append, length-drop}
 use lib.Seq.{get_or_at, get_or-append-add, get_or-drop}
-use Rattle.laws.specs.Tests.{if◌then◌else◌, each}
+use Rattle.laws.specs.Tests.{each}
 use Rattle.laws.proofs.Booleans.{and_left, and_right, and_both}
 use Rattle.laws.proofs.Each.{each_all}
 use Rattle.laws.proofs.Table.{table_is}

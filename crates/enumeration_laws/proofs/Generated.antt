@@ -1,6 +1,6 @@
 -- The orderings that are generated from lists of prefix orderings: how many, and of which keys. Then the keys that are given, each once.
 -- The theorems are what is public, with the words that they are stated in; all else serves them.
-use Prim.Native.Nat.{ℕ, zero, suc, ◌+◌, ◌*◌, ◌<◌, ◌≤◌, ◌/◌, ◌%◌}
+use Prim.Native.Nat.{ℕ, zero, suc, ◌*◌, ◌<◌, ◌≤◌, ◌/◌, ◌%◌}
 use mathlib.Core.Bool.{Bool, true, false, ◌||◌}
 use mathlib.Core.List.{List, [], ◌∷◌, ◌++◌, map, append-nil}
 use mathlib.Core.Logic.{◌⊎◌, inl, inr}
@@ -22,7 +22,7 @@ use Rattle.orderings.proofs.OneOrdering.{NoneTwice, pushed-there, pushed-new, ex
 use Rattle.orderings.proofs.Appending.{append-all}
 use Rattle.dependencies.specs.Map.{with_dependency}
 use Rattle.products.specs.Orders.{orders, product}
-use Rattle.products.specs.Generate.{once_each, lists, chained, in_all_orders, all_orders, generated}
+use Rattle.products.specs.Generate.{once_each, chained, in_all_orders, all_orders, generated}
 use Rattle.products.specs.Inner.{factorial, times_all, choices}
 use Rattle.dependencies.proofs.MapInserts.{with-there, with-new}
 use Rattle.products.proofs.OrderLaws.{mapped_at_lem, orders-length, order_length, order_below}

@@ -1,4 +1,5 @@
 -- Theorems on the walk over a dependency map: that it ends, and what the orderings are that it finds. They hold for every map, also for one with cycles.
+use Rattle.std.specs.Prelude.{if◌then◌else◌}
 use Prim.Native.Nat.{ℕ, zero, suc, ◌<◌, ◌≤◌}
 use mathlib.Core.Bool.{Bool, true, false}
 use mathlib.Core.List.{List, [], ◌∷◌, ◌++◌, map}
@@ -10,7 +11,6 @@ use native.Mathlib.Omega.{arith}
 use lib.Dec.{eqb}
 use lib.ListN.{length, get_or, length-append, length-map, get_or-append}
 use lib.Seq.{get_or_at}
-use Rattle.laws.specs.Tests.{if◌then◌else◌}
 use Rattle.laws.proofs.First.{first_some}
 use Rattle.classes.specs.Group.{among}
 use Rattle.classes.proofs.Places.{among-left, among-right, one-among}

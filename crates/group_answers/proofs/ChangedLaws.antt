@@ -1,11 +1,11 @@
 -- The answer of a call that changes a group, from what is stored of the group.
+use Rattle.std.specs.Prelude.{if◌then◌else◌}
 use Prim.Native.Nat.{ℕ}
 use mathlib.Core.Bool.{Bool, true, false}
 use mathlib.Core.List.{List, [], ◌∷◌}
 use mathlib.Core.Path.{◌≡◌, refl, sym, ap, ◌∙◌}
 use borrow.Author.Tests.{eqb-false}
 use lib.Dec.{eqb}
-use Rattle.laws.specs.Tests.{if◌then◌else◌}
 use Rattle.classes.specs.declared.Changed.{Changed}
 use Rattle.group_states.specs.Groups.{group_cells, stored_group}
 use Rattle.group_answers.specs.Answers.{bit, changed_in}

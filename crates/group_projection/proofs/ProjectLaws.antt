@@ -1,4 +1,5 @@
 -- The projection of a group, step by step: the members' projections, the sources' normal forms over the grown arena, the group made of both, what the caller is told, and the call by its tests.
+use Rattle.std.specs.Prelude.{if◌then◌else◌}
 use Prim.Native.Nat.{ℕ, zero, suc, ◌+◌, ◌-◌, ◌<◌, ◌≤◌}
 use mathlib.Core.Bool.{Bool, true, false}
 use mathlib.Core.List.{List}
@@ -8,7 +9,6 @@ use native.Mathlib.Omega.{arith}
 use borrow.Author.Tests.{eq-eqb, ne_eqb}
 use lib.ListN.{length, get_or, take, replicate}
 use lib.Seq.{take_all, take-append-le}
-use Rattle.laws.specs.Tests.{if◌then◌else◌}
 use Rattle.arena.specs.Node.{Node}
 use Rattle.arena.specs.Expression.{Expression, Expressions, those, expressions}
 use Rattle.arena.specs.Arena.{Extends, Placed, placed, full, and_then, add_expressions}

@@ -1,4 +1,5 @@
 -- The group that a record comes to, by each test that the reader makes.
+use Rattle.std.specs.Prelude.{if◌then◌else◌}
 use Prim.Native.Nat.{ℕ, ◌<◌, ◌≤◌}
 use mathlib.Core.Bool.{Bool, true, false, ◌&&◌}
 use mathlib.Core.List.{List, map}
@@ -7,8 +8,8 @@ use mathlib.Core.Path.{◌≡◌, refl, sym, ap, ◌∙◌}
 use borrow.Author.Tests.{le-leb, lt-leb}
 use lib.Dec.{eqb, ltb, leb}
 use lib.ListN.{length, get_or}
-use Rattle.laws.specs.Tests.{if◌then◌else◌, each}
-use Rattle.laws.proofs.Booleans.{true_not_false, and_left, and_fails_left, and_fails_right, and_both}
+use Rattle.laws.specs.Tests.{each}
+use Rattle.laws.proofs.Booleans.{true_not_false, and_fails_left, and_fails_right, and_both}
 use Rattle.arena.specs.Layout.{lawful, count, decode as nodes}
 use Rattle.arena.proofs.Layouts.{length-decode}
 use Rattle.classes.specs.Layout.{encode, padded, fresh}
@@ -16,8 +17,7 @@ use Rattle.classes.specs.declared.Group.{Group}
 use Rattle.classes.specs.declared.Changed.{Changed}
 use Rattle.classes.proofs.Places.{length-flat}
 pub use Rattle.records.proofs.Choices.{group-whole}
-use Rattle.records.specs.Fields.{field}
-use Rattle.records.specs.Record.{is_whole, body_of}
+use Rattle.records.specs.Record.{body_of}
 use Rattle.records.specs.Chosen.{is_group_record}
 use Rattle.group_records.specs.GroupRecord.{Given, body_given, group_given, class_meant, flavours_known, classes_filled, members_given, members_apart, literals_uniform, members_known, given_number, no_group, group_of, group_read}
 use Rattle.group_records.specs.Inner.{is_given, given_of, Shaped, Listed, columns_of, built_of}

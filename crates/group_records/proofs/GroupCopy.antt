@@ -1,6 +1,6 @@
 -- What the loops that write a group's tables have written: members one class after the other, and the columns.
 use Prim.Native.Nat.{ℕ, ◌+◌, ◌-◌, ◌*◌, ◌<◌, ◌≤◌}
-use mathlib.Core.Bool.{true, false}
+use mathlib.Core.Bool.{true}
 use mathlib.Core.List.{List, [], ◌∷◌, ◌++◌, map, map-append, append-nil}
 use mathlib.Core.Path.{◌≡◌, refl, sym, ap, ◌∙◌, subst}
 use native.Mathlib.Decide.{dec_lt}
@@ -14,12 +14,11 @@ use Rattle.classes.specs.Group.{total}
 use Rattle.classes.specs.Good.{flat}
 use Rattle.classes.specs.Layout.{encode, padded, known_flavour}
 use Rattle.classes.specs.declared.Group.{Group}
-use Rattle.classes.specs.declared.Changed.{Changed}
 use Rattle.classes.proofs.Marks.{flavour-back, value-back}
 use Rattle.classes.proofs.Codec.{size_of, flavour_in, value_in, snoc_padded, flat_append}
 use Rattle.records.specs.Fields.{field, fields}
 use Rattle.records.specs.Record.{AllBelow}
-use Rattle.group_records.specs.GroupRecord.{Given, class_meant, given_in, flavours_known, members_given, no_group}
+use Rattle.group_records.specs.GroupRecord.{Given, class_meant, given_in, flavours_known, members_given}
 use Rattle.group_records.specs.Inner.{given_of, Shaped, Before, columns_of}
 use Rattle.group_records.proofs.GroupWalk.{Turn, turn, at_fields, length_fields}
 

@@ -1,4 +1,5 @@
 -- Promises of the reader of a group's record: what is read is a group that every call of the groups takes, of limit 256, with the classes of the record.
+use Rattle.std.specs.Prelude.{if◌then◌else◌}
 use Prim.Native.Nat.{ℕ, ◌<◌, ◌≤◌}
 use mathlib.Core.Bool.{Bool, true, false, not, ◌&&◌, ◌||◌}
 use mathlib.Core.List.{List, [], map}
@@ -8,7 +9,7 @@ use native.Mathlib.Omega.{arith}
 use borrow.Author.Tests.{leb-true, ltb-true, lt-ltb, eqb-true, eqb-false, not-true}
 use lib.Dec.{eqb, ltb, leb}
 use lib.ListN.{length, get_or, length-map, get_or-map}
-use Rattle.laws.specs.Tests.{if◌then◌else◌, each}
+use Rattle.laws.specs.Tests.{each}
 use Rattle.laws.proofs.Each.{each_holds}
 use Rattle.laws.proofs.Booleans.{and_left, and_right}
 use Rattle.arena.specs.Node.{literal, node_at}

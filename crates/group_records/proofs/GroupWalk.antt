@@ -1,4 +1,5 @@
 -- A walk over the classes of a body: where it starts, what stands at its place, where it goes on, where it ends.
+use Rattle.std.specs.Prelude.{if◌then◌else◌}
 use Prim.Native.Nat.{ℕ, zero, suc, ◌+◌, ◌-◌, ◌*◌, ◌<◌, ◌≤◌}
 use mathlib.Core.Bool.{Bool, true, false, not, ◌&&◌, ◌||◌}
 use mathlib.Core.List.{List, [], ◌∷◌}
@@ -10,9 +11,9 @@ use borrow.Author.Tests.{leb-true, eqb-true}
 use lib.Dec.{eqb, ltb, leb}
 use lib.ListN.{length, get_or, drop, length-drop}
 use lib.Seq.{get_or-drop, drop-drop}
-use Rattle.laws.specs.Tests.{if◌then◌else◌, each}
+use Rattle.laws.specs.Tests.{each}
 use Rattle.laws.proofs.Booleans.{and_left, and_right}
-use Rattle.laws.proofs.Table.{length-table, get_or-table, table_cong}
+use Rattle.laws.proofs.Table.{get_or-table, table_cong}
 use Rattle.arena.specs.Node.{Node, node_at}
 use Rattle.classes.specs.Layout.{known_flavour, is_literal}
 pub use Rattle.records.proofs.Items.{length_fields}

@@ -1,4 +1,5 @@
 -- The length of a body against what its counts say, class by class.
+use Rattle.std.specs.Prelude.{if◌then◌else◌}
 use Prim.Native.Nat.{ℕ, suc, ◌+◌, ◌-◌, ◌*◌, ◌<◌, ◌≤◌}
 use mathlib.Core.Bool.{Bool, true, false, ◌&&◌}
 use mathlib.Core.List.{List, []}
@@ -10,7 +11,6 @@ use borrow.Author.Tests.{leb-true, le-leb, lt-leb, eqb-true, eq-eqb}
 use lib.Dec.{eqb, leb}
 use lib.ListN.{length, drop, length-drop}
 use lib.Seq.{drop-drop}
-use Rattle.laws.specs.Tests.{if◌then◌else◌}
 use Rattle.laws.proofs.Booleans.{and_left, and_right, and_both, same_test}
 use Rattle.records.specs.Fields.{field}
 use Rattle.group_records.specs.GroupRecord.{Given, given_at, given_size, with_given, classes_given, body_given}

@@ -1,4 +1,5 @@
 -- The number of the check of two groups, a kind and pairs by its tests: which test gives which number.
+use Rattle.std.specs.Prelude.{if◌then◌else◌}
 use Prim.Native.Nat.{ℕ, ◌%◌, ◌≤◌}
 use mathlib.Core.Bool.{Bool, true, false}
 use mathlib.Core.List.{List}
@@ -7,7 +8,7 @@ use native.Mathlib.Omega.{arith}
 use borrow.Author.Tests.{ne_eqb, eq-eqb}
 use lib.Dec.{ltb, leb}
 use lib.ListN.{length, get_or}
-use Rattle.laws.specs.Tests.{if◌then◌else◌, each}
+use Rattle.laws.specs.Tests.{each}
 use Rattle.arena.specs.Node.{Node}
 use Rattle.arena.specs.Layout.{count, lawful, decode as nodes}
 use Rattle.arena.proofs.Layouts.{length-decode}

@@ -1,11 +1,11 @@
 -- A join, step by step: the pairs, the nodes and the list by a lift, the shift by a number of columns, the kinds, and the call.
+use Rattle.std.specs.Prelude.{if◌then◌else◌}
 use Prim.Native.Nat.{ℕ, zero, suc, ◌+◌, ◌*◌, ◌/◌, ◌<◌, ◌≤◌}
 use mathlib.Core.Bool.{Bool, true, false, ◌&&◌}
 use mathlib.Core.List.{List, [], ◌∷◌, ◌++◌, append-nil}
 use mathlib.Core.Option.{Option, none, some}
 use mathlib.Core.Path.{◌≡◌, refl, sym, ap, ap₂, ◌∙◌, subst}
 use native.Mathlib.Omega.{arith}
-use borrow.Author.Rules.{length_unmapped}
 use borrow.Author.Tests.{eq-eqb, ne_eqb, ltb-true, leb-true, le-leb, lt-leb}
 use denote.Laws.{Is}
 use mir.Val.{Val}
@@ -13,7 +13,7 @@ use lib.Dec.{ltb, leb}
 use lib.IntN.{pos}
 use lib.ListN.{length, get_or, drop, replicate, length-append}
 use lib.Seq.{drop_at}
-use Rattle.laws.specs.Tests.{if◌then◌else◌, each}
+use Rattle.laws.specs.Tests.{each}
 use Rattle.laws.specs.Lists.{table}
 use Rattle.laws.proofs.Booleans.{and_left, and_right, and_both, and_fails_left, and_fails_right}
 use Rattle.laws.proofs.Each.{each_holds}
@@ -708,10 +708,10 @@ empty-coded g p = built-coded 256 [] g p (omega arith) (omega arith)
 -- the tables of a group have their lengths: the struct's type says so
 pub tables : (g : Group) (vs : List Val) → Is the_row g vs → Tables g
 tables g vs p = record {
-  sizes = length_unmapped ℕ g.sizes 64 p.1.1.1.1.1.0.1.0.1;
-  flavours = length_unmapped ℕ g.flavours 64 p.1.1.1.1.1.1.0.1.0.1;
-  values = length_unmapped ℕ g.values 64 p.1.1.1.1.1.1.1.0.1.0.1;
-  members = length_unmapped ℕ g.members 256 p.1.1.1.1.1.1.1.1.0.1.0.1;
+  sizes = p.1.1.1.1.1.0.1.0.1;
+  flavours = p.1.1.1.1.1.1.0.1.0.1;
+  values = p.1.1.1.1.1.1.1.0.1.0.1;
+  members = p.1.1.1.1.1.1.1.1.0.1.0.1;
 }
 
 module _ (cells : List ℕ) (left right : Group) (kind : ℕ) (numbers : List ℕ) where

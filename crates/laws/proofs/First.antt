@@ -1,4 +1,5 @@
 -- "The first number below n that": the turns of the search, what an answer says, and for another test that agrees.
+use Rattle.std.specs.Prelude.{if◌then◌else◌}
 use Prim.Native.Nat.{ℕ, zero, suc, ◌+◌, ◌-◌, ◌<◌, ◌≤◌}
 use mathlib.Core.Bool.{Bool, true, false}
 use mathlib.Core.Option.{Option, none, some}
@@ -6,7 +7,7 @@ use mathlib.Core.Path.{◌≡◌, refl, ap, ◌∙◌, subst}
 use native.Mathlib.Nat.{sub-zero}
 use native.Mathlib.Decide.{ℕ_discrete}
 use native.Mathlib.Omega.{arith}
-use Rattle.laws.specs.Tests.{if◌then◌else◌, first_from, first}
+use Rattle.laws.specs.Tests.{first_from, first}
 use Rattle.laws.proofs.Booleans.{true_not_false}
 
 -- what an answer says of the numbers from i on, k in number

@@ -1,5 +1,5 @@
 -- Four texts that are put one after the other into room for all of them.
-use Prim.Native.Nat.{ℕ, ◌+◌}
+use Prim.Native.Nat.{ℕ}
 use mathlib.Core.List.{List, [], ◌∷◌, ◌++◌, append_assoc}
 use mathlib.Core.Path.{◌≡◌}
 use lib.ListN.{length}

@@ -1,4 +1,5 @@
 -- Whether an expression is in a class, whether two classes have one in common, and the search for such a class from the back.
+use Rattle.std.specs.Prelude.{if◌then◌else◌}
 use Prim.Native.Nat.{ℕ, zero, suc, ◌+◌, ◌-◌, ◌<◌, ◌≤◌}
 use mathlib.Core.Bool.{Bool, true, false, ◌&&◌, ◌||◌}
 use mathlib.Core.List.{List, [], ◌∷◌, ◌++◌}
@@ -11,7 +12,6 @@ use borrow.Author.Tests.{lt-ltb, le-ltb}
 use lib.Dec.{ltb}
 use lib.ListN.{length, get_or}
 use Rattle.laws.specs.Lists.{table}
-use Rattle.laws.specs.Tests.{if◌then◌else◌}
 use Rattle.classes.specs.Class.{Class}
 use Rattle.classes.specs.Group.{among, class_at}
 use Rattle.classes.specs.Layout.{sum_to, decode}

@@ -1,4 +1,5 @@
 -- What one class brings to another: member by member, how many there are, and as a group of one class.
+use Rattle.std.specs.Prelude.{if◌then◌else◌}
 use Prim.Native.Nat.{ℕ, suc, ◌+◌, ◌-◌, ◌<◌, ◌≤◌}
 use mathlib.Core.Bool.{Bool, true, false}
 use mathlib.Core.List.{List, [], ◌∷◌, ◌++◌, append-nil}
@@ -7,7 +8,6 @@ use native.Mathlib.Numerals.{add-one}
 use native.Mathlib.Omega.{arith}
 use lib.ListN.{length, get_or, take, set}
 use lib.Seq.{take-suc, take_all, length-take-le}
-use Rattle.laws.specs.Tests.{if◌then◌else◌}
 use Rattle.laws.proofs.Table.{get_or-table}
 use Rattle.arena.specs.Node.{Node, node_at}
 use Rattle.classes.specs.Class.{Constant, no_constant, Class, taken, carried, single, merged}

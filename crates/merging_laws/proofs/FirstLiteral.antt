@@ -1,9 +1,8 @@
 -- A class that is built of expressions, as a shifted class is, has its first literal's constant or none.
 use Prim.Native.Nat.{ℕ}
-use mathlib.Core.Bool.{Bool, true, false}
+use mathlib.Core.Bool.{true}
 use mathlib.Core.List.{List, [], ◌∷◌}
 use mathlib.Core.Path.{◌≡◌, refl, ap, ◌∙◌}
-use Rattle.laws.specs.Tests.{if◌then◌else◌}
 use Rattle.arena.specs.Node.{Node, column, literal, operation, node_at}
 use Rattle.classes.specs.Class.{Constant, no_constant, heterogeneous, unknown, known, Class, is_uniform, taken, carried, single, merged}
 use Rattle.merging.specs.Extending.{missing, extended, pushed, pushed_all, class_from}

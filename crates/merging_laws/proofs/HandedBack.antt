@@ -1,4 +1,5 @@
 -- What `new` and join hand back passes the check again, beside the cells as they are left; a refusal leaves what was lent as it was.
+use Rattle.std.specs.Prelude.{if◌then◌else◌}
 use Prim.Native.Nat.{ℕ, zero, suc, ◌+◌, ◌*◌, ◌/◌, ◌<◌, ◌≤◌}
 use mathlib.Core.Bool.{Bool, true, false, ◌&&◌}
 use mathlib.Core.List.Memᴰ
@@ -12,7 +13,6 @@ use borrow.Author.Tests.{eqb-true, eqb-false, ltb-true, leb-true, le-leb}
 use lib.Dec.{eqb, ltb, leb}
 use lib.IntN.{pos}
 use lib.ListN.{length, get_or}
-use Rattle.laws.specs.Tests.{if◌then◌else◌}
 use Rattle.laws.specs.Lists.{table}
 use Rattle.laws.proofs.Booleans.{and_left, and_right, and_both}
 use Rattle.laws.proofs.Each.{each_holds}

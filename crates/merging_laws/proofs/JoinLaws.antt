@@ -1,4 +1,5 @@
 -- A join that was made: what was shifted, which list reached `new`, what came of it; that it is a good group within the bounds, and on which rows its classes agree.
+use Rattle.std.specs.Prelude.{if◌then◌else◌}
 use Prim.Native.Nat.{ℕ, zero, suc, ◌+◌, ◌-◌, ◌<◌, ◌≤◌}
 use mathlib.Core.Bool.{Bool, true, false}
 use mathlib.Core.List.Memᴰ
@@ -13,7 +14,7 @@ use lib.Dec.{leb, ltb}
 use lib.IntN.{pos}
 use lib.ListN.{length, get_or, take, drop, length-append, length-take, get_or-append}
 use lib.Seq.{get_or-take, get_or-drop, get_or-append-add}
-use Rattle.laws.specs.Tests.{if◌then◌else◌, is_some}
+use Rattle.laws.specs.Tests.{is_some}
 use Rattle.laws.proofs.Booleans.{true_not_false, and_left, and_right, and_both}
 use Rattle.arena.specs.Node.{Node}
 use Rattle.arena.specs.Expression.{Expression, Expressions, col, lit, op, ∅, ◌▹◌, expression_at}

@@ -1,4 +1,5 @@
 -- Joins by their kind, over the function that the contract cites: on which rows the joined classes agree, and which side the last six kinds keep.
+use Rattle.std.specs.Prelude.{if◌then◌else◌}
 use Prim.Native.Nat.{ℕ, ◌<◌, ◌≤◌}
 use mathlib.Core.Bool.{Bool, true, false}
 use mathlib.Core.List.Memᴰ
@@ -8,7 +9,6 @@ use native.Mathlib.Omega.{arith}
 use borrow.Author.Tests.{eqb-true, le-leb, lt-leb}
 use lib.Dec.{eqb}
 use lib.ListN.{length}
-use Rattle.laws.specs.Tests.{if◌then◌else◌}
 use Rattle.arena.specs.Node.{Node}
 use Rattle.arena.specs.Expression.{expression_at}
 use Rattle.arena.specs.Value.{Meaning, Row, value}

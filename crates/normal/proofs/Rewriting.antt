@@ -1,4 +1,5 @@
 -- The rewriting of the normal form, over the nodes that were there before: what it makes of an expression is small, and adding it is adding the rewritten node with one number replaced.
+use Rattle.std.specs.Prelude.{if◌then◌else◌}
 use Prim.Native.Nat.{ℕ, ◌<◌, ◌≤◌}
 use mathlib.Core.Bool.{Bool, true, false}
 use mathlib.Core.List.{List, [], ◌∷◌}
@@ -8,7 +9,6 @@ use native.Mathlib.Omega.{arith}
 use borrow.Author.Tests.{ltb-true, ltb-false, lt-ltb, le-ltb}
 use lib.Dec.{ltb}
 use lib.ListN.{length, get_or}
-use Rattle.laws.specs.Tests.{if◌then◌else◌}
 use Rattle.arena.specs.Node.{Node, column, literal, operation, node_at, child_numbers}
 use Rattle.arena.specs.Expression.{Expression, Expressions, col, lit, op, ∅, ◌▹◌, size, those, over, expressions, expression_at}
 use Rattle.arena.specs.Arena.{Allowed, Sound, Extends, Small, AllSmall, placed, full, add_expression}

@@ -10,7 +10,7 @@ use lib.Seq.{length-take-le, take_all, get_or-append-add}
 use Rattle.orderings.specs.Ordering.{extended}
 use Rattle.orderings.specs.Lists.{ordering_at, suffixed, suffixed_all, join_suffix}
 use Rattle.orderings.specs.Layout.{keys_of, encode, decode}
-use Rattle.orderings.specs.Calls.{fits, listed}
+use Rattle.orderings.specs.Calls.{listed}
 use Rattle.orderings.specs.Inner.{Held, Short, extended_of, empties, appended, all_short}
 use Rattle.ordering_joins.specs.Inner.{listed_or, Suffixing, Joined}
 use Rattle.orderings.specs.declared.Ordering.{Ordering}

@@ -1,4 +1,5 @@
 -- What joining makes: how many orderings, in which order, and that they are good where they fit. The same for the joined ordering of all.
+use Rattle.std.specs.Prelude.{if◌then◌else◌}
 use Prim.Native.Nat.{ℕ, zero, suc, ◌+◌, ◌*◌, ◌<◌, ◌≤◌, max}
 use mathlib.Core.Bool.{Bool, true, false}
 use mathlib.Core.List.{List, [], ◌∷◌, ◌++◌}
@@ -8,7 +9,6 @@ use borrow.Author.Tests.{leb-true}
 use lib.Dec.{leb}
 use lib.ListN.{length, get_or-append}
 use lib.Seq.{get_or-append-add}
-use Rattle.laws.specs.Tests.{if◌then◌else◌}
 use Rattle.laws.proofs.Booleans.{and_left, and_right}
 use Rattle.orderings.specs.Ordering.{extended, built}
 use Rattle.orderings.specs.Lists.{ordering_at, extended_all, output_ordering, suffixed, suffixed_all, join_suffix}

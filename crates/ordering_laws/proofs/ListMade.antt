@@ -1,4 +1,5 @@
 -- What the calls hand back that make a list from lent lists of keys. A refusal: its number and the list that was given. Else: a reduced list; and what is handed back passes the check again.
+use Rattle.std.specs.Prelude.{if◌then◌else◌}
 use Prim.Native.Nat.{ℕ, ◌<◌, ◌≤◌}
 use mathlib.Core.Bool.{Bool, true, false}
 use mathlib.Core.List.{List, [], ◌++◌}
@@ -9,7 +10,6 @@ use borrow.Author.Tests.{eq-eqb, ne_eqb}
 use lib.Dec.{eqb}
 use lib.ListN.{length, take}
 use lib.Seq.{length-take-le, get_or-take}
-use Rattle.laws.specs.Tests.{if◌then◌else◌}
 use Rattle.arena.specs.Layout.{count, lawful}
 use Rattle.orderings.specs.Ordering.{expr_of, same_key, built}
 use Rattle.orderings.specs.Lists.{ordering_at, built_all}

@@ -1,4 +1,5 @@
 -- What the calls on a list hand back. A refusal: its number, and where a list is handed back the one that was given. Else: orderings without a repeated or unknown expression, and so a list that passes the check again.
+use Rattle.std.specs.Prelude.{if◌then◌else◌}
 use Prim.Native.Nat.{ℕ, suc, ◌<◌}
 use mathlib.Core.Bool.{Bool, true, false}
 use mathlib.Core.List.{List, [], ◌∷◌, ◌++◌}
@@ -10,7 +11,7 @@ use borrow.Author.Tests.{eq-eqb, leb-true}
 use lib.Dec.{eqb, ltb, leb}
 use lib.ListN.{length, get_or, length-append, get_or-append}
 use lib.Seq.{get_or_at}
-use Rattle.laws.specs.Tests.{if◌then◌else◌, each}
+use Rattle.laws.specs.Tests.{each}
 use Rattle.laws.proofs.Booleans.{and_left, and_right}
 use Rattle.laws.proofs.Each.{each_holds}
 use Rattle.arena.specs.Layout.{count, lawful}

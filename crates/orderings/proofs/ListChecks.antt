@@ -1,17 +1,16 @@
 -- Laws for the check of a lent list: what the struct's type says of its arrays, the tests by their places, and the bounds that the check gives.
 use Prim.Native.Nat.{ℕ, zero, suc, ◌+◌, ◌-◌, ◌<◌, ◌≤◌}
 use mathlib.Core.Bool.{Bool, true, false, ◌&&◌}
-use mathlib.Core.List.{List, [], ◌∷◌, map}
-use mathlib.Core.Path.{◌≡◌, refl, sym, subst, ◌∙◌}
+use mathlib.Core.List.{List, [], ◌∷◌}
+use mathlib.Core.Path.{◌≡◌, refl, subst}
 use native.Mathlib.Omega.{arith}
-use borrow.Author.Rules.{length_unmapped}
 use borrow.Author.Tests.{leb-true}
 use denote.Array.{each as owned}
 use denote.Laws.{Is}
 use denote.Shadow.{shadow}
 use mir.Val.{Val}
 use lib.Dec.{ltb, leb}
-use lib.ListN.{length, get_or, length-map}
+use lib.ListN.{length, get_or}
 use Rattle.laws.specs.Tests.{each}
 use Rattle.laws.proofs.Booleans.{true_not_false, and_left, and_right}
 use Rattle.laws.proofs.Each.{each_holds}
@@ -20,7 +19,7 @@ use Rattle.orderings.specs.Layout.{row, place_in, fresh_key, rest_unused, lawful
 use Rattle.orderings.specs.declared.Ordering.{Ordering}
 use Rattle.orderings.specs.declared.Orderings.{Orderings}
 use Rattle.orderings.proofs.Codec.{get_d_any, no_place}
-use Rattle.orderings.specs.contracts.Ordering.{the_field}
+use Rattle.orderings.specs.contracts.Ordering.{the_row as the_row'}
 use Rattle.orderings.specs.contracts.Orderings.{the_row}
 
 -- the arrays have their lengths
@@ -28,18 +27,18 @@ pub record Sized (g : Orderings) : Type 0 where
   pub places : length g.list ≡ 32
   pub keys : (i : ℕ) → i < 32 → length (place_in g i).keys ≡ 16
 
-keys-sized : (rs : List Ordering) (us : List Val) → shadow (owned the_field.row.Denot the_field.row.own_val (map the_field.into rs) us) → (i : ℕ) → i < length rs
+keys-sized : (rs : List Ordering) (us : List Val) → shadow (owned Ordering the_row'.own_val rs us) → (i : ℕ) → i < length rs
     → length (get_or rs i (row [])).keys ≡ 16
 keys-sized [] us p i l = absurd (omega arith)
 keys-sized (r ∷ rs) [] p i l = absurd p
-keys-sized (r ∷ rs) (u ∷ us) p zero l = length_unmapped ℕ r.keys 16 p.0.1.1.1.0.1.0.1
+keys-sized (r ∷ rs) (u ∷ us) p zero l = p.0.1.1.1.0.1.0.1
 keys-sized (r ∷ rs) (u ∷ us) p (suc i) l = keys-sized rs us p.1 i (omega arith)
 
 -- the struct's type says so
 pub sized : (g : Orderings) (vs : List Val) → Is the_row g vs → Sized g
 sized g vs p =
     let list = p.1.1.1.0 in
-    let n : length g.list ≡ 32 = sym (length-map g.list the_field.into) ∙ list.1.0.1 in
+    let n : length g.list ≡ 32 = list.1.0.1 in
     record { places = n; keys = λ i l. keys-sized g.list list.0 list.1.1 i (omega arith) }
 
 -- the tests of a place for keys

@@ -1,4 +1,5 @@
 -- The check of a lent list: what passes it is the layout of a good list whose expressions are known, and the layout of such a list passes it.
+use Rattle.std.specs.Prelude.{if◌then◌else◌}
 use Prim.Native.Nat.{ℕ, ◌+◌, ◌-◌, ◌<◌, ◌≤◌}
 use mathlib.Core.Bool.{Bool, true, false, not, ◌&&◌}
 use mathlib.Core.List.{List, [], ◌++◌, map}
@@ -10,7 +11,7 @@ use lib.Dec.{eqb, ltb, leb}
 use lib.ListN.{length, get_or, replicate, length-append, length-replicate, length-map, get_or-eq_default, get_or-map}
 use lib.Seq.{ext_get_or}
 use Rattle.laws.specs.Lists.{table}
-use Rattle.laws.specs.Tests.{if◌then◌else◌, each}
+use Rattle.laws.specs.Tests.{each}
 use Rattle.laws.proofs.Booleans.{true_not_false, and_left, and_right, and_both}
 use Rattle.laws.proofs.Each.{each_all, each_holds}
 use Rattle.laws.proofs.Table.{get_or-table}

@@ -1,4 +1,5 @@
 -- One ordering: building, pushing and extending keep what is there, add no expression twice, and may be grouped in any way.
+use Rattle.std.specs.Prelude.{if◌then◌else◌}
 use Prim.Native.Nat.{ℕ, zero, suc, ◌+◌, ◌<◌, ◌≤◌}
 use mathlib.Core.Bool.{Bool, true, false, ◌||◌}
 use mathlib.Core.List.{List, [], ◌∷◌, ◌++◌, append-nil}
@@ -9,7 +10,6 @@ use borrow.Author.Tests.{eqb-true, eq-eqb}
 use lib.Dec.{eqb}
 use lib.ListN.{length, get_or, take, length-append, get_or-append}
 use lib.Seq.{get_or_at, append_snoc, take-append_seam}
-use Rattle.laws.specs.Tests.{if◌then◌else◌}
 use Rattle.laws.proofs.Booleans.{true_not_false}
 use Rattle.orderings.specs.Ordering.{expr_of, has_expr, pushed, extended, built}
 use Rattle.orderings.specs.Good.{GoodOrdering}

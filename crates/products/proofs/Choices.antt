@@ -16,7 +16,6 @@ use Rattle.laws.proofs.Table.{length-table, get_or-table}
 use Rattle.orderings.specs.Layout.{row, keys_of}
 use Rattle.orderings.specs.declared.Ordering.{Ordering}
 use Rattle.orderings.proofs.Codec.{get_d_any, no_place}
-use Rattle.orderings.specs.contracts.Ordering.{the_field}
 use Rattle.products.specs.Orders.{product}
 use Rattle.products.specs.Inner.{start_of, length_of, lengths_of, list_of, lists_of, Shaped, Laid, choice_row, factorial, times_all, choices, counted}
 use Rattle.products.specs.declared.Shape.{Shape}
@@ -198,7 +197,7 @@ rows_next os j l b =
 
 -- the struct has 1,024 places for orderings: its type says so
 pub found-sized : (l : Lists) (vs : List Val) → Is the_row l vs → length l.found.rows ≡ 1024
-found-sized l vs p = sym (length-map l.found.rows the_field.into) ∙ p.1.1.1.0.1.1.1.1.0.1.0.1
+found-sized l vs p = p.1.1.1.0.1.1.1.1.0.1.0.1
 
 module _ (l : Lists) where
   -- the lists from one on give the choices that their lengths say

@@ -1,4 +1,5 @@
 -- The orders of n places by their numbers.
+use Rattle.std.specs.Prelude.{if◌then◌else◌}
 use Prim.Native.Nat.{ℕ, zero, suc, ◌+◌, ◌*◌, ◌<◌, ◌≤◌, ◌/◌, ◌%◌}
 use mathlib.Core.Bool.{Bool, true, false}
 use mathlib.Core.List.{List, [], ◌∷◌, ◌++◌, map}
@@ -9,7 +10,6 @@ use native.Mathlib.Omega.{arith}
 use lib.Dec.{ltb}
 use lib.ListN.{length, get_or, length-append, length-map, get_or-append, get_or-map}
 use lib.Seq.{get_or-append-add}
-use Rattle.laws.specs.Tests.{if◌then◌else◌}
 use Rattle.orderings.proofs.Codec.{get_d_any}
 use Rattle.products.specs.Orders.{passing, beginning, orders}
 use Rattle.products.specs.Inner.{factorial}

@@ -1,4 +1,5 @@
 -- The constants of sources reach their targets: a constant that was said of an expression stays with its class, whatever is said later.
+use Rattle.std.specs.Prelude.{if◌then◌else◌}
 use Prim.Native.Nat.{ℕ, zero, suc, ◌+◌, ◌<◌}
 use mathlib.Core.Bool.{Bool, true, false}
 use mathlib.Core.List.{List, [], ◌∷◌}
@@ -8,7 +9,7 @@ use native.Mathlib.Decide.{ℕ_discrete}
 use native.Mathlib.Omega.{arith}
 use lib.ListN.{length, get_or, length-append, length-map, length-set, get_or-append}
 use lib.Seq.{get_or-append-add, get_or-set_same, get_or-set_other}
-use Rattle.laws.specs.Tests.{if◌then◌else◌, first}
+use Rattle.laws.specs.Tests.{first}
 use Rattle.laws.proofs.Booleans.{true_not_false}
 use Rattle.laws.proofs.First.{first_some}
 use Rattle.arena.specs.Node.{Node, node_at}

@@ -1,4 +1,5 @@
 -- What the calls that project answer and leave: a number has the expression's value, a projection that fails adds nothing, a refusal leaves every cell and the output as they were, and the arena stays sound.
+use Rattle.std.specs.Prelude.{if◌then◌else◌}
 use Prim.Native.Nat.{ℕ, ◌<◌}
 use mathlib.Core.Bool.{Bool, true, false}
 use mathlib.Core.List.{List, ◌++◌, map}
@@ -9,7 +10,7 @@ use native.Mathlib.Omega.{arith}
 use borrow.Author.Tests.{ltb-true, lt-ltb}
 use lib.Dec.{ltb, leb}
 use lib.ListN.{length, get_or, drop}
-use Rattle.laws.specs.Tests.{if◌then◌else◌, each}
+use Rattle.laws.specs.Tests.{each}
 use Rattle.arena.specs.Node.{Node}
 use Rattle.arena.specs.Expression.{Expression, expression_at}
 use Rattle.arena.specs.Value.{Meaning, Row, value}

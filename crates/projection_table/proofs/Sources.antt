@@ -1,4 +1,5 @@
 -- The search over the sources of a mapping in its struct: its turns, and for another test that agrees.
+use Rattle.std.specs.Prelude.{if◌then◌else◌}
 use Prim.Native.Nat.{ℕ, suc, ◌+◌, ◌<◌, ◌≤◌}
 use mathlib.Core.Bool.{Bool, true, false}
 use mathlib.Core.List.{List, [], ◌∷◌}
@@ -6,7 +7,6 @@ use mathlib.Core.Option.{some}
 use mathlib.Core.Path.{◌≡◌, refl, sym, ap, ◌∙◌}
 use native.Mathlib.Omega.{arith}
 use lib.ListN.{length, get_or, drop, drop_of_length-le}
-use Rattle.laws.specs.Tests.{if◌then◌else◌}
 use Rattle.mappings.specs.Mapping.{Mapped, first_target, target_for, mapped_at}
 use Rattle.mappings.specs.Layout.{place_in, mapped_of, decode, Bounded, Checked}
 use Rattle.mappings.specs.declared.Mapping.{Mapping}

@@ -1,6 +1,6 @@
 -- The table of the projections: the projection of a node by those of its children, and what an entry says.
 use Prim.Native.Nat.{ℕ, zero, suc, ◌+◌, ◌<◌}
-use mathlib.Core.Bool.{Bool, true, false, not, ◌&&◌, and_true}
+use mathlib.Core.Bool.{Bool, true, false, not, ◌&&◌, and-true}
 use mathlib.Core.List.{List, [], ◌∷◌}
 use mathlib.Core.Option.{Option, none, some}
 use mathlib.Core.Path.{◌≡◌, refl, sym, ap, ◌∙◌, subst}
@@ -193,7 +193,7 @@ fails_at p zero e = absurd (true_not_false refl e)
 fails_at p (suc n) e = go (p n) refl (fails_at p n)
   where
     go : (b : Bool) → p n ≡ b → (each p n ≡ false → (k : ℕ) × ((k < n) × (p k ≡ false))) → (k : ℕ) × ((k < suc n) × (p k ≡ false))
-    go true q r = let a = r (sym (and_true (each p n)) ∙ ap (λ (b : Bool). each p n && b) (sym q) ∙ e) in (a.0, (omega (arith, a.1.0), a.1.1))
+    go true q r = let a = r (sym (and-true (each p n)) ∙ ap (λ (b : Bool). each p n && b) (sym q) ∙ e) in (a.0, (omega (arith, a.1.0), a.1.1))
     go false q r = (n, (omega arith, q))
 
 -- an entry that a test tells from 0, or doesn't

@@ -1,4 +1,5 @@
 -- What each question answers for a number of a sound arena, said with the answers for its children. Classes that put together all that others do answer yes wherever those do.
+use Rattle.std.specs.Prelude.{if◌then◌else◌}
 use Prim.Native.Nat.{ℕ, zero, suc, ◌<◌}
 use mathlib.Core.Bool.{Bool, true, false, ◌&&◌, ◌||◌}
 use mathlib.Core.List.{List}
@@ -7,7 +8,7 @@ use native.Mathlib.Omega.{arith}
 use borrow.Author.Tests.{eqb-true}
 use lib.Dec.{eqb, ltb}
 use lib.ListN.{length, get_or}
-use Rattle.laws.specs.Tests.{if◌then◌else◌, each}
+use Rattle.laws.specs.Tests.{each}
 use Rattle.laws.proofs.Booleans.{and_left, and_right, and_both, same_test}
 use Rattle.laws.proofs.Each.{each_all, each_holds, each_cong}
 use Rattle.arena.specs.Node.{Node, column, literal, operation, node_at, child_numbers, made}

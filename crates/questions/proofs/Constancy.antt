@@ -1,4 +1,5 @@
 -- The constant question: whether an expression is constant, the walk that asks it, and the answer from that.
+use Rattle.std.specs.Prelude.{if◌then◌else◌}
 use Prim.Native.Nat.{ℕ, zero, suc, ◌+◌, ◌<◌, ◌≤◌}
 use mathlib.Core.Bool.{Bool, true, false, ◌&&◌, ◌||◌}
 use mathlib.Core.List.{List}
@@ -9,7 +10,7 @@ use borrow.Author.Tests.{ne_eqb, lt-ltb}
 use lib.Dec.{ltb}
 use lib.ListN.{length, get_or, set, replicate}
 use lib.Seq.{get_or-set_same, get_or-set_other}
-use Rattle.laws.specs.Tests.{if◌then◌else◌, each}
+use Rattle.laws.specs.Tests.{each}
 use Rattle.laws.proofs.Each.{each_none, each_more, each-stops, each-ends, each_cong}
 use Rattle.arena.specs.Node.{Node, node_at, child_numbers}
 use Rattle.arena.specs.Arena.{Sound}

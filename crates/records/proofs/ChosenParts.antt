@@ -1,4 +1,5 @@
 -- For join kinds 4 to 9: what is handed back, and what it doesn't depend on.
+use Rattle.std.specs.Prelude.{if◌then◌else◌}
 use Prim.Native.Nat.{ℕ, ◌+◌, ◌<◌, ◌≤◌}
 use mathlib.Core.Bool.{Bool, true, false}
 use mathlib.Core.List.{List, [], ◌++◌}
@@ -9,7 +10,6 @@ use native.Mathlib.Omega.{arith}
 use lib.Dec.{eqb, ltb}
 use lib.ListN.{length, take, length-append, get_or-append}
 use lib.Seq.{length-take-le, get_or-take, take-append-le}
-use Rattle.laws.specs.Tests.{if◌then◌else◌}
 use Rattle.laws.proofs.Booleans.{and_right, and_both}
 use Rattle.records.specs.Fields.{field}
 use Rattle.records.specs.Record.{is_whole, record_size}

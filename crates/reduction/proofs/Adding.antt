@@ -9,7 +9,6 @@ use borrow.Author.Tests.{eq-eqb, ne_eqb, ltb-true, leb-true, le-leb, lt-leb}
 use lib.Dec.{ltb, leb}
 use lib.ListN.{length, length-append}
 use lib.Seq.{get_or_at, append_snoc}
-use Rattle.laws.specs.Tests.{each}
 use Rattle.laws.proofs.Booleans.{and_left, and_right}
 use Rattle.orderings.specs.Ordering.{same_key, built}
 use Rattle.orderings.specs.Lists.{ordering_at, nonempty, built_all}

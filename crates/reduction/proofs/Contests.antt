@@ -1,4 +1,5 @@
 -- Two orderings of a list held against each other, as the code does it: by the number of an overlap.
+use Rattle.std.specs.Prelude.{if◌then◌else◌}
 use Prim.Native.Nat.{ℕ, ◌+◌, ◌-◌, ◌<◌, ◌≤◌}
 use mathlib.Core.Bool.{Bool}
 use mathlib.Core.List.{List}
@@ -8,7 +9,6 @@ use native.Mathlib.Omega.{arith}
 use borrow.Author.Tests.{eq-eqb, ne_eqb}
 use lib.Dec.{eqb}
 use lib.ListN.{length, take, set, length-set}
-use Rattle.laws.specs.Tests.{if◌then◌else◌}
 use Rattle.orderings.specs.Ordering.{same_key}
 use Rattle.orderings.specs.Lists.{ordering_at}
 use Rattle.reduction.specs.Reduction.{overlap, removed, Resolved, apart, trimmed, emptied, resolved_by, resolve, second, compared}

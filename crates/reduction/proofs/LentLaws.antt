@@ -1,4 +1,5 @@
 -- Lists of keys lent as numbers, as the code reads them: a test of each list from a place on, the loops, and what the tests say of the keys.
+use Rattle.std.specs.Prelude.{if◌then◌else◌}
 use Prim.Native.Nat.{ℕ, zero, suc, ◌+◌, ◌*◌, ◌<◌, ◌≤◌}
 use mathlib.Core.Bool.{Bool, true, false, not, ◌&&◌}
 use mathlib.Core.List.{List, ◌∷◌}
@@ -9,7 +10,7 @@ use borrow.Author.Tests.{eq-eqb, lt-ltb, ltb-true, leb-true, not-true}
 use lib.Arith.{digits_div}
 use lib.Dec.{eqb, ltb, leb}
 use lib.ListN.{length, get_or}
-use Rattle.laws.specs.Tests.{if◌then◌else◌, each}
+use Rattle.laws.specs.Tests.{each}
 use Rattle.laws.proofs.Booleans.{true_not_false, and_left, and_right, and_both}
 use Rattle.laws.proofs.Each.{each_all, each_holds}
 use Rattle.laws.proofs.Table.{length-table, get_or-table}

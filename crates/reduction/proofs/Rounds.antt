@@ -1,4 +1,5 @@
 -- A round, turn by turn, as the code does it.
+use Rattle.std.specs.Prelude.{if◌then◌else◌}
 use Prim.Native.Nat.{ℕ, ◌+◌, ◌-◌, ◌<◌, ◌≤◌}
 use mathlib.Core.Bool.{Bool, true, false}
 use mathlib.Core.List.{List}
@@ -6,7 +7,6 @@ use mathlib.Core.Path.{◌≡◌, refl, sym, ap, ◌∙◌, subst}
 use native.Mathlib.Omega.{arith}
 use lib.Dec.{eqb}
 use lib.ListN.{length}
-use Rattle.laws.specs.Tests.{if◌then◌else◌}
 use Rattle.orderings.specs.Ordering.{same_key}
 use Rattle.reduction.specs.Reduction.{Way, onward, again, anew, Compared, compared, round_rest, round_end, round-onward, round-again, round-anew, round}
 use Rattle.reduction.specs.Fewer.{goes, Left, compared-left}

@@ -1,4 +1,5 @@
 -- How large a session's state is, and which numbers a record is answered with.
+use Rattle.std.specs.Prelude.{if◌then◌else◌}
 use Prim.Native.Nat.{ℕ, ◌+◌, ◌-◌, ◌<◌, ◌≤◌}
 use mathlib.Core.Bool.{Bool, true, false, ◌&&◌}
 use mathlib.Core.List.{List, [], ◌∷◌, ◌++◌, map}
@@ -8,7 +9,7 @@ use native.Mathlib.Omega.{arith}
 use borrow.Author.Tests.{ltb-true, leb-true}
 use lib.Dec.{eqb, ltb, leb}
 use lib.ListN.{length, get_or, take, length-append, length-set}
-use Rattle.laws.specs.Tests.{if◌then◌else◌, each, first}
+use Rattle.laws.specs.Tests.{each, first}
 use Rattle.laws.proofs.Booleans.{and_left, and_right}
 use Rattle.laws.proofs.First.{first_some}
 use Rattle.arena.specs.Node.{Node, column, literal, operation, node_at, same_node}

@@ -1,4 +1,5 @@
 -- The definitions of the calls, case by case, in the words of the functions that answer them.
+use Rattle.std.specs.Prelude.{if◌then◌else◌}
 use Prim.Native.Nat.{ℕ, ◌+◌, ◌<◌, ◌≤◌}
 use mathlib.Core.Bool.{Bool, true, false}
 use mathlib.Core.List.{List, [], ◌∷◌, ◌++◌, map}
@@ -6,7 +7,7 @@ use mathlib.Core.Path.{◌≡◌, refl, sym, ap, ◌∙◌}
 use borrow.Author.Tests.{lt-ltb, le-ltb, le-leb, lt-leb}
 use lib.Dec.{ltb, leb}
 use lib.ListN.{length, get_or}
-use Rattle.laws.specs.Tests.{if◌then◌else◌, each}
+use Rattle.laws.specs.Tests.{each}
 use Rattle.arena.specs.Node.{Node, operation}
 use Rattle.arena.specs.Expression.{expression_at}
 use Rattle.arena.specs.Arena.{add, add_expression}

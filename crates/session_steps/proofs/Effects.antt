@@ -1,4 +1,5 @@
 -- Kinds 1 to 8 have the effects of the calls they stand for: on a state whose parts pass the calls' own checks, a record comes to what the public call answers, and leaves what the call leaves.
+use Rattle.std.specs.Prelude.{if◌then◌else◌}
 use Prim.Native.Nat.{ℕ, ◌+◌}
 use mathlib.Core.Bool.{Bool, true, false, ◌&&◌}
 use mathlib.Core.List.{List, [], ◌∷◌, ◌++◌, map}
@@ -7,13 +8,12 @@ use native.Mathlib.Omega.{arith}
 use borrow.Author.Tests.{eq-eqb}
 use lib.Dec.{eqb, ltb, leb}
 use lib.ListN.{length}
-use Rattle.laws.specs.Tests.{if◌then◌else◌, each}
+use Rattle.laws.specs.Tests.{each}
 use Rattle.laws.proofs.Booleans.{and_right}
 use Rattle.arena.specs.Node.{Node}
 use Rattle.arena.specs.Arena.{Sound}
 use Rattle.arena.specs.Layout.{encode as cells_for, decode as nodes_in, count, lawful}
 use Rattle.arena.specs.Calls.{lent, in_cells, Outcome, add_column, add_literal, add_operation}
-use Rattle.arena.specs.declared.Added.{Added}
 use Rattle.arena.specs.declared.Added.TheVariants.{Refused}
 use Rattle.arena.proofs.Layouts.{decode-encode, count-encode, encode-holds, holds-lawful}
 use Rattle.arena.proofs.Lending.{on-arena}

@@ -1,4 +1,5 @@
 -- What adding a node comes to: the arena stays sound and only grows, and a refusal leaves it as it was.
+use Rattle.std.specs.Prelude.{if◌then◌else◌}
 use Prim.Native.Nat.{ℕ, ◌<◌}
 use mathlib.Core.Bool.{Bool, true, false}
 use mathlib.Core.List.{List}
@@ -6,7 +7,7 @@ use mathlib.Core.Path.{◌≡◌, refl}
 use borrow.Author.Tests.{ltb-true, leb-true}
 use lib.Dec.{ltb, leb}
 use lib.ListN.{length, get_or}
-use Rattle.laws.specs.Tests.{if◌then◌else◌, each}
+use Rattle.laws.specs.Tests.{each}
 use Rattle.laws.proofs.Each.{each_holds}
 use Rattle.arena.specs.Node.{Node, column, literal, operation}
 use Rattle.arena.specs.Arena.{Allowed, Sound, Placed, placed, full, add}

@@ -1,11 +1,12 @@
 -- What adding an ordering comes to: a good list, and its struct is held.
+use Rattle.std.specs.Prelude.{if◌then◌else◌}
 use Prim.Native.Nat.{ℕ}
 use mathlib.Core.Bool.{Bool, true, false}
 use mathlib.Core.List.{List, [], ◌∷◌, ◌++◌, map}
 use mathlib.Core.Path.{◌≡◌, refl, sym, ap, subst}
 use lib.Dec.{ltb, leb}
 use lib.ListN.{length}
-use Rattle.laws.specs.Tests.{if◌then◌else◌, each}
+use Rattle.laws.specs.Tests.{each}
 use Rattle.arena.specs.Node.{Node}
 use Rattle.orderings.specs.Ordering.{same_key}
 use Rattle.orderings.specs.Lists.{built_all}

@@ -1,7 +1,7 @@
 -- Every state of a session passes the calls' own checks, so that the effects of Effects.antt hold for each of its records.
 use Prim.Native.Nat.{ℕ, suc, ◌-◌, ◌<◌, ◌≤◌}
 use mathlib.Core.Bool.{Bool, true, false}
-use mathlib.Core.List.{List, [], ◌∷◌, ◌++◌, map}
+use mathlib.Core.List.{List, [], ◌∷◌, map}
 use mathlib.Core.Path.{◌≡◌, refl, sym, ap, ◌∙◌, subst}
 use native.Mathlib.Omega.{arith}
 use borrow.Author.Tests.{ltb-true, ltb-false}
@@ -9,33 +9,29 @@ use lib.Dec.{ltb}
 use lib.ListN.{length, get_or, replicate, length-append, length-replicate, length-map, get_or-eq_default}
 use Rattle.arena.specs.Node.{Node}
 use Rattle.arena.specs.Arena.{Sound, Extends}
-use Rattle.arena.specs.Layout.{encode as cells_for, count, decode as nodes_in}
+use Rattle.arena.specs.Layout.{encode as cells_for}
 use Rattle.arena.specs.Calls.{add_column, add_literal, add_operation, added_number}
 use Rattle.arena.specs.declared.Added.{Added}
 use Rattle.arena.proofs.Layouts.{decode-encode, count-encode, encode-holds, holds-lawful}
-use Rattle.classes.specs.Class.{Class}
-use Rattle.classes.specs.Layout.{encode as group_for}
-use Rattle.classes.specs.Calls.{group_number}
 use Rattle.group_checks.proofs.HeldLaws.{Fit, held_number}
 use Rattle.normal.specs.Calls.{normalize_expr}
 use Rattle.normal.proofs.NormalKept.{Kept, form-kept}
 use Rattle.orderings.specs.Good.{Good as GoodList}
-use Rattle.orderings.specs.Layout.{row, encode as list_for, decode as orderings_in, place_in}
+use Rattle.orderings.specs.Layout.{row, encode as list_for}
 use Rattle.orderings.specs.Calls.{list_number}
-use Rattle.reduction.specs.Calls.{add_answer}
 use Rattle.orderings.specs.declared.Listed.{Listed}
 use Rattle.orderings.proofs.Codec.{decode-encode as orderings-again, place-encode}
 use Rattle.orderings.specs.Lists.{ordering_at}
 use Rattle.orderings.specs.declared.Ordering.{Ordering}
 use Rattle.orderings.proofs.ListChecks.{Sized}
-use Rattle.orderings.proofs.ListHeld.{Known, Lent, number-held, held_number as list-number}
+use Rattle.orderings.proofs.ListHeld.{Known, number-held, held_number as list-number}
 use Rattle.ordering_laws.proofs.ListMade.{add-passes}
 use Rattle.records.specs.Record.{Record, column, literal, operation, equal_pair, constant, normal_form_of, equality_of, one_ordering, WellFormed}
 use Rattle.session_steps.specs.State.{State, start, Reply, added_reply, normal_reply, with_nodes, on_nodes, on_classes, with_classes, with_orderings, add_ordering, step, after}
 use Rattle.session_steps.specs.Inner.{lent_keys, listed_of}
 use Rattle.session_steps.proofs.States.{GoodState, start-good, step-good, group-fit}
 use Rattle.session_steps.proofs.NodesKept.{column-kept, literal-kept, operation-kept}
-use Rattle.session_steps.proofs.Effects.{Passes, cells_of, group_of, list_of, ordering-is}
+use Rattle.session_steps.proofs.Effects.{Passes, cells_of, list_of, ordering-is}
 
 -- the layout of a good list has its lengths
 sized_for : (os : List (List ℕ)) → GoodList os → Sized (list_for os)

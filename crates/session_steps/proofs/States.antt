@@ -1,4 +1,5 @@
 -- What every session keeps: its state stays good, and a refusal leaves it as it was.
+use Rattle.std.specs.Prelude.{if◌then◌else◌}
 use Prim.Native.Nat.{ℕ, suc, ◌+◌, ◌<◌, ◌≤◌}
 use mathlib.Core.Bool.{Bool, true, false}
 use mathlib.Core.List.{List, [], ◌∷◌, ◌++◌, map}
@@ -6,7 +7,7 @@ use mathlib.Core.Path.{◌≡◌, refl, ap}
 use native.Mathlib.Omega.{arith}
 use lib.Dec.{ltb, leb}
 use lib.ListN.{length, get_or}
-use Rattle.laws.specs.Tests.{if◌then◌else◌, each}
+use Rattle.laws.specs.Tests.{each}
 use Rattle.arena.specs.Node.{Node, operation}
 use Rattle.arena.specs.Expression.{expression_at}
 use Rattle.arena.specs.Arena.{Sound, Placed, placed, full, add, add_expression}

@@ -123,7 +123,7 @@ again z = to_z w64 (of_z w64 z)
 
 -- is the same, if 64 bits hold it
 again-is : (z : ℤ) → mag z < 2 ^ 63 → again z ≡ z
-again-is z f = to_z-of_z (record { sfits = f })
+again-is z f = to_z-of_z {w = w64} (record { sfits = f })
 
 -- what the code finds of an offset
 module _ (z : ℤ) (f : mag z < 2 ^ 63) where

@@ -1,6 +1,6 @@
 -- Whether an expression can move, by its node's children, and by a table of the nodes before it.
 use Prim.Native.Nat.{ℕ, zero, suc, ◌+◌, ◌%◌, ◌<◌}
-use mathlib.Core.Bool.{Bool, false, ◌&&◌, and_true, and_assoc}
+use mathlib.Core.Bool.{Bool, false, ◌&&◌, and-true, and_assoc}
 use mathlib.Core.List.{List, [], ◌∷◌}
 use mathlib.Core.Option.{Option}
 use mathlib.Core.Path.{◌≡◌, refl, sym, ap, ◌∙◌}
@@ -23,7 +23,7 @@ use Rattle.arena.proofs.Children.{in_arena_lem, child-below}
 -- "for all" by its first test
 each_first : (p : ℕ → Bool) (n : ℕ) → each p (suc n) ≡ (p 0 && each (λ k. p (suc k)) n)
 unfolding each
-each_first p zero = sym (and_true (p 0))
+each_first p zero = sym (and-true (p 0))
 each_first p (suc n) = ap (λ (b : Bool). b && p (suc n)) (each_first p n) ∙ and_assoc (p 0) (each (λ k. p (suc k)) n) (p (suc n))
 
 module _ (to : ℕ → Option ℕ) (es : List Expression) where

@@ -1,4 +1,5 @@
 -- Values of expressions are moved with the row when an expression is shifted; when a shift can be made, and what it makes.
+use Rattle.std.specs.Prelude.{if◌then◌else◌}
 use Prim.Native.Nat.{ℕ, suc, ◌<◌}
 use mathlib.Core.Bool.{Bool, true, false}
 use mathlib.Core.List.{◌∷◌}
@@ -8,7 +9,7 @@ use native.Mathlib.Omega.{arith}
 use borrow.Author.Tests.{ltb-true}
 use lib.Dec.{ltb}
 use lib.IntN.{ℤ, pos, negsuc, ◌+ℤ◌}
-use Rattle.laws.specs.Tests.{if◌then◌else◌, is_some}
+use Rattle.laws.specs.Tests.{is_some}
 use Rattle.laws.proofs.Booleans.{true_not_false, and_left, and_right}
 use Rattle.arena.specs.Expression.{Expression, Expressions, col, lit, op, ∅, ◌▹◌, size}
 use Rattle.arena.specs.Value.{Row, Meaning, value, values}

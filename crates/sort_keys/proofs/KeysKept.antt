@@ -1,4 +1,5 @@
 -- A refusal leaves every cell as it was, and the arena stays sound: over the functions that the contracts of the two calls on sort keys cite.
+use Rattle.std.specs.Prelude.{if◌then◌else◌}
 use Prim.Native.Nat.{ℕ, ◌<◌, ◌%◌}
 use mathlib.Core.Bool.{Bool, true, false, ◌&&◌}
 use mathlib.Core.List.{List}
@@ -7,7 +8,7 @@ use native.Mathlib.Omega.{arith}
 use borrow.Author.Tests.{ltb-true}
 use lib.Dec.{eqb, ltb, leb}
 use lib.ListN.{length, get_or, length-map}
-use Rattle.laws.specs.Tests.{if◌then◌else◌, each}
+use Rattle.laws.specs.Tests.{each}
 use Rattle.laws.proofs.Each.{each_holds}
 use Rattle.arena.specs.Node.{Node}
 use Rattle.arena.specs.Expression.{expressions, those}

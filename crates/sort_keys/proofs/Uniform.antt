@@ -1,4 +1,5 @@
 -- Which expressions are uniform constants: the table of the flavours of the old nodes' classes says it for every node of an arena that has grown since.
+use Rattle.std.specs.Prelude.{if◌then◌else◌}
 use Prim.Native.Nat.{ℕ, ◌<◌, ◌≤◌}
 use mathlib.Core.Bool.{Bool, true, false, ◌&&◌, ◌||◌}
 use mathlib.Core.List.{List}
@@ -9,7 +10,7 @@ use native.Mathlib.Omega.{arith}
 use borrow.Author.Tests.{lt-ltb, le-ltb}
 use lib.Dec.{ltb, leb}
 use lib.ListN.{length, get_or}
-use Rattle.laws.specs.Tests.{if◌then◌else◌, each}
+use Rattle.laws.specs.Tests.{each}
 use Rattle.arena.specs.Node.{Node, column, literal, operation, node_at, child_numbers}
 use Rattle.arena.specs.Arena.{Sound, Extends}
 use Rattle.arena.proofs.Nodes.{extends-node}

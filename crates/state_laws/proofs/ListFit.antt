@@ -1,4 +1,5 @@
 -- A list of orderings that a call hands back, unless it is refused, fits its cells; so do a joined ordering and sorted keys.
+use Rattle.std.specs.Prelude.{if◌then◌else◌}
 use Prim.Native.Nat.{ℕ, zero, suc, ◌+◌, ◌*◌, ◌<◌, ◌≤◌}
 use mathlib.Core.Bool.{Bool, true, false, ◌&&◌}
 use mathlib.Core.List.{List, [], ◌∷◌, ◌++◌}
@@ -11,7 +12,7 @@ use lib.Dec.{eqb, ltb, leb}
 use lib.IntN.{ℤ}
 use lib.ListN.{length, get_or, get_or-eq_default}
 use lib.Seq.{length-take-le}
-use Rattle.laws.specs.Tests.{if◌then◌else◌, each}
+use Rattle.laws.specs.Tests.{each}
 use Rattle.laws.proofs.Booleans.{true_not_false, and_right}
 use Rattle.laws.proofs.Table.{get_or-table}
 use Rattle.arena.specs.Node.{Node}

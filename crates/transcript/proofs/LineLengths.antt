@@ -15,7 +15,7 @@ use Rattle.normal.specs.Calls.{normalize_expr}
 use Rattle.records.specs.Record.{Record, column, literal, operation, equal_pair, constant, normal_form_of, equality_of, one_ordering, read_record, record_size, kind_of}
 use Rattle.records.proofs.Items.{size-other, size-normal_form}
 use Rattle.session_steps.specs.State.{State, Reply, quiet, normal_form, equality, refusal, normal_reply, on_nodes, step}
-use Rattle.transcript.specs.Session.{n-word, q_word, r-word, end_word, bit, reply_text, end_text}
+use Rattle.transcript.specs.Session.{n_word, q_word, r_word, end_word, bit, reply_text, end_text}
 use Rattle.session_steps.proofs.Bounds.{Small, Tells, NormalSmall, step-answered, normal-answered}
 
 -- a yes or a no is one digit
@@ -29,19 +29,19 @@ module _ (k : ℕ) (l : k < 100000) where
   line-short : (r : Reply) → Tells r → length (reply_text k r) ≤ 14
   unfolding reply_text Tells
   line-short quiet t = omega arith
-  line-short (normal_form e r) t = omega (arith, length_two n-word e r, below-10000 e (omega arith), below-10000 r (omega arith))
+  line-short (normal_form e r) t = omega (arith, length_two n_word e r, below-10000 e (omega arith), below-10000 r (omega arith))
   line-short (equality a b v) t = omega (arith, length_three q_word a b (bit v), below-10000 a (omega arith), below-10000 b (omega arith), bit-short v)
-  line-short (refusal number) t = omega (arith, length_two r-word k number, below-100000 k l, below-100 number t)
+  line-short (refusal number) t = omega (arith, length_two r_word k number, below-100000 k l, below-100 number t)
 
   -- the line of a normal form
   normal-short : (e : ℕ) (a : Added) → NormalSmall e a → length (reply_text k (normal_reply e a)) ≤ 12
   unfolding normal_reply reply_text NormalSmall
-  normal-short e (Number i) t = omega (arith, length_two n-word e i, below-10000 e (omega arith), below-10000 i (omega arith))
-  normal-short e (Refused n) t = omega (arith, length_two r-word k n, below-100000 k l, below-10 n t)
+  normal-short e (Number i) t = omega (arith, length_two n_word e i, below-10000 e (omega arith), below-10000 i (omega arith))
+  normal-short e (Refused n) t = omega (arith, length_two r_word k n, below-100000 k l, below-10 n t)
 
   -- the line of a malformed record
-  pub stop-short : length (line r-word (k ∷ 9 ∷ [])) ≤ 10
-  stop-short = omega (arith, length_two r-word k 9, below-100000 k l, below-10 9 (omega arith))
+  pub stop-short : length (line r_word (k ∷ 9 ∷ [])) ≤ 10
+  stop-short = omega (arith, length_two r_word k 9, below-100000 k l, below-10 9 (omega arith))
 
   -- the line of a record
   pub reply-short : (bytes : List ℕ) (x : Record) (s : State) → read_record bytes ≡ some x → Small s → length (reply_text k (step x s).0) ≤ 2 * record_size bytes

@@ -29,7 +29,7 @@ use Rattle.records.specs.declared.Item.{Item}
 use Rattle.records.specs.declared.Item.TheVariants.{Malformed}
 use Rattle.records.proofs.Items.{malformed_answer, size_least, size-most}
 use Rattle.session_steps.specs.State.{State, start, step}
-use Rattle.transcript.specs.Session.{read_all, read_none, read_malformed, read-record, r-word, end_word, reply_text, end_text, script_text}
+use Rattle.transcript.specs.Session.{read_all, read_none, read_malformed, read-record, r_word, end_word, reply_text, end_text, script_text}
 use Rattle.session_steps.specs.Inner.{Fit, Went, state_of}
 use Rattle.transcript.specs.Inner.{said_text, is_malformed}
 use Rattle.session_steps.specs.declared.holding.Holding.{Holding}
@@ -153,35 +153,35 @@ module _ (input old new cells : List ℕ) (h : Holding) (done at k : ℕ) (few :
 
     -- a malformed record
     module _ (bad : is_malformed item ≡ true) where
-      pub stop-room : RoomFor new done (line r-word (k ∷ 9 ∷ []))
-      stop-room = has_room (line r-word (k ∷ 9 ∷ [])) (omega (arith, r.short, r.inside, stop-short k k-low))
+      pub stop-room : RoomFor new done (line r_word (k ∷ 9 ∷ []))
+      stop-room = has_room (line r_word (k ∷ 9 ∷ [])) (omega (arith, r.short, r.inside, stop-short k k-low))
 
-      stopped : script_text k (state_of cells h) (read_all (drop at input)) ≡ line r-word (k ∷ 9 ∷ []) ++ last_line h
+      stopped : script_text k (state_of cells h) (read_all (drop at input)) ≡ line r_word (k ∷ 9 ∷ []) ++ last_line h
       stopped =
           let q : read_record (drop at input) ≡ none = ap read_record (sym (part-is input at)) ∙ malformed_answer (part_of input at) (sym is ∙ malformed_is item bad) in
           ap (script_text k (state_of cells h)) (read_malformed (drop at input) (omega (arith, length-drop at input)) q)
-          ∙ script-stop k (state_of cells h) ∙ ap (λ (l : List ℕ). line r-word (k ∷ 9 ∷ []) ++ l) (sym (last_line_lem cells h r.fit))
+          ∙ script-stop k (state_of cells h) ∙ ap (λ (l : List ℕ). line r_word (k ∷ 9 ∷ []) ++ l) (sym (last_line_lem cells h r.fit))
 
-      both-room : RoomFor new done (line r-word (k ∷ 9 ∷ []) ++ last_line h)
+      both-room : RoomFor new done (line r_word (k ∷ 9 ∷ []) ++ last_line h)
       both-room =
-          has_room (line r-word (k ∷ 9 ∷ []) ++ last_line h)
-          (omega (arith, length-append (line r-word (k ∷ 9 ∷ [])) (last_line h), r.short, r.inside, stop-short k k-low, last-short))
+          has_room (line r_word (k ∷ 9 ∷ []) ++ last_line h)
+          (omega (arith, length-append (line r_word (k ∷ 9 ∷ [])) (last_line h), r.short, r.inside, stop-short k k-low, last-short))
 
-      module _ (new1 : List ℕ) (next1 : ℕ) (p : Put new done (line r-word (k ∷ 9 ∷ [])) new1 next1) where
+      module _ (new1 : List ℕ) (next1 : ℕ) (p : Put new done (line r_word (k ∷ 9 ∷ [])) new1 next1) where
         pub stop_end_room : RoomFor new1 next1 (last_line h)
-        stop_end_room = put-room new done (line r-word (k ∷ 9 ∷ [])) new1 next1 stop-room p (last_line h) both-room
+        stop_end_room = put-room new done (line r_word (k ∷ 9 ∷ [])) new1 next1 stop-room p (last_line h) both-room
 
         module _ (new2 : List ℕ) (next2 : ℕ) (q : Put new1 next1 (last_line h) new2 next2) where
-          both-put : Put new done (line r-word (k ∷ 9 ∷ []) ++ last_line h) new2 next2
-          both-put = put_both new done (line r-word (k ∷ 9 ∷ [])) new1 next1 stop-room p (last_line h) new2 next2 q
+          both-put : Put new done (line r_word (k ∷ 9 ∷ []) ++ last_line h) new2 next2
+          both-put = put_both new done (line r_word (k ∷ 9 ∷ [])) new1 next1 stop-room p (last_line h) new2 next2 q
 
           pub stop-length : length new2 ≡ length old
-          stop-length = put-length new done (line r-word (k ∷ 9 ∷ []) ++ last_line h) new2 next2 both-room both-put ∙ new-length
+          stop-length = put-length new done (line r_word (k ∷ 9 ∷ []) ++ last_line h) new2 next2 both-room both-put ∙ new-length
 
           pub run-stops : Put old 0 (script_text 1 start (read_all input)) new2 next2
           run-stops =
               subst (λ (t : List ℕ). Put old 0 t new2 next2) (sym (r.goes ∙ ap (λ (l : List ℕ). r.text ++ l) stopped))
-              (joins (line r-word (k ∷ 9 ∷ []) ++ last_line h) new2 next2 both-put)
+              (joins (line r_word (k ∷ 9 ∷ []) ++ last_line h) new2 next2 both-put)
 
     -- a record that is read
     module _ (good : is_malformed item ≡ false) where

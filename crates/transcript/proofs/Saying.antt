@@ -1,20 +1,16 @@
 -- What is printed for what is said, and what a malformed record is.
-use Prim.Native.Nat.{ℕ, ◌<◌}
+use Prim.Native.Nat.{ℕ}
 use mathlib.Core.Bool.{Bool, true, false}
 use mathlib.Core.List.{List, [], ◌∷◌, ◌++◌}
-use mathlib.Core.Logic.{⊎_elim}
 use mathlib.Core.Path.{◌≡◌, refl, subst}
 use native.Mathlib.Omega.{arith}
-use denote.Enum.Declared.{tag_of}
-use types.Run.{OneOf}
 use Rattle.lines.specs.Text.{spaced, line}
 use Rattle.lines.specs.Writing.{RoomFor}
 use Rattle.lines.proofs.Puts.{put-fits}
-use Rattle.records.specs.contracts.Item.{the_type}
 use Rattle.records.specs.declared.Item.{Item}
 use Rattle.records.specs.declared.Item.TheVariants.{Column, Literal, Operation, EqualPair, Constant, NormalFormOf, EqualityOf, OneOrdering, Malformed}
 use Rattle.session_steps.specs.State.{Reply, quiet, normal_form, equality, refusal}
-use Rattle.transcript.specs.Session.{bit, r-word, reply_text}
+use Rattle.transcript.specs.Session.{bit, r_word, reply_text}
 use Rattle.session_steps.specs.Inner.{said_of}
 use Rattle.transcript.specs.Inner.{said_text, is_malformed}
 use Rattle.session_steps.specs.declared.holding.Said.{Said}
@@ -46,17 +42,12 @@ module _ (k : ℕ) (said : Said) where
   equality-room a b v q old at room =
       put-fits old at (113 ∷ []) (spaced (a ∷ b ∷ bit v ∷ []) ++ (10 ∷ [])) (subst (λ (t : List ℕ). RoomFor old at t) (said-equality a b v a b (bit v) q refl refl refl) room)
 
-  pub said-refused : (number x : ℕ) → said ≡ Refused number → x ≡ number → said_text k said ≡ line r-word (k ∷ x ∷ [])
+  pub said-refused : (number x : ℕ) → said ≡ Refused number → x ≡ number → said_text k said ≡ line r_word (k ∷ x ∷ [])
   unfolding said_text
   said-refused number x q p = rw (q, p)
 
 -- an item of another kind is not malformed
-below_eight : (x : ℕ) → OneOf (0 ∷ 1 ∷ 2 ∷ 3 ∷ 4 ∷ 5 ∷ 6 ∷ 7 ∷ []) x → x < 8
-below_eight x w =
-    ⊎_elim (λ e. omega arith) (⊎_elim (λ e. omega arith) (⊎_elim (λ e. omega arith) (⊎_elim (λ e. omega arith)
-    (⊎_elim (λ e. omega arith) (⊎_elim (λ e. omega arith) (⊎_elim (λ e. omega arith) (λ e. omega arith))))))) w
-
-pub another_kind : (i : Item) → OneOf (0 ∷ 1 ∷ 2 ∷ 3 ∷ 4 ∷ 5 ∷ 6 ∷ 7 ∷ []) (tag_of the_type i) → false ≡ is_malformed i
+pub another_kind : (i : Item) → (i ≡ Malformed → ⊥) → false ≡ is_malformed i
 unfolding is_malformed
 another_kind (Column name index) w = refl
 another_kind (Literal value) w = refl
@@ -66,7 +57,7 @@ another_kind (Constant e flavour value) w = refl
 another_kind (NormalFormOf e) w = refl
 another_kind (EqualityOf a b) w = refl
 another_kind (OneOrdering n) w = refl
-another_kind Malformed w = absurd (let l = below_eight 8 w in omega arith)
+another_kind Malformed w = absurd (w refl)
 
 pub the_malformed : (i : Item) → i ≡ Malformed → true ≡ is_malformed i
 unfolding is_malformed

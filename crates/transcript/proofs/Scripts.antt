@@ -8,7 +8,7 @@ use lib.ListN.{length}
 use Rattle.lines.specs.Text.{line}
 use Rattle.records.specs.Record.{Record}
 use Rattle.session_steps.specs.State.{State, step, after}
-use Rattle.transcript.specs.Session.{Script, before, r-word, reply_text, replies, stop_text, end_text, script_text}
+use Rattle.transcript.specs.Session.{Script, before, r_word, reply_text, replies, stop_text, end_text, script_text}
 
 -- the answer to the first record, then the text of the others
 pub script-record : (k : ℕ) (s : State) (r : Record) (script : Script)
@@ -26,6 +26,6 @@ unfolding script_text replies after stop_text
 script_end k s = refl
 
 -- a malformed record
-pub script-stop : (k : ℕ) (s : State) → script_text k s (record { records = []; whole = false }) ≡ line r-word (k ∷ 9 ∷ []) ++ end_text s
+pub script-stop : (k : ℕ) (s : State) → script_text k s (record { records = []; whole = false }) ≡ line r_word (k ∷ 9 ∷ []) ++ end_text s
 unfolding script_text replies after stop_text
-script-stop k s = let e : k + 0 ≡ k = omega arith in ap (λ (n : ℕ). line r-word (n ∷ 9 ∷ []) ++ end_text s) e
+script-stop k s = let e : k + 0 ≡ k = omega arith in ap (λ (n : ℕ). line r_word (n ∷ 9 ∷ []) ++ end_text s) e

@@ -17,7 +17,7 @@ use Rattle.records.proofs.Headers.{whole-header, whole_body, whole_from}
 use Rattle.records.proofs.Items.{size_least, size-most}
 use Rattle.records.proofs.Reading.{was_read}
 use Rattle.session_steps.specs.State.{State, start, refusal, step, after}
-use Rattle.transcript.specs.Session.{Script, before, read_all, read_none, read_malformed, read-record, r-word, reply_text, replies, stop_text, end_text, script_text, session_text, session}
+use Rattle.transcript.specs.Session.{Script, before, read_all, read_none, read_malformed, read-record, r_word, reply_text, replies, stop_text, end_text, script_text, session_text, session}
 use Rattle.transcript.specs.declared.Written.{Written}
 use Rattle.transcript.specs.declared.Written.TheVariants.{Bytes, Refused}
 use Rattle.session_steps.proofs.Bounds.{Small, small-start, step-answered}
@@ -43,7 +43,7 @@ script-bounded (suc n) bytes k s l c h = at (dec_lt 0 (length bytes)) (λ k s re
         → length (script_text k s (read_all bytes)) ≤ 2 * length bytes + 24
     go p none q f =
         let e = ap (λ (t : List ℕ). length t) (ap (script_text k s) (read_malformed bytes p q) ∙ script-stop k s) in
-        omega (arith, e, length-append (line r-word (k ∷ 9 ∷ [])) (end_text s), stop-short k low, end_short s h)
+        omega (arith, e, length-append (line r_word (k ∷ 9 ∷ [])) (end_text s), stop-short k low, end_short s h)
     go p (some x) q f =
         let rest : List ℕ = drop (record_size bytes) bytes in
         let d = length-drop (record_size bytes) bytes in
@@ -69,7 +69,7 @@ text-bounded bytes = go (dec_lt 65536 (length bytes))
   where
     go : Dec (65536 < length bytes) → length (session_text bytes) ≤ 131096
     go (yes l) =
-        omega (arith, ap (λ (t : List ℕ). length t) (text-over bytes l), length-append (line r-word (0 ∷ 9 ∷ [])) (end_text start), stop-short 0 (omega arith), end_short start small-start)
+        omega (arith, ap (λ (t : List ℕ). length t) (text-over bytes l), length-append (line r_word (0 ∷ 9 ∷ [])) (end_text start), stop-short 0 (omega arith), end_short start small-start)
     go (no l) = omega (arith, text_doubles bytes (omega arith))
 
 -- and output of 131,096 bytes is never too short: the call answers the text's length, and the text stands at the start
@@ -183,7 +183,7 @@ appended bytes more l w =
 
 -- a refusal is told and doesn't stop the session: the records after it are answered from the same state
 pub refused-goes_on : (k : ℕ) (s : State) (x : Record) (rs : List Record) (n : ℕ) → (step x s).0 ≡ refusal n
-    → replies k s (x ∷ rs) ≡ line r-word (k ∷ n ∷ []) ++ replies (k + 1) s rs
+    → replies k s (x ∷ rs) ≡ line r_word (k ∷ n ∷ []) ++ replies (k + 1) s rs
 unfolding replies reply_text
 refused-goes_on k s x rs n q =
     ap₂ (λ (u v : List ℕ). u ++ v) (ap (reply_text k) q) (ap (λ (t : State). replies (k + 1) t rs) (refused-leaves x s n q))

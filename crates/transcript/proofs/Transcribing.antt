@@ -11,7 +11,7 @@ use Rattle.lines.specs.Writing.{Put, RoomFor}
 use Rattle.lines.proofs.Puts.{put-room, put_both}
 use Rattle.arena.specs.Layout.{encode as encode_nodes}
 use Rattle.session_steps.specs.State.{start}
-use Rattle.transcript.specs.Session.{read_all, r-word, end_text, script_text, session_text, session}
+use Rattle.transcript.specs.Session.{read_all, r_word, end_text, script_text, session_text, session}
 use Rattle.session_steps.specs.declared.holding.Holding.{Holding}
 use Rattle.transcript.specs.declared.Written.{Written}
 use Rattle.transcript.specs.declared.Written.TheVariants.{Bytes, Refused}
@@ -20,7 +20,7 @@ use Rattle.transcript.proofs.LineLengths.{stop-short, end_short}
 use Rattle.transcript.proofs.Running.{opening, opening-fit, opening-state, last_line, last_line_lem}
 
 -- the text for input over the bound, and within it
-pub text-over : (input : List ℕ) → 65536 < length input → session_text input ≡ line r-word (0 ∷ 9 ∷ []) ++ end_text start
+pub text-over : (input : List ℕ) → 65536 < length input → session_text input ≡ line r_word (0 ∷ 9 ∷ []) ++ end_text start
 unfolding session_text
 text-over input l = rw (lt-leb (length input) 65536 l)
 
@@ -30,24 +30,24 @@ text-within input l = rw (le-leb (length input) 65536 l)
 
 module _ (input old : List ℕ) (space : 131096 ≤ length old) where
   -- room for the line of input over the bound
-  pub over-room : RoomFor old 0 (line r-word (0 ∷ 9 ∷ []))
+  pub over-room : RoomFor old 0 (line r_word (0 ∷ 9 ∷ []))
   over-room = omega (arith, stop-short 0 (omega arith))
 
-  module _ (h : Holding) (q : h ≡ opening) (new1 : List ℕ) (next1 : ℕ) (p : Put old 0 (line r-word (0 ∷ 9 ∷ [])) new1 next1) where
+  module _ (h : Holding) (q : h ≡ opening) (new1 : List ℕ) (next1 : ℕ) (p : Put old 0 (line r_word (0 ∷ 9 ∷ [])) new1 next1) where
     over_last : last_line h ≡ end_text start
     over_last = ap (λ (h : Holding). last_line h) q ∙ last_line_lem (encode_nodes []) opening opening-fit ∙ ap end_text opening-state
 
     -- then for the last line
     pub over_end_room : RoomFor new1 next1 (last_line h)
     over_end_room =
-        put-room old 0 (line r-word (0 ∷ 9 ∷ [])) new1 next1 over-room p (last_line h)
-        (omega (arith, stop-short 0 (omega arith), ap (λ (l : List ℕ). length l) over_last, end_short start small-start, length-append (line r-word (0 ∷ 9 ∷ [])) (last_line h)))
+        put-room old 0 (line r_word (0 ∷ 9 ∷ [])) new1 next1 over-room p (last_line h)
+        (omega (arith, stop-short 0 (omega arith), ap (λ (l : List ℕ). length l) over_last, end_short start small-start, length-append (line r_word (0 ∷ 9 ∷ [])) (last_line h)))
 
     -- and both are the text
     pub over-put : 65536 < length input → (new2 : List ℕ) (next2 : ℕ) → Put new1 next1 (last_line h) new2 next2 → Put old 0 (session_text input) new2 next2
     over-put l new2 next2 q =
-        subst (λ (t : List ℕ). Put old 0 t new2 next2) (ap (λ (t : List ℕ). line r-word (0 ∷ 9 ∷ []) ++ t) over_last ∙ sym (text-over input l))
-        (put_both old 0 (line r-word (0 ∷ 9 ∷ [])) new1 next1 over-room p (last_line h) new2 next2 q)
+        subst (λ (t : List ℕ). Put old 0 t new2 next2) (ap (λ (t : List ℕ). line r_word (0 ∷ 9 ∷ []) ++ t) over_last ∙ sym (text-over input l))
+        (put_both old 0 (line r_word (0 ∷ 9 ∷ [])) new1 next1 over-room p (last_line h) new2 next2 q)
 
   -- input within the bound
   pub within-put : length input ≤ 65536 → (new : List ℕ) (next : ℕ) → Put old 0 (script_text 1 start (read_all input)) new next → Put old 0 (session_text input) new next

@@ -1,0 +1,7 @@
+-- `classes::building::set_constant` meets its contract.
+use Rattle.classes.proofs.Rebuilding.{constant-made}
+use Rattle.classes.proofs.building.set_constant.Goals as goal
+
+pub returns : goal.returns
+returns c =
+    constant-made c.args.g c.args.i _ c.taken_over-mark.result c.mark_of.result c.requires.0 c.requires.1 c.mark_of.ensures c.taken_over-mark.ensures

@@ -1,0 +1,13 @@
+-- `dependencies::checking::keys_fresh` meets its contract.
+use Prim.Native.Nat.{◌-◌, ◌≤◌}
+use mathlib.Core.Bool.{true}
+use mathlib.Core.Path.{◌≡◌}
+use Rattle.laws.specs.Tests.{each}
+use Rattle.dependencies.proofs.MapChecks.{FreshAt}
+use Rattle.dependencies.proofs.checking.keys_fresh.Given as goal
+
+abbrev pub invariant-loop-i : goal.invariant-loop-i
+invariant-loop-i l = (l.i ≤ l.m.count) × (each (FreshAt l.m) l.i ≡ true)
+
+abbrev pub decreases-loop-i : goal.decreases-loop-i
+decreases-loop-i l = l.m.count - l.i

@@ -1,0 +1,11 @@
+-- `group_states::groups::sizes_from` meets its contract.
+use Prim.Native.Nat.{◌+◌, ◌-◌}
+use lib.ListN.{get_or}
+use Rattle.enumeration.proofs.Marks.{Filled}
+use Rattle.group_states.proofs.groups.sizes_from.Given as goal
+
+abbrev pub invariant-loop-k : goal.invariant-loop-k
+invariant-loop-k l = Filled (λ j. get_or l.cells (3 + j) 0) 0 64 l.k l.sizes
+
+abbrev pub decreases-loop-k : goal.decreases-loop-k
+decreases-loop-k l = 64 - l.k

@@ -1,0 +1,14 @@
+-- `lent_classes::lent::below_at` meets its contract.
+use Prim.Native.Nat.{◌-◌, ◌≤◌}
+use mathlib.Core.Bool.{true}
+use mathlib.Core.Path.{◌≡◌}
+use Rattle.laws.specs.Tests.{each}
+use Rattle.lent_classes.specs.Lent.{size_lent}
+use Rattle.lent_classes.proofs.LentParts.{Below}
+use Rattle.lent_classes.proofs.lent.below_at.Given as goal
+
+abbrev pub invariant-loop-k : goal.invariant-loop-k
+invariant-loop-k l = (l.k ≤ l.n) × ((l.n ≡ size_lent l.numbers l.at) × (each (Below l.m l.numbers l.at) l.k ≡ true))
+
+abbrev pub decreases-loop-k : goal.decreases-loop-k
+decreases-loop-k l = l.n - l.k

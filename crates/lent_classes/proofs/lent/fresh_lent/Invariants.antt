@@ -1,0 +1,14 @@
+-- `lent_classes::lent::fresh_lent` meets its contract.
+use Prim.Native.Nat.{◌-◌, ◌≤◌}
+use mathlib.Core.Bool.{true}
+use mathlib.Core.Path.{◌≡◌}
+use Rattle.laws.specs.Tests.{each}
+use Rattle.lent_classes.specs.Lent.{member_lent}
+use Rattle.lent_classes.proofs.LentParts.{Unlike}
+use Rattle.lent_classes.proofs.lent.fresh_lent.Given as goal
+
+abbrev pub invariant-loop-i : goal.invariant-loop-i
+invariant-loop-i l = (l.i ≤ l.k) × ((l.e ≡ member_lent l.numbers l.at l.k) × (each (Unlike l.numbers l.at l.k) l.i ≡ true))
+
+abbrev pub decreases-loop-i : goal.decreases-loop-i
+decreases-loop-i l = l.k - l.i

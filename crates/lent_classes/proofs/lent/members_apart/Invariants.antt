@@ -1,0 +1,14 @@
+-- `lent_classes::lent::members_apart` meets its contract.
+use Prim.Native.Nat.{◌-◌}
+use mathlib.Core.Bool.{true}
+use mathlib.Core.Path.{◌≡◌}
+use lib.ListN.{length}
+use Rattle.lent_classes.specs.Lent.{each_from, apart_at}
+use Rattle.lent_classes.proofs.LentParts.{WholeAt, Going}
+use Rattle.lent_classes.proofs.lent.members_apart.Given as goal
+
+abbrev pub invariant-loop-at : goal.invariant-loop-at
+invariant-loop-at l = (l.n ≡ length l.numbers) × ((each_from (WholeAt l.numbers) l.numbers l.at ≡ true) × Going (apart_at l.numbers) l.numbers l.at)
+
+abbrev pub decreases-loop-at : goal.decreases-loop-at
+decreases-loop-at l = l.n - l.at

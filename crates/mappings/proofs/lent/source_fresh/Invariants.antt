@@ -1,0 +1,13 @@
+-- `mappings::lent::source_fresh` meets its contract.
+use Prim.Native.Nat.{◌-◌, ◌≤◌}
+use mathlib.Core.Bool.{true}
+use mathlib.Core.Path.{◌≡◌}
+use Rattle.laws.specs.Tests.{each}
+use Rattle.mappings.proofs.StructTests.{Unlike}
+use Rattle.mappings.proofs.lent.source_fresh.Given as goal
+
+abbrev pub invariant-loop-i : goal.invariant-loop-i
+invariant-loop-i l = (l.i ≤ l.k) × (each (Unlike l.m l.k) l.i ≡ true)
+
+abbrev pub decreases-loop-i : goal.decreases-loop-i
+decreases-loop-i l = l.k - l.i

@@ -1,0 +1,12 @@
+-- `reduction::lent::options_known` meets its contract.
+use Prim.Native.Nat.{◌-◌}
+use mathlib.Core.Path.{◌≡◌}
+use lib.ListN.{length}
+use Rattle.reduction.proofs.LentLaws.{OptionsAt, Going}
+use Rattle.reduction.proofs.lent.options_known.Given as goal
+
+abbrev pub invariant-loop-at : goal.invariant-loop-at
+invariant-loop-at l = (l.n ≡ length l.numbers) × Going (OptionsAt l.numbers) l.numbers l.at
+
+abbrev pub decreases-loop-at : goal.decreases-loop-at
+decreases-loop-at l = l.n - l.at

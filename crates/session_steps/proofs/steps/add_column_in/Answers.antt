@@ -1,0 +1,24 @@
+-- `session_steps::steps::add_column_in` meets its contract.
+use mathlib.Core.Path.{ap, ◌∙◌}
+use Rattle.arena.specs.Node.{Node, column}
+use Rattle.arena.specs.Arena.{Allowed, add}
+use Rattle.arena.specs.Layout.{decode as nodes_in}
+use Rattle.arena.specs.Calls.{answered, in_cells, add_column}
+use Rattle.arena.proofs.Layouts.{holds-lawful}
+use Rattle.arena.proofs.Lending.{node-of, placeable}
+use Rattle.session_steps.specs.State.{added_reply}
+use Rattle.session_steps.proofs.Answering.{told_in}
+use Rattle.session_steps.proofs.steps.add_column_in.Goals as goal
+
+pub place-requires : goal.place-requires
+unfolding Allowed
+place-requires c =
+    placeable c.args.cells.now c.column_row-row.result (column c.args.name c.args.index) (holds-lawful c.args.cells.now c.requires) c.column_row-row.ensures c.ranges.index.fits
+
+pub returns : goal.returns
+unfolding Allowed add_column
+returns c =
+    let ns = nodes_in c.args.cells.now in
+    let n = node-of c.args.cells.now c.column_row-row.result (column c.args.name c.args.index) (holds-lawful c.args.cells.now c.requires) c.column_row-row.ensures c.ranges.index.fits in
+    told_in added_reply (add_column c.args.name c.args.index ns) c.place.result c.place.new.cells c.said_added.result
+    (c.place.ensures ∙ ap (λ (x : Node). in_cells (answered ns (add x ns))) n) c.said_added.ensures
