@@ -1,4 +1,4 @@
-// The calls on expressions, exported.
+// The calls on expressions.
 ghost use Rattle.std.specs.Prelude.{◌≡◌};
 ghost use Rattle.arena.specs.Calls.{checked, lent, on_lent, add_column, add_literal, add_operation, read_node, read_child};
 ghost use Rattle.shifting.specs.Calls.{add_offset};
@@ -10,16 +10,14 @@ ghost use Rattle.group_answers.specs.Answers.{added_in, read_in, child_in};
 use group_answers::{put_added, put_child, put_read};
 
 // The check of an arena. Refusal: 11.
-#[unsafe(no_mangle)]
-pub extern "C" fn galthumir_check_arena(arena: &[u32; 11265]) -> u32
+pub fn galthumir_check_arena(arena: &[u32; 11265]) -> u32
     ensures { result ≡ checked arena.now }
 {
     arena::check_arena(arena)
 }
 
 // Adds a column. Refusals: 11, 3.
-#[unsafe(no_mangle)]
-pub extern "C" fn galthumir_add_column(
+pub fn galthumir_add_column(
     arena: &mut [u32; 11265],
     name: u16,
     index: u16,
@@ -32,12 +30,7 @@ pub extern "C" fn galthumir_add_column(
 }
 
 // Adds a literal. Refusals: 11, 3.
-#[unsafe(no_mangle)]
-pub extern "C" fn galthumir_add_literal(
-    arena: &mut [u32; 11265],
-    value: u32,
-    answer: &mut [u32; 1],
-) -> u32
+pub fn galthumir_add_literal(arena: &mut [u32; 11265], value: u32, answer: &mut [u32; 1]) -> u32
     ensures { ((result, answer.new), arena.new) ≡ on_first (added_in answer.old) (lent (add_literal value) arena.old) }
 {
     let added = arena::add_literal(arena, value);
@@ -45,8 +38,7 @@ pub extern "C" fn galthumir_add_literal(
 }
 
 // Adds an operation over children that are there. Refusals: 11, 1, 2, 3.
-#[unsafe(no_mangle)]
-pub extern "C" fn galthumir_add_operation(
+pub fn galthumir_add_operation(
     arena: &mut [u32; 11265],
     label: u32,
     children: &[u32],
@@ -59,16 +51,14 @@ pub extern "C" fn galthumir_add_operation(
 }
 
 // Reads a node. Refusals: 11, 1.
-#[unsafe(no_mangle)]
-pub extern "C" fn galthumir_read_node(arena: &[u32; 11265], expr: u32, answer: &mut [u32; 3]) -> u32
+pub fn galthumir_read_node(arena: &[u32; 11265], expr: u32, answer: &mut [u32; 3]) -> u32
     ensures { (result, answer.new) ≡ read_in answer.old (on_lent (Read.Refused 11) (read_node expr) arena.now) }
 {
     put_read(arena::read_node(arena, expr), answer)
 }
 
 // Reads the child of a node at a place. Refusals: 11, 1.
-#[unsafe(no_mangle)]
-pub extern "C" fn galthumir_read_child(
+pub fn galthumir_read_child(
     arena: &[u32; 11265],
     expr: u32,
     place: u32,
@@ -80,8 +70,7 @@ pub extern "C" fn galthumir_read_child(
 }
 
 // Shifts every column of an expression by an offset. Refusals: 11, 1, 10, 3.
-#[unsafe(no_mangle)]
-pub extern "C" fn galthumir_add_offset_to_expr(
+pub fn galthumir_add_offset_to_expr(
     arena: &mut [u32; 11265],
     expr: u32,
     offset: i64,

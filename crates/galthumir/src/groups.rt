@@ -1,4 +1,4 @@
-// The calls on groups, exported.
+// The calls on groups.
 ghost use Rattle.std.specs.Prelude.{◌≡◌};
 ghost use Rattle.classes.specs.Calls.{group_number, on_group, ask_group};
 ghost use Rattle.group_checks.specs.Calls.{opened, class_answer};
@@ -26,8 +26,7 @@ use group_answers::{
 use group_states::groups::{load_group, store_group};
 
 // Makes an empty group with a member limit of 1 to 256. Refusal: 12.
-#[unsafe(no_mangle)]
-pub extern "C" fn galthumir_open_group(limit: u32, made: &mut [u32; 451]) -> u32
+pub fn galthumir_open_group(limit: u32, made: &mut [u32; 451]) -> u32
     ensures { (result, made.new) ≡ stored_group made.old (opened limit) }
 {
     let opened = group_checks::open_group(wide(limit));
@@ -35,16 +34,14 @@ pub extern "C" fn galthumir_open_group(limit: u32, made: &mut [u32; 451]) -> u32
 }
 
 // The check of a group over an arena. Refusals: 12, 11, 1.
-#[unsafe(no_mangle)]
-pub extern "C" fn galthumir_check_group(arena: &[u32; 11265], group: &[u32; 451]) -> u32
+pub fn galthumir_check_group(arena: &[u32; 11265], group: &[u32; 451]) -> u32
     ensures { result ≡ group_number arena.now (group_from group.now) }
 {
     group_checks::check(arena, load_group(group))
 }
 
 // The class of an expression. Refusals: 12, 11, 1.
-#[unsafe(no_mangle)]
-pub extern "C" fn galthumir_get_equivalence_class(
+pub fn galthumir_get_equivalence_class(
     arena: &[u32; 11265],
     group: &[u32; 451],
     expr: u32,
@@ -59,8 +56,7 @@ pub extern "C" fn galthumir_get_equivalence_class(
 }
 
 // Two expressions are equal. Refusals: 12, 11, 1, 4.
-#[unsafe(no_mangle)]
-pub extern "C" fn galthumir_add_equal_conditions(
+pub fn galthumir_add_equal_conditions(
     arena: &[u32; 11265],
     group: &mut [u32; 451],
     left: u32,
@@ -74,8 +70,7 @@ pub extern "C" fn galthumir_add_equal_conditions(
 }
 
 // An expression is constant. Refusals: 12, 11, 1, 4.
-#[unsafe(no_mangle)]
-pub extern "C" fn galthumir_add_constant(
+pub fn galthumir_add_constant(
     arena: &[u32; 11265],
     group: &mut [u32; 451],
     expr: u32,
@@ -89,8 +84,7 @@ pub extern "C" fn galthumir_add_constant(
 }
 
 // Drops the constants that may differ from partition to partition. Refusals: 12, 11, 1.
-#[unsafe(no_mangle)]
-pub extern "C" fn galthumir_clear_per_partition_constants(
+pub fn galthumir_clear_per_partition_constants(
     arena: &[u32; 11265],
     group: &mut [u32; 451],
     answer: &mut [u32; 1],
@@ -102,8 +96,7 @@ pub extern "C" fn galthumir_clear_per_partition_constants(
 }
 
 // The equality question. Refusals: 12, 11, 1.
-#[unsafe(no_mangle)]
-pub extern "C" fn galthumir_exprs_equal(
+pub fn galthumir_exprs_equal(
     arena: &[u32; 11265],
     group: &[u32; 451],
     left: u32,
@@ -119,8 +112,7 @@ pub extern "C" fn galthumir_exprs_equal(
 }
 
 // The constant question. Refusals: 12, 11, 1.
-#[unsafe(no_mangle)]
-pub extern "C" fn galthumir_is_expr_constant(
+pub fn galthumir_is_expr_constant(
     arena: &[u32; 11265],
     group: &[u32; 451],
     expr: u32,
@@ -135,8 +127,7 @@ pub extern "C" fn galthumir_is_expr_constant(
 }
 
 // The normal form of an expression. Refusals: 12, 11, 1, 3.
-#[unsafe(no_mangle)]
-pub extern "C" fn galthumir_normalize_expr(
+pub fn galthumir_normalize_expr(
     arena: &mut [u32; 11265],
     group: &[u32; 451],
     expr: u32,
@@ -149,8 +140,7 @@ pub extern "C" fn galthumir_normalize_expr(
 }
 
 // The normal form of a sort key. Refusals: 12, 11, 1, 3.
-#[unsafe(no_mangle)]
-pub extern "C" fn galthumir_normalize_sort_expr(
+pub fn galthumir_normalize_sort_expr(
     arena: &mut [u32; 11265],
     group: &[u32; 451],
     expr: u32,
@@ -164,8 +154,7 @@ pub extern "C" fn galthumir_normalize_sort_expr(
 }
 
 // The normal forms of sort keys. Refusals: 12, 11, 1, 3, 5.
-#[unsafe(no_mangle)]
-pub extern "C" fn galthumir_normalize_sort_exprs(
+pub fn galthumir_normalize_sort_exprs(
     arena: &mut [u32; 11265],
     group: &[u32; 451],
     keys: &[u32],
@@ -178,12 +167,7 @@ pub extern "C" fn galthumir_normalize_sort_exprs(
 }
 
 // Makes a group from a list of classes. Refusals: 12, 11, 1, 4.
-#[unsafe(no_mangle)]
-pub extern "C" fn galthumir_new_group(
-    arena: &[u32; 11265],
-    classes: &[u32],
-    made: &mut [u32; 451],
-) -> u32
+pub fn galthumir_new_group(arena: &[u32; 11265], classes: &[u32], made: &mut [u32; 451]) -> u32
     ensures { (result, made.new) ≡ stored_group made.old (new_answer arena.now classes.now) }
 {
     let changed = merging::new(arena, classes);
@@ -191,8 +175,7 @@ pub extern "C" fn galthumir_new_group(
 }
 
 // Makes the group of a join. Refusals: 12, 11, 1, 10, 3, 4.
-#[unsafe(no_mangle)]
-pub extern "C" fn galthumir_join(
+pub fn galthumir_join(
     arena: &mut [u32; 11265],
     left: &[u32; 451],
     right: &[u32; 451],
@@ -215,8 +198,7 @@ pub extern "C" fn galthumir_join(
 }
 
 // Makes the projection of a group. Refusals: 12, 11, 1, 3, 4.
-#[unsafe(no_mangle)]
-pub extern "C" fn galthumir_project(
+pub fn galthumir_project(
     arena: &mut [u32; 11265],
     group: &[u32; 451],
     mapping: &[u32],
@@ -229,8 +211,7 @@ pub extern "C" fn galthumir_project(
 }
 
 // The projection of an expression. Refusals: 12, 11, 1, 3.
-#[unsafe(no_mangle)]
-pub extern "C" fn galthumir_project_expr(
+pub fn galthumir_project_expr(
     arena: &mut [u32; 11265],
     group: &[u32; 451],
     mapping: &[u32],
@@ -244,8 +225,7 @@ pub extern "C" fn galthumir_project_expr(
 }
 
 // The projections of some expressions. Refusals: 12, 11, 1, 3, 8.
-#[unsafe(no_mangle)]
-pub extern "C" fn galthumir_project_expressions(
+pub fn galthumir_project_expressions(
     arena: &mut [u32; 11265],
     group: &[u32; 451],
     mapping: &[u32],

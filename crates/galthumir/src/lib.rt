@@ -1,10 +1,12 @@
-// The library that an engine links: every call of document 01 as an exported function, on numbers, slices and references to
-// arrays alone. include/galthumir.h is what it looks like from C.
+// The library that an engine links: every call of document 01 as one function, on numbers, slices and references to arrays
+// alone. The crate galthumir_c exports each of them under its name, and include/galthumir.h is what they look like from C.
 //
 // A state crosses as the caller's own array of numbers (the crate states says how it lies there). Each function returns 0,
 // or the number of the refusal, and a refusal leaves every array as it was. What the call answers is written into the array
 // `answer`, a state that it makes into `made`, all of it and only where the call is done. Each function calls the function
 // of the same name of the crates below once, which checks what it is lent once.
+#![tactic(auto)]
+
 pub mod expressions;
 pub mod groups;
 pub mod maps;

@@ -1,4 +1,4 @@
-// The calls on dependency maps, exported.
+// The calls on dependency maps.
 ghost use Rattle.std.specs.Prelude.{◌≡◌};
 ghost use Rattle.dependencies.specs.Calls.{map_number, insert_answer};
 ghost use Rattle.dependency_orderings.specs.Calls.{prefix_answer, generate_answer};
@@ -9,16 +9,14 @@ use answers::{given_from, put_enumerated};
 use states::maps::{load_map, store_map};
 
 // The check of a dependency map over an arena. Refusals: 11, 1.
-#[unsafe(no_mangle)]
-pub extern "C" fn galthumir_check_map(arena: &[u32; 11265], map: &[u16; 1217]) -> u32
+pub fn galthumir_check_map(arena: &[u32; 11265], map: &[u16; 1217]) -> u32
     ensures { result ≡ map_number arena.now (map_from map.now) }
 {
     dependencies::check(arena, load_map(map))
 }
 
 // Inserts a key with its target and a dependency, each of which may be none. Refusals: 12, 11, 1, 5.
-#[unsafe(no_mangle)]
-pub extern "C" fn galthumir_insert(
+pub fn galthumir_insert(
     arena: &[u32; 11265],
     map: &mut [u16; 1217],
     expr: u32,
@@ -42,8 +40,7 @@ pub extern "C" fn galthumir_insert(
 }
 
 // Enumerates the prefix orderings of a key. Refusals: 12, 11, 1, 6, 7, 5, 8.
-#[unsafe(no_mangle)]
-pub extern "C" fn galthumir_construct_prefix_orderings(
+pub fn galthumir_construct_prefix_orderings(
     arena: &[u32; 11265],
     map: &[u16; 1217],
     expr: u32,
@@ -64,8 +61,7 @@ pub extern "C" fn galthumir_construct_prefix_orderings(
 }
 
 // Enumerates the orderings of some keys. Refusals: 12, 11, 1, 6, 7, 5, 8.
-#[unsafe(no_mangle)]
-pub extern "C" fn galthumir_generate_dependency_orderings(
+pub fn galthumir_generate_dependency_orderings(
     arena: &[u32; 11265],
     map: &[u16; 1217],
     keys: &[u32],

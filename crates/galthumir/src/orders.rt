@@ -1,4 +1,4 @@
-// The calls on lists of orderings, exported.
+// The calls on lists of orderings.
 ghost use Rattle.std.specs.Prelude.{◌≡◌};
 ghost use Rattle.arena.specs.Layout.{count};
 ghost use Rattle.orderings.specs.Calls.{list_number, ask_list, clear_answer};
@@ -14,20 +14,14 @@ use answers::{put_options, put_output, put_partial};
 use states::orders::{load_orderings, store_orderings};
 
 // The check of a list of orderings over an arena. Refusals: 11, 1.
-#[unsafe(no_mangle)]
-pub extern "C" fn galthumir_check_orderings(arena: &[u32; 11265], orderings: &[u16; 545]) -> u32
+pub fn galthumir_check_orderings(arena: &[u32; 11265], orderings: &[u16; 545]) -> u32
     ensures { result ≡ list_number arena.now (orderings_from orderings.now) }
 {
     orderings::check(arena, load_orderings(orderings))
 }
 
 // Makes a reduced list of orderings that are built from lists of keys. Refusals: 12, 11, 1, 5.
-#[unsafe(no_mangle)]
-pub extern "C" fn galthumir_new_orderings(
-    arena: &[u32; 11265],
-    numbers: &[u16],
-    made: &mut [u16; 545],
-) -> u32
+pub fn galthumir_new_orderings(arena: &[u32; 11265], numbers: &[u16], made: &mut [u16; 545]) -> u32
     ensures { (result, made.new) ≡ stored_list made.old (new_answer arena.now numbers.now) }
 {
     let listed = reduction::new(arena, numbers);
@@ -35,8 +29,7 @@ pub extern "C" fn galthumir_new_orderings(
 }
 
 // Adds orderings that are built from lists of keys, and reduces. Refusals: 12, 11, 1, 5.
-#[unsafe(no_mangle)]
-pub extern "C" fn galthumir_add_orderings(
+pub fn galthumir_add_orderings(
     arena: &[u32; 11265],
     orderings: &mut [u16; 545],
     numbers: &[u16],
@@ -48,8 +41,7 @@ pub extern "C" fn galthumir_add_orderings(
 }
 
 // Extends the list by orderings, and reduces. Refusals: 12, 11, 1, 5.
-#[unsafe(no_mangle)]
-pub extern "C" fn galthumir_extend_orderings(
+pub fn galthumir_extend_orderings(
     arena: &[u32; 11265],
     orderings: &mut [u16; 545],
     numbers: &[u16],
@@ -61,8 +53,7 @@ pub extern "C" fn galthumir_extend_orderings(
 }
 
 // Empties a list of orderings. Refusals: 11, 1.
-#[unsafe(no_mangle)]
-pub extern "C" fn galthumir_clear_orderings(arena: &[u32; 11265], orderings: &mut [u16; 545]) -> u32
+pub fn galthumir_clear_orderings(arena: &[u32; 11265], orderings: &mut [u16; 545]) -> u32
     ensures { (result, orderings.new) ≡ stored_list orderings.old (clear_answer arena.now (orderings_from orderings.old)) }
 {
     let listed = orderings::clear(arena, load_orderings(orderings));
@@ -70,8 +61,7 @@ pub extern "C" fn galthumir_clear_orderings(arena: &[u32; 11265], orderings: &mu
 }
 
 // The options of the first ordering that an expression leads. Refusals: 11, 1.
-#[unsafe(no_mangle)]
-pub extern "C" fn galthumir_get_options(
+pub fn galthumir_get_options(
     arena: &[u32; 11265],
     orderings: &[u16; 545],
     expr: u32,
@@ -86,8 +76,7 @@ pub extern "C" fn galthumir_get_options(
 }
 
 // Whether an expression leads orderings with opposite options. Refusals: 11, 1.
-#[unsafe(no_mangle)]
-pub extern "C" fn galthumir_is_expr_partial_const(
+pub fn galthumir_is_expr_partial_const(
     arena: &[u32; 11265],
     orderings: &[u16; 545],
     expr: u32,
@@ -102,8 +91,7 @@ pub extern "C" fn galthumir_is_expr_partial_const(
 }
 
 // The joined ordering of all orderings. Refusals: 11, 1, 5.
-#[unsafe(no_mangle)]
-pub extern "C" fn galthumir_output_ordering(
+pub fn galthumir_output_ordering(
     arena: &[u32; 11265],
     orderings: &[u16; 545],
     answer: &mut [u16; 17],
@@ -117,8 +105,7 @@ pub extern "C" fn galthumir_output_ordering(
 }
 
 // Makes the list in which each ordering is extended by each of another list. Refusals: 11, 1, 5.
-#[unsafe(no_mangle)]
-pub extern "C" fn galthumir_join_suffix(
+pub fn galthumir_join_suffix(
     arena: &[u32; 11265],
     orderings: &[u16; 545],
     other: &[u16; 545],
@@ -135,8 +122,7 @@ pub extern "C" fn galthumir_join_suffix(
 }
 
 // Moves the columns of every key. Refusals: 11, 1, 10, 3.
-#[unsafe(no_mangle)]
-pub extern "C" fn galthumir_add_offset(
+pub fn galthumir_add_offset(
     arena: &mut [u32; 11265],
     orderings: &mut [u16; 545],
     offset: i64,

@@ -1,4 +1,4 @@
-// The calls on records, and the session, exported.
+// The calls on records, and the session.
 ghost use Rattle.std.specs.Prelude.{◌≡◌};
 ghost use Rattle.records.specs.Record.{read_record, item_of};
 ghost use Rattle.group_records.specs.GroupRecord.{group_read};
@@ -12,20 +12,14 @@ use group_states::groups::store_group;
 use states::numbers::short;
 
 // Reads the record at the start of some bytes. Refusal: 9.
-#[unsafe(no_mangle)]
-pub extern "C" fn galthumir_read_record(bytes: &[u8], answer: &mut [usize; 4]) -> u32
+pub fn galthumir_read_record(bytes: &[u8], answer: &mut [usize; 4]) -> u32
     ensures { (result, answer.new) ≡ item_in answer.old (item_of (read_record bytes.now)) }
 {
     put_record(records::read_record(bytes), answer)
 }
 
 // Makes a group from a record of kind 16. Refusals: 9, 12, 11, 1, 4.
-#[unsafe(no_mangle)]
-pub extern "C" fn galthumir_read_group(
-    arena: &[u32; 11265],
-    bytes: &[u8],
-    made: &mut [u32; 451],
-) -> u32
+pub fn galthumir_read_group(arena: &[u32; 11265], bytes: &[u8], made: &mut [u32; 451]) -> u32
     ensures { (result, made.new) ≡ stored_group made.old (group_read arena.now bytes.now) }
 {
     let changed = group_records::read_group(arena, bytes);
@@ -40,8 +34,7 @@ fn side_of(kind: u32) -> usize
 }
 
 // Of two group records the one that a join of kind 4 to 9 keeps. Refusals: 12, 9.
-#[unsafe(no_mangle)]
-pub extern "C" fn galthumir_chosen<'a>(
+pub fn galthumir_chosen<'a>(
     kind: u32,
     left: &'a [u8],
     right: &'a [u8],
@@ -63,8 +56,7 @@ pub extern "C" fn galthumir_chosen<'a>(
 }
 
 // Runs a session. Refusal: 8.
-#[unsafe(no_mangle)]
-pub extern "C" fn galthumir_session(input: &[u8], output: &mut [u8], answer: &mut [usize; 1]) -> u32
+pub fn galthumir_session(input: &[u8], output: &mut [u8], answer: &mut [usize; 1]) -> u32
     ensures { ((result, answer.new), output.new) ≡ on_first (written_in answer.old) (session input.now output.old) }
 {
     let written = transcript::session(input, output);

@@ -1,50 +1,25 @@
 // The session program: reads records from standard input, or from the file that its argument names, and writes the
 // lines of the session. All that matters is in `transcript::session`; this only reads and writes. What can't be read or
 // written is said on standard error, and then no line of a session is made up.
-use libc::{STDIN_FILENO, STDOUT_FILENO};
+#![tactic(auto)]
+
+use std::env::{Env, FillError};
+use std::fs::{File, Files};
+use std::io::Read;
+use std::{io, str};
 use transcript::{Written, session};
 
-// What reading comes to: how many bytes there were, or that a read failed.
-#[derive(Drop)]
-enum Got {
-    Bytes(usize),
-    Failed,
-}
-
-// Opens the file that the argument names; standard input where there is none. A negative number where it can't be
-// opened, and then it is said why.
-fn open_input() -> i32 {
-    if os::arg_count() < 2 {
-        return STDIN_FILENO;
-    }
-    let mut path = io::buffer();
-    let length = os::arg(1, &mut path);
-    if os::errno() != 0 {
-        os::fail(&[b'p', b'a', b't', b'h']);
-        return -1;
-    }
-    let fd = os::open_read(&path[..length]);
-    if fd < 0 {
-        os::fail(&path[..length]);
-    }
-    fd
-}
-
-// Reads until the bytes are full or the input ends.
-fn read_input(fd: i32, bytes: &mut [u8]) -> Got {
+// Reads until the bytes are full or the input ends, and answers how many bytes there were.
+fn read_input<R: Read>(from: &mut R, bytes: &mut [u8]) -> io::Result<usize> {
     let mut done = 0;
     while done < bytes.len() {
-        let got = libc::read(fd, &mut bytes[done..]);
-        if got < 0 {
-            return Got::Failed;
-        }
-        let n = io::count(got, &bytes[done..]);
+        let n = from.read(&mut bytes[done..])?;
         if n == 0 {
-            return Got::Bytes(done);
+            return Ok(done);
         }
         done += n;
     }
-    Got::Bytes(done)
+    Ok(done)
 }
 
 // The first n bytes; all of them where there are fewer.
@@ -56,11 +31,11 @@ fn first(bytes: &[u8], n: usize) -> &[u8] {
 }
 
 // Writes the text that the session has put at the start of the output.
-fn print(written: Written, output: &[u8]) {
+fn print(rt: &(impl Print + Eprint), written: Written, output: &[u8]) {
     match written {
         Written::Bytes(n) => {
-            if !io::write_all(STDOUT_FILENO, first(output, n)) {
-                os::fail(&[b'o', b'u', b't', b'p', b'u', b't']);
+            if let Err(error) = rt.write_all(first(output, n)) {
+                let _ = eprintln!(rt; "output: {error}");
             }
         }
         Written::Refused(_) => {}
@@ -68,21 +43,46 @@ fn print(written: Written, output: &[u8]) {
 }
 
 // Runs the session of some bytes.
-fn run(input: &[u8]) {
+fn run(rt: &(impl Print + Eprint), input: &[u8]) {
     let mut output = [0u8; transcript::ENOUGH];
-    print(session(input, &mut output), &output);
+    print(rt, session(input, &mut output), &output);
 }
 
-// One byte more than a session may have is read, so that input over the bound is seen; the output is what always
-// suffices.
-fn main() {
-    let fd = open_input();
-    if fd < 0 {
-        return;
-    }
+// Runs the session of what can be read from a stream. One byte more than a session may have is read, so that input over
+// the bound is seen; the output is what always suffices.
+fn run_from<R: Read>(rt: &(impl Print + Eprint), from: &mut R) {
     let mut input = [0u8; 65537];
-    match read_input(fd, &mut input) {
-        Got::Bytes(n) => run(first(&input, n)),
-        Got::Failed => os::fail(&[b'i', b'n', b'p', b'u', b't']),
+    match read_input(from, &mut input) {
+        Ok(n) => run(rt, first(&input, n)),
+        Err(error) => {
+            let _ = eprintln!(rt; "input: {error}");
+        }
+    }
+}
+
+// Runs the session of a file.
+fn run_file(rt: &(impl Files + Print + Eprint), path: &str) {
+    match File::open(rt, path) {
+        Ok(mut file) => run_from(rt, &mut file),
+        Err(error) => {
+            let _ = eprintln!(rt; "{path}: {error}");
+        }
+    }
+}
+
+// The file that the argument names; standard input where there is none.
+fn main(rt: HostRuntime) {
+    let mut path = [0u8; 4096];
+    match rt.arg(1, &mut path) {
+        Ok(length) => match str::from_utf8(first(&path, length)) {
+            Ok(text) => run_file(&rt, text),
+            Err(error) => {
+                let _ = eprintln!(rt; "path: {error}");
+            }
+        },
+        Err(FillError::TooLong) => {
+            let _ = eprintln!(rt; "path: File name too long");
+        }
+        Err(FillError::NotPresent) => run_from(&rt, &mut rt.stdin()),
     }
 }

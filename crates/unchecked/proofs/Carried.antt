@@ -1,4 +1,5 @@
 -- What an inner function asks and answers, carried from the struct that was read to the cells and back.
+use Rattle.std.specs.Prelude.{if◌then◌else◌}
 use Prim.Native.Nat.{ℕ, ◌≤◌}
 use mathlib.Core.Bool.{Bool, true, false}
 use mathlib.Core.List.{List}
@@ -7,7 +8,6 @@ use native.Mathlib.Omega.{arith}
 use borrow.Author.Tests.{leb-true}
 use lib.Dec.{leb}
 use lib.ListN.{length}
-use Rattle.laws.specs.Tests.{if◌then◌else◌}
 use Rattle.laws.proofs.Booleans.{and_left, and_right}
 use Rattle.classes.specs.Class.{Class}
 use Rattle.classes.specs.Group.{total}

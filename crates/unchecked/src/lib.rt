@@ -1,6 +1,8 @@
-// Inner functions, exported for the benchmark alone: the same work as the library's calls of the same name, without the check
-// of what is lent. What the check would find is asked of the caller instead, in `requires`, so an engine links the crate
-// galthumir and not this one.
+// Inner functions, for the benchmark alone: the same work as the library's calls of the same name, without the check of what
+// is lent. What the check would find is asked of the caller instead, in `requires`, so an engine links the crate galthumir and
+// not this one. The crate unchecked_c exports them.
+#![tactic(auto)]
+
 ghost use Rattle.std.specs.Prelude.{true, ◌++◌, ◌≡◌, length};
 ghost use Rattle.arena.specs.Arena.{add_expression};
 ghost use Rattle.arena.specs.Calls.{in_cells, answered};
@@ -49,8 +51,7 @@ use states::maps::load_map;
 use states::orders::{load_orderings, store_orderings};
 
 // Two expressions are equal.
-#[unsafe(no_mangle)]
-pub extern "C" fn unchecked_add_equal_conditions(
+pub fn unchecked_add_equal_conditions(
     arena: &[u32; 11265],
     group: &mut [u32; 451],
     left: u32,
@@ -64,13 +65,7 @@ pub extern "C" fn unchecked_add_equal_conditions(
 }
 
 // The equality question: 1 for yes, 0 for no.
-#[unsafe(no_mangle)]
-pub extern "C" fn unchecked_exprs_equal(
-    arena: &[u32; 11265],
-    group: &[u32; 451],
-    left: u32,
-    right: u32,
-) -> u32
+pub fn unchecked_exprs_equal(arena: &[u32; 11265], group: &[u32; 451], left: u32, right: u32) -> u32
     requires { (Known arena.now left × Known arena.now right) × Coded (group_from group.now) }
     ensures { result ≡ bit (exprs_equal (nodes arena.now) (decode (group_from group.now)) left right) }
 {
@@ -82,8 +77,7 @@ pub extern "C" fn unchecked_exprs_equal(
 }
 
 // The normal form of an expression.
-#[unsafe(no_mangle)]
-pub extern "C" fn unchecked_normalize_expr(
+pub fn unchecked_normalize_expr(
     arena: &mut [u32; 11265],
     group: &[u32; 451],
     expr: u32,
@@ -97,8 +91,7 @@ pub extern "C" fn unchecked_normalize_expr(
 }
 
 // Makes a group from a list of classes.
-#[unsafe(no_mangle)]
-pub extern "C" fn unchecked_new_group(classes: &[u32], made: &mut [u32; 451]) -> u32
+pub fn unchecked_new_group(classes: &[u32], made: &mut [u32; 451]) -> u32
     requires { (flavours_known classes.now ≡ true) × ((whole classes.now ≡ true) × (fits 256 (classes_lent classes.now) ≡ true)) }
     ensures { (result, made.new) ≡ stored_group made.old (made_group (from_classes (classes_lent classes.now))) }
 {
@@ -107,8 +100,7 @@ pub extern "C" fn unchecked_new_group(classes: &[u32], made: &mut [u32; 451]) ->
 }
 
 // Adds orderings that are built from lists of keys, and reduces.
-#[unsafe(no_mangle)]
-pub extern "C" fn unchecked_add_orderings(orderings: &mut [u16; 545], numbers: &[u16]) -> u32
+pub fn unchecked_add_orderings(orderings: &mut [u16; 545], numbers: &[u16]) -> u32
     requires { HeldList (orderings_from orderings.old) × LentFit numbers.now }
     ensures { (result, orderings.new) ≡ stored_list orderings.old (reduced_list (orderings_from orderings.old) (orderings_of (orderings_from orderings.old) ++ built_all (lists_lent numbers.now))) }
 {
@@ -117,8 +109,7 @@ pub extern "C" fn unchecked_add_orderings(orderings: &mut [u16; 545], numbers: &
 }
 
 // Enumerates the orderings of some keys.
-#[unsafe(no_mangle)]
-pub extern "C" fn unchecked_generate_dependency_orderings(
+pub fn unchecked_generate_dependency_orderings(
     map: &[u16; 1217],
     keys: &[u32],
     output: &mut [u16],

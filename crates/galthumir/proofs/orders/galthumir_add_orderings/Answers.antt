@@ -1,0 +1,11 @@
+-- `galthumir::orders::galthumir_add_orderings` meets its contract.
+use mathlib.Core.Path.{sym, subst}
+use Rattle.states.specs.Inner.{ListFitsIfDone}
+use Rattle.state_laws.proofs.ListFit.{add-fits}
+use Rattle.galthumir.proofs.orders.galthumir_add_orderings.Goals as goal
+
+pub store_orderings-requires : goal.store_orderings-requires
+store_orderings-requires c = subst ListFitsIfDone (sym c.add_orderings-listed.ensures) (add-fits _ _ _)
+
+pub returns : goal.returns
+returns c = rw (c.add_orderings-listed.ensures, c.load_orderings.ensures) at c.store_orderings.ensures
