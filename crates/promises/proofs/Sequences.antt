@@ -1,10 +1,10 @@
 -- A sequence of calls comes to what the definitions say of the list of classes.
+use Rattle.std.specs.Prelude.{if◌then◌else◌}
 use Prim.Native.Nat.{ℕ}
 use mathlib.Core.Bool.{false}
 use mathlib.Core.List.{List, [], ◌∷◌, ◌++◌, map}
 use mathlib.Core.Path.{◌≡◌, refl, ap, ap₂, ◌∙◌}
 use lib.Dec.{eqb}
-use Rattle.laws.specs.Tests.{if◌then◌else◌}
 use Rattle.arena.specs.Layout.{decode as nodes}
 use Rattle.classes.specs.Class.{Class}
 use Rattle.classes.specs.Layout.{encode, decode}
