@@ -30,7 +30,7 @@ fn library_folder() -> PathBuf {
 fn stop_without(archive: &Path) -> ! {
     eprintln!("There is no {}.", archive.display());
     eprintln!(
-        "`rt staticlib galthumir`, from the root of the repository, makes it in target/staticlib (for x86-64)."
+        "`tools/staticlib galthumir`, from the root of the repository, makes it in target/staticlib (for x86-64)."
     );
     eprintln!("Where it stands in another folder, set {FOLDER_VARIABLE} to that folder, as an absolute path.");
     process::exit(1);

@@ -1,7 +1,6 @@
 """The two sides: the Rust's driver as one process for many inputs, and our program, one run an input."""
 
 import os
-import platform
 import shutil
 import struct
 import subprocess
@@ -15,7 +14,7 @@ ROOT = HERE.parent
 RUST_PROGRAMS = ROOT / "target/compare/release"
 # Our programs, and what makes them.
 OUR_PROGRAMS = {
-    "session": (ROOT / "target/bin/session", "rt check session"),
+    "session": (ROOT / "crates/session/out/session", "rt run, in crates/session,"),
     "calls": (ROOT / "target/calls/calls", "tests/calls/build"),
     "direct": (ROOT / "target/calls/direct", "tests/calls/build"),
 }
@@ -60,7 +59,7 @@ def toolchain():
     if not home:
         rt = shutil.which("rt") or stop("There is no rt: set RATTLE_HOME to the kit's folder.")
         home = Path(rt).resolve().parent.parent
-    return Path(home) / "on" / platform.machine() / "toolchain"
+    return Path(home) / "toolchain"
 
 
 def our_command(program):
@@ -71,11 +70,9 @@ def our_command(program):
         return [other]
     ours, maker = OUR_PROGRAMS[program]
     if not ours.is_file():
-        stop(f"There is no {ours.relative_to(ROOT)}: `{maker}` makes it.")
-    tools = toolchain()
-    emulator = tools / "bin/qemu-x86_64"
-    loader = [tools / "lib/ld-linux-x86-64.so.2", "--library-path", tools / "lib"]
-    return ([emulator] if emulator.exists() else []) + loader + [ours]
+        stop(f"There is no {ours.relative_to(ROOT)}: {maker} makes it.")
+    libraries = toolchain() / "lib"
+    return [libraries / "ld-linux-x86-64.so.2", "--library-path", libraries, ours]
 
 
 class OurSide:

@@ -1,4 +1,4 @@
-//! The library's inner functions, without the check of what is lent, as the crate `unchecked` exports them. What the check
+//! The library's inner functions, without the check of what is lent, as the crate `unchecked_c` exports them. What the check
 //! would find is asked of the caller: the benchmark lends only what the exported functions accept.
 
 use crate::library::{ArenaCells, GroupCells, MapCells, OrderingsCells};
