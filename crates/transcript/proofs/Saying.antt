@@ -1,12 +1,16 @@
 -- What is printed for what is said, and what a malformed record is.
-use Prim.Native.Nat.{ℕ}
+use Prim.Native.Nat.{ℕ, ◌<◌}
 use mathlib.Core.Bool.{Bool, true, false}
 use mathlib.Core.List.{List, [], ◌∷◌, ◌++◌}
+use mathlib.Core.Logic.{⊎_elim}
 use mathlib.Core.Path.{◌≡◌, refl, subst}
 use native.Mathlib.Omega.{arith}
+use denote.Enum.Declared.{tag_of}
+use types.Run.{OneOf}
 use Rattle.lines.specs.Text.{spaced, line}
 use Rattle.lines.specs.Writing.{RoomFor}
 use Rattle.lines.proofs.Puts.{put-fits}
+use Rattle.records.specs.contracts.Item.{the_type}
 use Rattle.records.specs.declared.Item.{Item}
 use Rattle.records.specs.declared.Item.TheVariants.{Column, Literal, Operation, EqualPair, Constant, NormalFormOf, EqualityOf, OneOrdering, Malformed}
 use Rattle.session_steps.specs.State.{Reply, quiet, normal_form, equality, refusal}
@@ -47,7 +51,12 @@ module _ (k : ℕ) (said : Said) where
   said-refused number x q p = rw (q, p)
 
 -- an item of another kind is not malformed
-pub another_kind : (i : Item) → (i ≡ Malformed → ⊥) → false ≡ is_malformed i
+below_eight : (x : ℕ) → OneOf (0 ∷ 1 ∷ 2 ∷ 3 ∷ 4 ∷ 5 ∷ 6 ∷ 7 ∷ []) x → x < 8
+below_eight x w =
+    ⊎_elim (λ e. omega arith) (⊎_elim (λ e. omega arith) (⊎_elim (λ e. omega arith) (⊎_elim (λ e. omega arith)
+    (⊎_elim (λ e. omega arith) (⊎_elim (λ e. omega arith) (⊎_elim (λ e. omega arith) (λ e. omega arith))))))) w
+
+pub another_kind : (i : Item) → OneOf (0 ∷ 1 ∷ 2 ∷ 3 ∷ 4 ∷ 5 ∷ 6 ∷ 7 ∷ []) (tag_of the_type i) → false ≡ is_malformed i
 unfolding is_malformed
 another_kind (Column name index) w = refl
 another_kind (Literal value) w = refl
@@ -57,7 +66,20 @@ another_kind (Constant e flavour value) w = refl
 another_kind (NormalFormOf e) w = refl
 another_kind (EqualityOf a b) w = refl
 another_kind (OneOrdering n) w = refl
-another_kind Malformed w = absurd (w refl)
+another_kind Malformed w = absurd (let l = below_eight 8 w in omega arith)
+
+-- nor is an item that is not Malformed
+pub not_malformed : (i : Item) → (i ≡ Malformed → ⊥) → false ≡ is_malformed i
+unfolding is_malformed
+not_malformed (Column name index) w = refl
+not_malformed (Literal value) w = refl
+not_malformed (Operation label n) w = refl
+not_malformed (EqualPair a b) w = refl
+not_malformed (Constant e flavour value) w = refl
+not_malformed (NormalFormOf e) w = refl
+not_malformed (EqualityOf a b) w = refl
+not_malformed (OneOrdering n) w = refl
+not_malformed Malformed w = absurd (w refl)
 
 pub the_malformed : (i : Item) → i ≡ Malformed → true ≡ is_malformed i
 unfolding is_malformed

@@ -1,5 +1,5 @@
 -- `transcript::is_malformed` meets its contract.
-use Rattle.transcript.proofs.Saying.{the_malformed, another_kind}
+use Rattle.transcript.proofs.Saying.{the_malformed, not_malformed}
 use Rattle.transcript.proofs.is_malformed.Goals as goal
 
 pub returns-in-Malformed : goal.returns-in-Malformed
@@ -8,4 +8,4 @@ returns-in-Malformed c =
 
 pub returns-in_default : goal.returns-in_default
 returns-in_default c =
-    another_kind c.args.item c.in_default.not-Malformed
+    not_malformed c.args.item c.in_default.not-Malformed
