@@ -11,8 +11,7 @@ use Rattle.group_projection.proofs.listing.source_classes.Goals as goal
 
 pub loop-i-init : goal.loop-i-init
 loop-i-init c =
-    let s = c in
-    (refl, omega arith, forms-begin (nodes s.args.cells.now) s.args.list s.args.m (take s.args.m.count s.args.numbers) s.requires.0)
+    (refl, omega arith, forms-begin (nodes c.args.cells.now) c.args.list c.args.m (take c.args.m.count c.args.numbers) c.requires.0)
 
 pub add_source_class-step-requires : goal.add_source_class-step-requires
 add_source_class-step-requires c =

@@ -29,7 +29,7 @@ returns-then-not-shift_rights c =
     let b = c.shift_rights in
     subst (Joined c.args.lift c.args.cells.now b.new.cells c.args.left c.args.right c.args.pairs.now) (sym (refusal_is c.refusal-then-not-shift_rights.result 3 c.args.left c.refusal-then-not-shift_rights.ensures))
     (rights-full c.args.lift c.args.cells.now c.args.left c.args.right c.args.pairs.now c.requires a.new.cells a.new.memo a.result.fits (take c.args.right.used a.result.members) a.ensures (not-false a.result.fits c.if-not-shifted.false)
-    b.new.cells b.new.memo b.result b.ensures.0 b.ensures.1 (not-true b.result c.if-not-shift_rights.true-raw))
+    b.new.cells b.new.memo b.result b.ensures.0 b.ensures.1 c.if-not-shift_rights.true)
 
 pub overflow_add-left : goal.overflow_add-left
 overflow_add-left c =
@@ -43,7 +43,7 @@ returns-then-left-right-gt64 c =
     let b = c.shift_rights in
     subst (Joined c.args.lift c.args.cells.now b.new.cells c.args.left c.args.right c.args.pairs.now) (sym (refusal_is c.refusal-then-left-right-gt64.result 4 c.args.left c.refusal-then-left-right-gt64.ensures))
     (classes-over c.args.lift c.args.cells.now c.args.left c.args.right c.args.pairs.now c.requires a.new.cells a.new.memo a.result.fits (take c.args.right.used a.result.members) a.ensures (not-false a.result.fits c.if-not-shifted.false)
-    b.new.cells b.new.memo b.result b.ensures.0 b.ensures.1 (not-false b.result c.if-not-shift_rights.false-raw) c.if-left-right-gt64.true)
+    b.new.cells b.new.memo b.result b.ensures.0 b.ensures.1 c.if-not-shift_rights.false c.if-left-right-gt64.true)
 
 pub overflow_add-left-2 : goal.overflow_add-left-2
 overflow_add-left-2 c =
@@ -57,35 +57,35 @@ returns-then-left-right-gt256 c =
     let b = c.shift_rights in
     subst (Joined c.args.lift c.args.cells.now b.new.cells c.args.left c.args.right c.args.pairs.now) (sym (refusal_is c.refusal-then-left-right-gt256.result 4 c.args.left c.refusal-then-left-right-gt256.ensures))
     (members-over c.args.lift c.args.cells.now c.args.left c.args.right c.args.pairs.now c.requires a.new.cells a.new.memo a.result.fits (take c.args.right.used a.result.members) a.ensures (not-false a.result.fits c.if-not-shifted.false)
-    b.new.cells b.new.memo b.result b.ensures.0 b.ensures.1 (not-false b.result c.if-not-shift_rights.false-raw) c.if-left-right-gt256.true)
+    b.new.cells b.new.memo b.result b.ensures.0 b.ensures.1 c.if-not-shift_rights.false c.if-left-right-gt256.true)
 
 pub add_shifted-list-requires : goal.add_shifted-list-requires
 add_shifted-list-requires c =
     let a = c.shift_members-shifted in
     let b = c.shift_rights in
     list-asks c.args.lift c.args.cells.now c.args.left c.args.right c.args.pairs.now c.requires a.new.cells a.new.memo a.result.fits (take c.args.right.used a.result.members) a.ensures (not-false a.result.fits c.if-not-shifted.false)
-    b.new.cells b.new.memo b.result b.ensures.0 b.ensures.1 (not-false b.result c.if-not-shift_rights.false-raw) (omega arith) c.if-left-right-gt256.false
+    b.new.cells b.new.memo b.result b.ensures.0 b.ensures.1 c.if-not-shift_rights.false (omega arith) c.if-left-right-gt256.false
 
 pub made-all-requires : goal.made-all-requires
 made-all-requires c =
     let a = c.shift_members-shifted in
     let b = c.shift_rights in
     list-coded c.args.lift c.args.cells.now c.args.left c.args.right c.args.pairs.now c.requires a.new.cells a.new.memo a.result.fits (take c.args.right.used a.result.members) a.ensures (not-false a.result.fits c.if-not-shifted.false)
-    b.new.cells b.new.memo b.result b.ensures.0 b.ensures.1 (not-false b.result c.if-not-shift_rights.false-raw) (omega arith) c.if-left-right-gt256.false c.add_shifted-list.result c.add_shifted-list.ensures
+    b.new.cells b.new.memo b.result b.ensures.0 b.ensures.1 c.if-not-shift_rights.false (omega arith) c.if-left-right-gt256.false c.add_shifted-list.result c.add_shifted-list.ensures
 
 pub from_classes-requires : goal.from_classes-requires
 from_classes-requires c =
     let a = c.shift_members-shifted in
     let b = c.shift_rights in
     all_coded c.args.lift c.args.cells.now c.args.left c.args.right c.args.pairs.now c.requires a.new.cells a.new.memo a.result.fits (take c.args.right.used a.result.members) a.ensures (not-false a.result.fits c.if-not-shifted.false)
-    b.new.cells b.new.memo b.result b.ensures.0 b.ensures.1 (not-false b.result c.if-not-shift_rights.false-raw) (omega arith) c.if-left-right-gt256.false c.add_shifted-list.result c.add_shifted-list.ensures c.made-all.result c.made-all.ensures
+    b.new.cells b.new.memo b.result b.ensures.0 b.ensures.1 c.if-not-shift_rights.false (omega arith) c.if-left-right-gt256.false c.add_shifted-list.result c.add_shifted-list.ensures c.made-all.result c.made-all.ensures
 
 pub equate_pairs-requires : goal.equate_pairs-requires
 equate_pairs-requires c =
     let a = c.shift_members-shifted in
     let b = c.shift_rights in
     pairs_ask c.args.lift c.args.cells.now c.args.left c.args.right c.args.pairs.now c.requires a.new.cells a.new.memo a.result.fits (take c.args.right.used a.result.members) a.ensures (not-false a.result.fits c.if-not-shifted.false)
-    b.new.cells b.new.memo b.result b.ensures.0 b.ensures.1 (not-false b.result c.if-not-shift_rights.false-raw) (omega arith) c.if-left-right-gt256.false c.add_shifted-list.result c.add_shifted-list.ensures c.made-all.result c.made-all.ensures c.from_classes.result c.from_classes.ensures
+    b.new.cells b.new.memo b.result b.ensures.0 b.ensures.1 c.if-not-shift_rights.false (omega arith) c.if-left-right-gt256.false c.add_shifted-list.result c.add_shifted-list.ensures c.made-all.result c.made-all.ensures c.from_classes.result c.from_classes.ensures
 
 pub returns : goal.returns
 returns c =
@@ -93,5 +93,5 @@ returns c =
     let b = c.shift_rights in
     let e = c.equate_pairs in
     join-done c.args.lift c.args.cells.now c.args.left c.args.right c.args.pairs.now c.requires a.new.cells a.new.memo a.result.fits (take c.args.right.used a.result.members) a.ensures (not-false a.result.fits c.if-not-shifted.false)
-    b.new.cells b.new.memo b.result b.ensures.0 b.ensures.1 (not-false b.result c.if-not-shift_rights.false-raw) (omega arith) c.if-left-right-gt256.false c.add_shifted-list.result c.add_shifted-list.ensures c.made-all.result c.made-all.ensures c.from_classes.result c.from_classes.ensures
+    b.new.cells b.new.memo b.result b.ensures.0 b.ensures.1 c.if-not-shift_rights.false (omega arith) c.if-left-right-gt256.false c.add_shifted-list.result c.add_shifted-list.ensures c.made-all.result c.made-all.ensures c.from_classes.result c.from_classes.ensures
     e.new.cells e.ensures.0 e.result e.ensures.1

@@ -1,6 +1,5 @@
 -- `joins::joining::join_shifted` meets its contract.
 use mathlib.Core.Path.{◌≡◌, sym, ap, ◌∙◌}
-use borrow.Author.Tests.{not-true, not-false}
 use native.Mathlib.Omega.{arith}
 use lib.ListN.{length}
 use Rattle.arena.specs.Layout.{decode as nodes}
@@ -24,7 +23,7 @@ returns-then-not-members_move c =
     let n : c.node_count.result ≡ length (nodes c.args.cells.now) = c.node_count.ensures ∙ sym (length-decode c.args.cells.now) in
     ap {B = Outcome} (λ (x : Changed). (x, c.args.cells.now)) (refusal_is c.refusal.result 10 c.args.left c.refusal.ensures)
     ∙ members-out c.args.cells.now c.args.left c.args.right c.args.pairs.now c.args.left_size w.result c.requires w.ensures.1
-    (sym (members-test c.args.cells.now c.args.left c.args.right c.args.pairs.now w.result c.node_count.result c.requires n c.movable-table.result c.movable-table.ensures) ∙ sym c.members_move.ensures ∙ not-true c.members_move.result c.if-not-members_move.true-raw)
+    (sym (members-test c.args.cells.now c.args.left c.args.right c.args.pairs.now w.result c.node_count.result c.requires n c.movable-table.result c.movable-table.ensures) ∙ sym c.members_move.ensures ∙ c.if-not-members_move.true)
 
 pub rights_move-requires : goal.rights_move-requires
 rights_move-requires c =
@@ -36,14 +35,14 @@ returns-then-not-rights_move c =
     let n : c.node_count.result ≡ length (nodes c.args.cells.now) = c.node_count.ensures ∙ sym (length-decode c.args.cells.now) in
     ap {B = Outcome} (λ (x : Changed). (x, c.args.cells.now)) (refusal_is c.refusal-then-not-rights_move.result 10 c.args.left c.refusal-then-not-rights_move.ensures)
     ∙ rights-out c.args.cells.now c.args.left c.args.right c.args.pairs.now c.args.left_size w.result c.requires w.ensures.1
-    (sym (rights-test c.args.cells.now c.args.left c.args.right c.args.pairs.now w.result c.node_count.result c.requires n c.movable-table.result c.movable-table.ensures) ∙ sym c.rights_move.ensures ∙ not-true c.rights_move.result c.if-not-rights_move.true-raw)
+    (sym (rights-test c.args.cells.now c.args.left c.args.right c.args.pairs.now w.result c.node_count.result c.requires n c.movable-table.result c.movable-table.ensures) ∙ sym c.rights_move.ensures ∙ c.if-not-rights_move.true)
 
 pub join_placed-joined-requires : goal.join_placed-joined-requires
 join_placed-joined-requires c =
     let w = c.lift_of_size-lift in
     let n : c.node_count.result ≡ length (nodes c.args.cells.now) = c.node_count.ensures ∙ sym (length-decode c.args.cells.now) in
-    let a = sym (members-test c.args.cells.now c.args.left c.args.right c.args.pairs.now w.result c.node_count.result c.requires n c.movable-table.result c.movable-table.ensures) ∙ sym c.members_move.ensures ∙ not-false c.members_move.result c.if-not-members_move.false-raw in
-    let b = sym (rights-test c.args.cells.now c.args.left c.args.right c.args.pairs.now w.result c.node_count.result c.requires n c.movable-table.result c.movable-table.ensures) ∙ sym c.rights_move.ensures ∙ not-false c.rights_move.result c.if-not-rights_move.false-raw in
+    let a = sym (members-test c.args.cells.now c.args.left c.args.right c.args.pairs.now w.result c.node_count.result c.requires n c.movable-table.result c.movable-table.ensures) ∙ sym c.members_move.ensures ∙ c.if-not-members_move.false in
+    let b = sym (rights-test c.args.cells.now c.args.left c.args.right c.args.pairs.now w.result c.node_count.result c.requires n c.movable-table.result c.movable-table.ensures) ∙ sym c.rights_move.ensures ∙ c.if-not-rights_move.false in
     shift-ready c.args.cells.now c.args.left c.args.right c.args.pairs.now c.args.left_size w.result c.requires w.ensures.1 a b w.ensures.0
 
 pub returns-then-joined-ne0 : goal.returns-then-joined-ne0
@@ -51,8 +50,8 @@ returns-then-joined-ne0 c =
     let w = c.lift_of_size-lift in
     let j = c.join_placed-joined in
     let n : c.node_count.result ≡ length (nodes c.args.cells.now) = c.node_count.ensures ∙ sym (length-decode c.args.cells.now) in
-    let a = sym (members-test c.args.cells.now c.args.left c.args.right c.args.pairs.now w.result c.node_count.result c.requires n c.movable-table.result c.movable-table.ensures) ∙ sym c.members_move.ensures ∙ not-false c.members_move.result c.if-not-members_move.false-raw in
-    let b = sym (rights-test c.args.cells.now c.args.left c.args.right c.args.pairs.now w.result c.node_count.result c.requires n c.movable-table.result c.movable-table.ensures) ∙ sym c.rights_move.ensures ∙ not-false c.rights_move.result c.if-not-rights_move.false-raw in
+    let a = sym (members-test c.args.cells.now c.args.left c.args.right c.args.pairs.now w.result c.node_count.result c.requires n c.movable-table.result c.movable-table.ensures) ∙ sym c.members_move.ensures ∙ c.if-not-members_move.false in
+    let b = sym (rights-test c.args.cells.now c.args.left c.args.right c.args.pairs.now w.result c.node_count.result c.requires n c.movable-table.result c.movable-table.ensures) ∙ sym c.rights_move.ensures ∙ c.if-not-rights_move.false in
     ap {B = Outcome} (λ (x : Changed). (x, c.args.cells.now)) (refusal_is c.refusal-then-joined-ne0.result j.result.number c.args.left c.refusal-then-joined-ne0.ensures)
     ∙ shift-refused c.args.cells.now c.args.left c.args.right c.args.pairs.now c.args.left_size w.result c.requires w.ensures.1 a b j.new.cells j.result j.ensures c.if-joined-ne0.true
 
@@ -61,6 +60,6 @@ returns c =
     let w = c.lift_of_size-lift in
     let j = c.join_placed-joined in
     let n : c.node_count.result ≡ length (nodes c.args.cells.now) = c.node_count.ensures ∙ sym (length-decode c.args.cells.now) in
-    let a = sym (members-test c.args.cells.now c.args.left c.args.right c.args.pairs.now w.result c.node_count.result c.requires n c.movable-table.result c.movable-table.ensures) ∙ sym c.members_move.ensures ∙ not-false c.members_move.result c.if-not-members_move.false-raw in
-    let b = sym (rights-test c.args.cells.now c.args.left c.args.right c.args.pairs.now w.result c.node_count.result c.requires n c.movable-table.result c.movable-table.ensures) ∙ sym c.rights_move.ensures ∙ not-false c.rights_move.result c.if-not-rights_move.false-raw in
+    let a = sym (members-test c.args.cells.now c.args.left c.args.right c.args.pairs.now w.result c.node_count.result c.requires n c.movable-table.result c.movable-table.ensures) ∙ sym c.members_move.ensures ∙ c.if-not-members_move.false in
+    let b = sym (rights-test c.args.cells.now c.args.left c.args.right c.args.pairs.now w.result c.node_count.result c.requires n c.movable-table.result c.movable-table.ensures) ∙ sym c.rights_move.ensures ∙ c.if-not-rights_move.false in
     shift-done c.args.cells.now c.args.left c.args.right c.args.pairs.now c.args.left_size w.result c.requires w.ensures.1 a b j.new.cells j.result j.ensures (omega arith)

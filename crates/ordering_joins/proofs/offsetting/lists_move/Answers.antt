@@ -1,6 +1,5 @@
 -- `ordering_joins::offsetting::lists_move` meets its contract.
 use mathlib.Core.Path.{refl}
-use borrow.Author.Tests.{not-true, not-false}
 use Rattle.orderings.proofs.Codec.{count-few}
 use Rattle.ordering_joins.proofs.KeyTests.{place-low, moves-stop, moves-on, moves_end}
 use borrow.Author.Rules.{rules}
@@ -28,7 +27,7 @@ pub returns-then-not-keys_move : goal.returns-then-not-keys_move
 returns-then-not-keys_move c =
     let o = c.loop-i in
     let m = c.keys_move in
-    moves-stop c.args.table.now c.args.g o.i c.requires.held o.invariant.2 (search rules) m.result m.ensures (not-true m.result c.if-not-keys_move.true-raw)
+    moves-stop c.args.table.now c.args.g o.i c.requires.held o.invariant.2 (search rules) m.result m.ensures c.if-not-keys_move.true
 
 pub overflow_add-i : goal.overflow_add-i
 overflow_add-i c =
@@ -39,7 +38,7 @@ pub loop-i-preserved : goal.loop-i-preserved
 loop-i-preserved c =
     let o = c.loop-i in
     let m = c.keys_move in
-    (search rules, search rules, moves-on c.args.table.now c.args.g o.i c.requires.held o.invariant.2 (search rules) m.result m.ensures (not-false m.result c.if-not-keys_move.false-raw))
+    (search rules, search rules, moves-on c.args.table.now c.args.g o.i c.requires.held o.invariant.2 (search rules) m.result m.ensures c.if-not-keys_move.false)
 
 pub returns : goal.returns
 returns c =

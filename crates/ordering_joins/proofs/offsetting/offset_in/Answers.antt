@@ -2,7 +2,6 @@
 use Prim.Native.Nat.{ℕ, ◌<◌}
 use mathlib.Core.Path.{◌≡◌, subst, ◌∙◌}
 use native.Mathlib.Omega.{arith}
-use borrow.Author.Tests.{not-true, not-false}
 use lib.IntN.{ℤ}
 use mir.Facts.{to_z-of_z}
 use Rattle.shifting.specs.Shift.{moved}
@@ -25,7 +24,7 @@ returns-then-not-lists_move c =
     let n = c.node_count-n in
     let t = c.movable-table in
     let is = table-moves w.result c.args.cells.now c.args.g c.requires t.result n.result n.ensures t.ensures c.lists_move.result c.lists_move.ensures in
-    offset_out c.args.cells.now c.args.g c.args.offset w.result c.requires agree (is ∙ not-true c.lists_move.result c.if-not-lists_move.true-raw)
+    offset_out c.args.cells.now c.args.g c.args.offset w.result c.requires agree (is ∙ c.if-not-lists_move.true)
 
 pub shift_lists-list-requires : goal.shift_lists-list-requires
 shift_lists-list-requires c =
@@ -34,7 +33,7 @@ shift_lists-list-requires c =
     let n = c.node_count-n in
     let t = c.movable-table in
     let is = table-moves w.result c.args.cells.now c.args.g c.requires t.result n.result n.ensures t.ensures c.lists_move.result c.lists_move.ensures in
-    offset_ready c.args.cells.now c.args.g c.args.offset w.result c.requires agree (is ∙ not-false c.lists_move.result c.if-not-lists_move.false-raw) w.ensures.0 1024
+    offset_ready c.args.cells.now c.args.g c.args.offset w.result c.requires agree (is ∙ c.if-not-lists_move.false) w.ensures.0 1024
 
 pub returns-then-list-ne0 : goal.returns-then-list-ne0
 returns-then-list-ne0 c =
@@ -44,7 +43,7 @@ returns-then-list-ne0 c =
     let t = c.movable-table in
     let is = table-moves w.result c.args.cells.now c.args.g c.requires t.result n.result n.ensures t.ensures c.lists_move.result c.lists_move.ensures in
     let s = c.shift_lists-list in
-    offset_full c.args.cells.now c.args.g c.args.offset w.result c.requires agree (is ∙ not-false c.lists_move.result c.if-not-lists_move.false-raw) s.new.cells s.result s.ensures c.if-list-ne0.true
+    offset_full c.args.cells.now c.args.g c.args.offset w.result c.requires agree (is ∙ c.if-not-lists_move.false) s.new.cells s.result s.ensures c.if-list-ne0.true
 
 pub returns : goal.returns
 returns c =
@@ -54,4 +53,4 @@ returns c =
     let t = c.movable-table in
     let is = table-moves w.result c.args.cells.now c.args.g c.requires t.result n.result n.ensures t.ensures c.lists_move.result c.lists_move.ensures in
     let s = c.shift_lists-list in
-    offset_done c.args.cells.now c.args.g c.args.offset w.result c.requires agree (is ∙ not-false c.lists_move.result c.if-not-lists_move.false-raw) s.new.cells s.result s.ensures c.if-list-ne0.false
+    offset_done c.args.cells.now c.args.g c.args.offset w.result c.requires agree (is ∙ c.if-not-lists_move.false) s.new.cells s.result s.ensures c.if-list-ne0.false

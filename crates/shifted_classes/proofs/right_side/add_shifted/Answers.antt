@@ -12,8 +12,7 @@ use Rattle.shifted_classes.proofs.right_side.add_shifted.Goals as goal
 
 pub loop-j-init : goal.loop-j-init
 loop-j-init c =
-    let s = c in
-    (search rules, search rules, total-none (decode c.args.right), add-begins (nodes s.args.cells.now) s.args.left c.args.right s.requires.0.0.0 s.args.members)
+    (search rules, search rules, total-none (decode c.args.right), add-begins (nodes c.args.cells.now) c.args.left c.args.right c.requires.0.0.0 c.args.members)
 
 pub offset_bounds-right-j : goal.offset_bounds-right-j
 offset_bounds-right-j c =

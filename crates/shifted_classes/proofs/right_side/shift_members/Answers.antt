@@ -16,8 +16,7 @@ use Rattle.shifted_classes.proofs.right_side.shift_members.Goals as goal
 
 pub loop-k-init : goal.loop-k-init
 loop-k-init c =
-    let s = c in
-    (search rules, length-replicate {A = ℕ} 256 0, walk-begin s.args.lift s.args.cells.now s.args.memo.now (flat (decode c.args.g)) s.requires.1)
+    (search rules, length-replicate {A = ℕ} 256 0, walk-begin c.args.lift c.args.cells.now c.args.memo.now (flat (decode c.args.g)) c.requires.1)
 
 pub offset_bounds-g-k : goal.offset_bounds-g-k
 offset_bounds-g-k c =
