@@ -1,59 +1,63 @@
 -- What the answers on orderings, dependency maps, records and sessions come to for a caller in numbers: the number that is returned, and the places lent for the answer afterwards. `old` is what stood in them: a refusal leaves it.
-use Rattle.std.specs.Prelude.{ℕ, List, [], ◌∷◌, eqb, ltb, length, if◌then◌else◌}
-use Rattle.ordering_questions.specs.declared.OptionsAre.{OptionsAre}
-use Rattle.ordering_questions.specs.declared.OptionsAre.TheVariants.{Are, Absent as Options-Absent, Refused as Options-Refused}
-use Rattle.ordering_questions.specs.declared.PartialIs.{PartialIs}
-use Rattle.ordering_questions.specs.declared.PartialIs.TheVariants.{Yes as Partial-Yes, No as Partial-No, Refused as Partial-Refused}
-use Rattle.ordering_joins.specs.declared.Output.{Output}
-use Rattle.dependencies.specs.declared.Given.{Given}
-use Rattle.dependencies.specs.declared.Given.TheVariants.{Key as Given-Key, Nothing as Given-Nothing}
+use Rattle.std.specs.Prelude.{ℕ, Bool, true, false, List, [], ◌∷◌, eqb, ltb, length, if◌then◌else◌, Option, None, Some, Result}
+use Rattle.arena.specs.declared.Refusal.{Refusal}
+use Rattle.orderings.specs.declared.Ordering.{Ordering}
+use Rattle.dependencies.specs.declared.Key.{Key}
 use Rattle.dependency_orderings.specs.declared.Enumerated.{Enumerated}
 use Rattle.records.specs.Chosen.{chosen_part, chosen_number}
 use Rattle.records.specs.declared.Item.{Item}
-use Rattle.records.specs.declared.Item.TheVariants.{Column, Literal, Operation, EqualPair, Constant, NormalFormOf, EqualityOf, OneOrdering, Malformed}
-use Rattle.transcript.specs.declared.Written.{Written}
-use Rattle.transcript.specs.declared.Written.TheVariants.{Bytes, Refused as Written-Refused}
+use Rattle.records.specs.declared.Item.TheVariants.{Column, Literal, Operation, EqualPair, Constant, NormalFormOf, EqualityOf, OneOrdering}
+use Rattle.states.specs.Cells.{told}
 use Rattle.states.specs.Orders.{ordering_cells}
+
+-- 1 for true, 0 for false
+unfoldable pub bit : Bool → ℕ
+bit true = 1
+bit false = 0
+
+-- a number that may be missing: 1 and the number, or 0 and 0
+unfoldable pub maybe : Option ℕ → List ℕ
+maybe (Some n) = 1 ∷ n ∷ []
+maybe None = 0 ∷ 0 ∷ []
 
 -- the first of two put into numbers; the second is what a call leaves in the other memory that it is lent
 unfoldable pub on_first : {A B : Type 0} → (A → B) → A × List ℕ → B × List ℕ
 on_first f o = (f o.0, o.1)
 
 -- the options of an expression: 1 and these, or that there are none
-unfoldable pub options_in : List ℕ → OptionsAre → ℕ × List ℕ
-options_in old (Are options) = (0, 1 ∷ options ∷ [])
-options_in old Options-Absent = (0, 0 ∷ 0 ∷ [])
-options_in old (Options-Refused k) = (k, old)
+unfoldable pub options_in : List ℕ → Result (Option ℕ) Refusal → ℕ × List ℕ
+options_in old are = told maybe old are
 
 -- whether an expression is partly constant
-unfoldable pub partial_in : List ℕ → PartialIs → ℕ × List ℕ
-partial_in old Partial-Yes = (0, 1 ∷ [])
-partial_in old Partial-No = (0, 0 ∷ [])
-partial_in old (Partial-Refused k) = (k, old)
+unfoldable pub partial_in : List ℕ → Result Bool Refusal → ℕ × List ℕ
+partial_in old is = told (λ b. bit b ∷ []) old is
 
 -- the joined ordering
-unfoldable pub output_in : List ℕ → Output → ℕ × List ℕ
-output_in old o = if eqb o.number 0 then (0, ordering_cells o.ordering) else (o.number, old)
+unfoldable pub output_in : List ℕ → Result Ordering Refusal → ℕ × List ℕ
+output_in old o = told ordering_cells old o
 
 -- an enumeration: how many orderings, and how many places of the output they take
-unfoldable pub enumerated_in : List ℕ → Enumerated → ℕ × List ℕ
-enumerated_in old e = if eqb e.number 0 then (0, e.count ∷ e.used ∷ []) else (e.number, old)
+unfoldable pub enumerated_in : List ℕ → Result Enumerated Refusal → ℕ × List ℕ
+enumerated_in old e = told (λ n. n.count ∷ n.used ∷ []) old e
 
 -- a key that is given as two numbers: 4,294,967,295, which no expression has, stands for none
-unfoldable pub given_from : ℕ → ℕ → Given
-given_from e options = if eqb e 4294967295 then Given-Nothing else Given-Key e options
+unfoldable pub given_from : ℕ → ℕ → Option Key
+given_from e options = if eqb e 4294967295 then None else Some (record { expr = e; options = options })
 
--- a record that was read: its kind and up to three numbers
-unfoldable pub item_in : List ℕ → Item → ℕ × List ℕ
-item_in old (Column name index) = (0, 1 ∷ name ∷ index ∷ 0 ∷ [])
-item_in old (Literal value) = (0, 2 ∷ value ∷ 0 ∷ 0 ∷ [])
-item_in old (Operation label children) = (0, 3 ∷ label ∷ children ∷ 0 ∷ [])
-item_in old (EqualPair a b) = (0, 4 ∷ a ∷ b ∷ 0 ∷ [])
-item_in old (Constant e flavour value) = (0, 5 ∷ e ∷ flavour ∷ value ∷ [])
-item_in old (NormalFormOf e) = (0, 6 ∷ e ∷ 0 ∷ 0 ∷ [])
-item_in old (EqualityOf a b) = (0, 7 ∷ a ∷ b ∷ 0 ∷ [])
-item_in old (OneOrdering keys) = (0, 8 ∷ keys ∷ 0 ∷ 0 ∷ [])
-item_in old Malformed = (9, old)
+-- the numbers of a record: its kind and up to three more
+unfoldable pub item_numbers : Item → List ℕ
+item_numbers (Column name index) = 1 ∷ name ∷ index ∷ 0 ∷ []
+item_numbers (Literal value) = 2 ∷ value ∷ 0 ∷ 0 ∷ []
+item_numbers (Operation label children) = 3 ∷ label ∷ children ∷ 0 ∷ []
+item_numbers (EqualPair a b) = 4 ∷ a ∷ b ∷ 0 ∷ []
+item_numbers (Constant e flavour value) = 5 ∷ e ∷ flavour ∷ value ∷ []
+item_numbers (NormalFormOf e) = 6 ∷ e ∷ 0 ∷ 0 ∷ []
+item_numbers (EqualityOf a b) = 7 ∷ a ∷ b ∷ 0 ∷ []
+item_numbers (OneOrdering keys) = 8 ∷ keys ∷ 0 ∷ 0 ∷ []
+
+-- a record that was read
+unfoldable pub item_in : List ℕ → Result Item Refusal → ℕ × List ℕ
+item_in old item = told item_numbers old item
 
 -- the side that a join of kind 4 to 9 keeps
 unfoldable pub side : ℕ → ℕ
@@ -66,6 +70,5 @@ chosen_in old kind left right =
     else (chosen_number kind left right, old)
 
 -- a session: how many bytes were written
-unfoldable pub written_in : List ℕ → Written → ℕ × List ℕ
-written_in old (Bytes n) = (0, n ∷ [])
-written_in old (Written-Refused k) = (k, old)
+unfoldable pub written_in : List ℕ → Result ℕ Refusal → ℕ × List ℕ
+written_in old written = told (λ n. n ∷ []) old written

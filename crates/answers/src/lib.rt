@@ -3,54 +3,35 @@
 // group_answers.
 #![tactic(auto)]
 
-ghost use Rattle.std.specs.Prelude.{[], ◌∷◌, ◌≡◌, ◌<◌};
-ghost use Rattle.answers.specs.Answers.{options_in, partial_in, output_in, enumerated_in, item_in, written_in, given_from};
+ghost use Rattle.std.specs.Prelude.{[], ◌∷◌, ◌≡◌, ◌<◌, Ok};
+ghost use Rattle.answers.specs.Answers.{bit, maybe, options_in, partial_in, output_in, enumerated_in, item_numbers, item_in, written_in, given_from};
 
+use arena::Refusal;
 use arena::cells::wide;
-use dependencies::Given;
+use dependencies::Key;
 use dependency_orderings::Enumerated;
-use ordering_joins::Output;
-use ordering_questions::{OptionsAre, PartialIs};
 use orderings::Ordering;
 use records::Item;
 use states::NONE;
-use states::numbers::widened;
 use states::orders::put_ordering;
-use transcript::Written;
 
-// Writes one number.
-pub fn put_1(answer: &mut [u32; 1], a: u32)
-    ensures { answer.new ≡ a ∷ [] }
+// 1 for true and 0 for false.
+#[tactic(auto, unfolding(crate::specs::Answers::bit))]
+pub fn bit_of(b: bool) -> u32
+    ensures { result ≡ bit b }
 {
-    *answer = [a];
+    u32::from(b)
 }
 
-// Writes two numbers.
-pub fn put_2(answer: &mut [u32; 2], a: u32, b: u32)
-    ensures { answer.new ≡ a ∷ b ∷ [] }
+// A number that may be missing: 1 and the number, or 0 and 0.
+#[tactic(auto, unfolding(crate::specs::Answers::maybe))]
+pub fn maybe_of(number: Option<u32>) -> [u32; 2]
+    ensures { result ≡ maybe number }
 {
-    *answer = [a, b];
-}
-
-// Writes one size.
-fn put_size(answer: &mut [usize; 1], a: usize)
-    ensures { answer.new ≡ a ∷ [] }
-{
-    *answer = [a];
-}
-
-// Writes two sizes.
-pub fn put_sizes(answer: &mut [usize; 2], a: usize, b: usize)
-    ensures { answer.new ≡ a ∷ b ∷ [] }
-{
-    *answer = [a, b];
-}
-
-// Writes what a record says.
-fn put_item(answer: &mut [usize; 4], kind: usize, a: usize, b: usize, c: usize)
-    ensures { answer.new ≡ kind ∷ a ∷ b ∷ c ∷ [] }
-{
-    *answer = [kind, a, b, c];
+    match number {
+        Some(n) => [1, n],
+        None => [0, 0],
+    }
 }
 
 // Writes one ordering.
@@ -62,124 +43,113 @@ pub fn put_one(ordering: Ordering, answer: &mut [u16; 17])
 }
 
 // The options of an expression: whether there are some, and these.
-pub fn put_options(are: OptionsAre, answer: &mut [u32; 2]) -> u32
+#[tactic(auto, unfolding(crate::specs::Answers::options_in, states::specs::Cells::told))]
+pub fn put_options(are: Result<Option<u32>, Refusal>, answer: &mut [u32; 2]) -> u32
     ensures { (result, answer.new) ≡ options_in answer.old are }
 {
     match are {
-        OptionsAre::Are(options) => {
-            put_2(answer, 1, options);
+        Ok(options) => {
+            *answer = maybe_of(options);
             0
         }
-        OptionsAre::Absent => {
-            put_2(answer, 0, 0);
-            0
-        }
-        OptionsAre::Refused(k) => k,
+        Err(why) => u32::from(why),
     }
 }
 
 // Whether an expression is partly constant: 1 for yes, 0 for no.
-pub fn put_partial(is: PartialIs, answer: &mut [u32; 1]) -> u32
+#[tactic(auto, unfolding(crate::specs::Answers::partial_in, states::specs::Cells::told))]
+pub fn put_partial(is: Result<bool, Refusal>, answer: &mut [u32; 1]) -> u32
     ensures { (result, answer.new) ≡ partial_in answer.old is }
 {
     match is {
-        PartialIs::Yes => {
-            put_1(answer, 1);
+        Ok(partly) => {
+            *answer = [bit_of(partly)];
             0
         }
-        PartialIs::No => {
-            put_1(answer, 0);
-            0
-        }
-        PartialIs::Refused(k) => k,
+        Err(why) => u32::from(why),
     }
 }
 
 // The joined ordering: how many keys, and these.
-pub fn put_output(output: Output, answer: &mut [u16; 17]) -> u32
-    requires { output.ordering.size < 65536 }
+#[tactic(auto, unfolding(crate::specs::Answers::output_in, states::specs::Cells::told, states::specs::Orders::ordering_cells))]
+pub fn put_output(output: Result<Ordering, Refusal>, answer: &mut [u16; 17]) -> u32
+    requires { (o : Ordering) → output ≡ Ok o → o.size < 65536 }
     ensures { (result, answer.new) ≡ output_in answer.old output }
 {
-    if output.number != 0 {
-        return output.number;
+    match output {
+        Ok(ordering) => {
+            put_one(ordering, answer);
+            0
+        }
+        Err(why) => u32::from(why),
     }
-    let ordering = output.ordering;
-    put_one(ordering, answer);
-    0
 }
 
 // An enumeration: how many orderings, and how many places of the output they take.
-pub fn put_enumerated(enumerated: Enumerated, answer: &mut [usize; 2]) -> u32
+#[tactic(auto, unfolding(crate::specs::Answers::enumerated_in, states::specs::Cells::told))]
+pub fn put_enumerated(enumerated: Result<Enumerated, Refusal>, answer: &mut [usize; 2]) -> u32
     ensures { (result, answer.new) ≡ enumerated_in answer.old enumerated }
 {
-    if enumerated.number != 0 {
-        return enumerated.number;
+    match enumerated {
+        Ok(done) => {
+            *answer = [done.count, done.used];
+            0
+        }
+        Err(why) => u32::from(why),
     }
-    put_sizes(answer, enumerated.count, enumerated.used);
-    0
+}
+
+// The numbers of a record: its kind and up to three more.
+#[tactic(auto, unfolding(crate::specs::Answers::item_numbers))]
+fn numbers_of(item: Item) -> [usize; 4]
+    ensures { result ≡ item_numbers item }
+{
+    match item {
+        Item::Column(name, index) => [1, usize::from(name), usize::from(index), 0],
+        Item::Literal(value) => [2, wide(value), 0, 0],
+        Item::Operation(label, children) => [3, wide(label), children, 0],
+        Item::EqualPair(left, right) => [4, usize::from(left), usize::from(right), 0],
+        Item::Constant(expr, flavour, value) => {
+            [5, usize::from(expr), usize::from(flavour), wide(value)]
+        }
+        Item::NormalFormOf(expr) => [6, usize::from(expr), 0, 0],
+        Item::EqualityOf(left, right) => [7, usize::from(left), usize::from(right), 0],
+        Item::OneOrdering(keys) => [8, keys, 0, 0],
+    }
 }
 
 // A record that was read: its kind and up to three numbers.
-pub fn put_record(item: Item, answer: &mut [usize; 4]) -> u32
+#[tactic(auto, unfolding(crate::specs::Answers::item_in, states::specs::Cells::told))]
+pub fn put_record(item: Result<Item, Refusal>, answer: &mut [usize; 4]) -> u32
     ensures { (result, answer.new) ≡ item_in answer.old item }
 {
     match item {
-        Item::Column(name, index) => {
-            put_item(answer, 1, widened(name), widened(index), 0);
+        Ok(item) => {
+            *answer = numbers_of(item);
             0
         }
-        Item::Literal(value) => {
-            put_item(answer, 2, wide(value), 0, 0);
-            0
-        }
-        Item::Operation(label, children) => {
-            put_item(answer, 3, wide(label), children, 0);
-            0
-        }
-        Item::EqualPair(left, right) => {
-            put_item(answer, 4, widened(left), widened(right), 0);
-            0
-        }
-        Item::Constant(expr, flavour, value) => {
-            put_item(answer, 5, widened(expr), widened(flavour), wide(value));
-            0
-        }
-        Item::NormalFormOf(expr) => {
-            put_item(answer, 6, widened(expr), 0, 0);
-            0
-        }
-        Item::EqualityOf(left, right) => {
-            put_item(answer, 7, widened(left), widened(right), 0);
-            0
-        }
-        Item::OneOrdering(keys) => {
-            put_item(answer, 8, keys, 0, 0);
-            0
-        }
-        Item::Malformed => 9,
+        Err(why) => u32::from(why),
     }
 }
 
 // A session: how many bytes were written.
-pub fn put_written(written: Written, answer: &mut [usize; 1]) -> u32
+#[tactic(auto, unfolding(crate::specs::Answers::written_in, states::specs::Cells::told))]
+pub fn put_written(written: Result<usize, Refusal>, answer: &mut [usize; 1]) -> u32
     ensures { (result, answer.new) ≡ written_in answer.old written }
 {
     match written {
-        Written::Bytes(n) => {
-            put_size(answer, n);
+        Ok(bytes) => {
+            *answer = [bytes];
             0
         }
-        Written::Refused(k) => k,
+        Err(why) => u32::from(why),
     }
 }
 
 // A key that is given as two numbers, or none.
-pub fn given_from(expr: u32, options: u32) -> Given
+#[tactic(auto, unfolding(crate::specs::Answers::given_from))]
+pub fn given_from(expr: u32, options: u32) -> Option<Key>
     ensures { result ≡ given_from expr options }
 {
-    if expr == NONE {
-        Given::Nothing
-    } else {
-        Given::Key(expr, options)
-    }
+    (expr != NONE).then_some(Key { expr, options })
 }

@@ -3,7 +3,7 @@ use Prim.Native.Nat.{ℕ, zero, suc, ◌+◌, ◌-◌, ◌*◌, ◌/◌, ◌%◌
 use mathlib.Core.Bool.{Bool, true, false, not, ◌&&◌}
 use mathlib.Core.List.{List, [], ◌∷◌, ◌++◌}
 use mathlib.Core.Logic.{◌↔◌}
-use mathlib.Core.Option.{Option, none, some}
+use Rattle.std.specs.Prelude.{Option, None, Some, is_some}
 use mathlib.Core.Path.{◌≡◌, refl, sym, ap, ◌∙◌, subst}
 use native.Mathlib.Decide.{ℕ_discrete, dec_lt}
 use native.Mathlib.Omega.{arith}
@@ -11,7 +11,7 @@ use borrow.Author.Tests.{eqb-true, eq-eqb, leb-true, le-leb}
 use lib.Dec.{eqb, leb}
 use lib.ListN.{length, get_or, take, drop, set, replicate, length-append, length-replicate, length-set, get_or-append}
 use lib.Seq.{ext_get_or, get_or_at, get_or-set_same, get_or-set_other, get_or-take, get_or-drop, length-take-le, paste, length-paste, length_paste_head}
-use Rattle.laws.specs.Tests.{each, first, is_some}
+use Rattle.laws.specs.Tests.{each, first}
 use Rattle.laws.proofs.Booleans.{true_not_false, and_left, and_right, and_both, same_test}
 use Rattle.laws.proofs.Each.{each_all, each_holds}
 use Rattle.laws.proofs.First.{first-none, first-missing, first_cong}
@@ -187,7 +187,7 @@ module _ (cells : List ℕ) (h : Holds cells) where
 
   -- each node of the cells passes the test
   node-lawful : (i : ℕ) → i < count cells → lawful_node cells i ≡ true
-  unfolding lawful_node row_below is_some
+  unfolding lawful_node row_below
   node-lawful i l =
       and_both (subst (λ (r : List ℕ). lawful_row i r ≡ true) (h.coded i l) (row_lawful i (node_of (row_of cells i)) (row-allowed i l)))
       (rw (first-missing (λ (j : ℕ). same_row cells j (row_of cells i)) i (λ j b. new j b (same_row cells j (row_of cells i)) refl)))
@@ -208,10 +208,9 @@ module _ (cells : List ℕ) (h : Holds cells) where
       (λ k l. eq-eqb (get_or cells (1 + 11 * count cells + k) 0) 0 (h.rest (1 + 11 * count cells + k) (omega arith) (omega arith))))
 
 -- no answer: nothing was found
-not_some : (o : Option ℕ) → not (is_some o) ≡ true → o ≡ none
-unfolding is_some
-not_some none e = refl
-not_some (some i) e = absurd (true_not_false e refl)
+not_some : (o : Option ℕ) → not (is_some o) ≡ true → o ≡ None
+not_some None e = refl
+not_some (Some i) e = absurd (true_not_false e refl)
 
 module _ (cells : List ℕ) (e : lawful cells ≡ true) where
   -- the test of the cells says that they are 11,265, for at most 1,024 nodes

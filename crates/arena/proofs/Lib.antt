@@ -1,7 +1,7 @@
 -- Laws of the definitions in specs/.
 pub mod Examples
+pub mod Refusals
 pub mod Writing
-pub mod Answers
 pub mod Rows
 pub mod Layouts
 pub mod Placing

@@ -1,4 +1,5 @@
 -- The cells of a node, said of the node.
+use Rattle.arena.specs.declared.Read.TheVariants.{Column, Literal, Operation}
 use Prim.Native.Nat.{ℕ, ◌+◌, ◌/◌, ◌%◌, ◌<◌, ◌≤◌}
 use mathlib.Core.List.{List}
 use mathlib.Core.Path.{◌≡◌, refl, sym, ap, ◌∙◌}
@@ -12,7 +13,6 @@ use Rattle.arena.specs.Arena.{Allowed}
 use Rattle.arena.specs.Layout.{row, row_of, cell_of, children_of, node_of, decode}
 use Rattle.arena.specs.Calls.{read_of}
 use Rattle.arena.specs.Inner.{Known, Coded}
-use Rattle.arena.specs.declared.Read.TheVariants.{Column, Literal, Operation}
 use Rattle.arena.proofs.Layouts.{length-decode, node-decode, at-row_of}
 
 -- the node of a row, by its kind

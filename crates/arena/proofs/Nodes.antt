@@ -1,9 +1,8 @@
 -- Nodes: their equality is the test's, finding, arenas that extend others, and adding a node.
-use Rattle.std.specs.Prelude.{if◌then◌else◌}
+use Rattle.std.specs.Prelude.{if◌then◌else◌, Option, None, Some}
 use Prim.Native.Nat.{ℕ, ◌+◌, ◌<◌, ◌≤◌}
 use mathlib.Core.Bool.{Bool, true, false, ◌&&◌}
 use mathlib.Core.List.{List, [], ◌∷◌, ◌++◌, append_assoc, append-nil}
-use mathlib.Core.Option.{Option, none, some}
 use mathlib.Core.Path.{◌≡◌, refl, sym, ap, ◌∙◌, subst, subst₂}
 use native.Mathlib.Decide.{ℕ_discrete, dec_lt}
 use native.Mathlib.Omega.{arith}
@@ -48,14 +47,14 @@ is_same : {a b : Node} → a ≡ b → same_node b a ≡ true
 is_same {a} e = subst (λ (n : Node). same_node n a ≡ true) e (node-same a)
 
 -- a number that is found is one of the arena, and its node is the one looked for
-pub find-some : (n : Node) (ns : List Node) (i : ℕ) → find n ns ≡ some i → (i < length ns) × (node_at ns i ≡ n)
+pub find-some : (n : Node) (ns : List Node) (i : ℕ) → find n ns ≡ Some i → (i < length ns) × (node_at ns i ≡ n)
 unfolding find
 find-some n ns i e =
     let f = first_some (λ (j : ℕ). same_node n (node_at ns j)) (length ns) i e in
     (f.below, sym (same-node n (node_at ns i) f.passes))
 
 -- where nothing is found, no node is the one looked for
-pub find_none : (n : Node) (ns : List Node) → find n ns ≡ none → (i : ℕ) → i < length ns → node_at ns i ≡ n → ⊥
+pub find_none : (n : Node) (ns : List Node) → find n ns ≡ None → (i : ℕ) → i < length ns → node_at ns i ≡ n → ⊥
 unfolding find
 find_none n ns e i l q = true_not_false (is_same q) (first-none (λ (j : ℕ). same_node n (node_at ns j)) (length ns) e i l)
 
@@ -69,7 +68,7 @@ same_number ns s i j li lj e = at (ℕ_discrete i j) (dec_lt i j)
     at (no q) (no b) = absurd (s.distinct j i (omega arith) li (sym e))
 
 -- a node of a sound arena is found at its number
-pub find-old : (ns : List Node) → Sound ns → (i : ℕ) (n : Node) → i < length ns → node_at ns i ≡ n → find n ns ≡ some i
+pub find-old : (ns : List Node) → Sound ns → (i : ℕ) (n : Node) → i < length ns → node_at ns i ≡ n → find n ns ≡ Some i
 unfolding find
 find-old ns s i n l q =
     first-only (λ (j : ℕ). same_node n (node_at ns j)) (length ns) i l (is_same q)
@@ -126,7 +125,7 @@ module _ (n : Node) (ns : List Node) where
   last_one = get_or-append_seam ns n [] (literal 0)
 
   -- it is sound where the node is allowed, new, and finds room
-  sound-one : Sound ns → Allowed (length ns) n → find n ns ≡ none → length ns < 1024 → Sound one
+  sound-one : Sound ns → Allowed (length ns) n → find n ns ≡ None → length ns < 1024 → Sound one
   sound-one s a f l = record {
     few = omega (arith, length-one);
     allowed = λ i b. allowed i b (ℕ_discrete i (length ns));
@@ -148,7 +147,7 @@ module _ (n : Node) (ns : List Node) where
           s.distinct i j b d (sym (extends-node extends-one i (omega arith)) ∙ e ∙ extends-node extends-one j d)
 
   -- so the node is added
-  added-one : Sound ns → Allowed (length ns) n → find n ns ≡ none → length ns < 1024 → AddedNode n ns (length ns) one
+  added-one : Sound ns → Allowed (length ns) n → find n ns ≡ None → length ns < 1024 → AddedNode n ns (length ns) one
   added-one s a f l = record { extends = extends-one; sound = sound-one s a f l; below = omega (arith, length-one); is = last_one }
 
 -- a node that is added stands at the number answered, in a sound extension of the arena
@@ -156,15 +155,15 @@ pub add-node : (n : Node) (ns : List Node) → Sound ns → Allowed (length ns) 
 unfolding add placed_at
 add-node n ns s a i ms e = go (find n ns) refl e
   where
-    new : find n ns ≡ none → (b : Bool) → ltb (length ns) 1024 ≡ b → (if b then placed (length ns) (ns ++ (n ∷ [])) else full) ≡ placed i ms → AddedNode n ns i ms
+    new : find n ns ≡ None → (b : Bool) → ltb (length ns) 1024 ≡ b → (if b then placed (length ns) (ns ++ (n ∷ [])) else full) ≡ placed i ms → AddedNode n ns i ms
     new f true t e = subst₂ (λ (j : ℕ) (l : List Node). AddedNode n ns j l) (cc) (cc) (added-one n ns s a f (ltb-true (length ns) 1024 t))
     new f false t e = absurd (let z : ◌≡◌ {A = ℕ} 0 1 = cc in omega arith)
 
     go : (o : Option ℕ) → find n ns ≡ o → placed_at o n ns ≡ placed i ms → AddedNode n ns i ms
-    go (some j) f e =
+    go (Some j) f e =
         subst₂ (λ (j : ℕ) (l : List Node). AddedNode n ns j l) (cc) (cc)
         (record { extends = extends-none ns; sound = s; below = (find-some n ns j f).0; is = (find-some n ns j f).1 })
-    go none f e = new f (ltb (length ns) 1024) refl e
+    go None f e = new f (ltb (length ns) 1024) refl e
 
 -- a node once added is found again
 pub add-old : (n : Node) (ns : List Node) → Sound ns → (i : ℕ) → i < length ns → node_at ns i ≡ n → add n ns ≡ placed i ns

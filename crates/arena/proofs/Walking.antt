@@ -1,4 +1,7 @@
 -- Walks that rewrite an expression and add what they make of it, for any rewriting F: placing, the memo, and the loop over a node's children.
+use Rattle.arena.specs.declared.Refusal.TheVariants.{ArenaFull}
+use Rattle.arena.specs.Refusals.{Added}
+use Rattle.std.specs.Prelude.{Err, Ok}
 use Prim.Native.Nat.{ℕ, zero, suc, ◌+◌, ◌-◌, ◌<◌}
 use mathlib.Core.Bool.{true, false}
 use mathlib.Core.List.{List, [], ◌∷◌, ◌++◌, append-nil, append_assoc}
@@ -13,11 +16,10 @@ use Rattle.laws.proofs.Table.{length-table, table_is, table_cong}
 use Rattle.arena.specs.Node.{Node, operation}
 use Rattle.arena.specs.Expression.{Expression, expressions, expression_at, those}
 use Rattle.arena.specs.Arena.{Extends, Small, Placed, placed, full, and_then, add, add_expression, add_expressions}
+use Rattle.arena.specs.declared.Refusal.{Refusal}
 use Rattle.arena.specs.Layout.{row, node_of, children_of, decode, encode}
 use Rattle.arena.specs.Calls.{answered, in_cells}
 use Rattle.arena.specs.Inner.{Holds, Placeable, told, Grew, Noted, Memo, noted, Walked, map_all, told_all, operation_row, WalkedAll}
-use Rattle.arena.specs.declared.Added.{Added}
-use Rattle.arena.specs.declared.Added.TheVariants.{Number, Refused}
 use Rattle.arena.proofs.Nodes.{add-node, extends-none, extends-both, extends-longer}
 use Rattle.arena.proofs.Trees.{expression-kept}
 use Rattle.arena.proofs.Growing.{add-expression, add_expression-old}
@@ -37,8 +39,8 @@ placed_row r s t a p e = go (add (node_of r) (decode s)) refl
   where
     go : (o : Placed ℕ) → add (node_of r) (decode s) ≡ o → PlacedRow r s t a
     go (placed i ms) q =
-        let w : ◌≡◌ {A = Added × List ℕ} (a, t) (Number i, encode ms) = e ∙ rw q in
-        let w0 : a ≡ Number i = ap (λ (o : Added × List ℕ). o.0) w in
+        let w : ◌≡◌ {A = Added × List ℕ} (a, t) (Ok i, encode ms) = e ∙ rw q in
+        let w0 : a ≡ Ok i = ap (λ (o : Added × List ℕ). o.0) w in
         let w1 : t ≡ encode ms = ap (λ (o : Added × List ℕ). o.1) w in
         let n = add-node (node_of r) (decode s) p.holds.sound (rw (length-decode s) p.allowed) i ms q in
         let d : decode t ≡ ms = ap decode w1 ∙ decode-encode ms n.sound in
@@ -48,8 +50,8 @@ placed_row r s t a p e = go (add (node_of r) (decode s)) refl
           is = rw (w0, d, q);
         }
     go full q =
-        let w : ◌≡◌ {A = Added × List ℕ} (a, t) (Refused 3, encode (decode s)) = e ∙ rw q in
-        let w0 : a ≡ Refused 3 = ap (λ (o : Added × List ℕ). o.0) w in
+        let w : ◌≡◌ {A = Added × List ℕ} (a, t) (Err ArenaFull, encode (decode s)) = e ∙ rw q in
+        let w0 : a ≡ Err ArenaFull = ap (λ (o : Added × List ℕ). o.0) w in
         let w1 : t ≡ s = ap (λ (o : Added × List ℕ). o.1) w ∙ coded-cells s p.holds in
         record {
           holds = subst Holds (sym w1) p.holds;
@@ -100,7 +102,7 @@ module _ (F : Expression → Expression) where
       at (no t) = old (get_or-set_other memo e j (i + 1) 0 t)
 
   -- an entry answers for the expression: it is there, and nothing is added
-  pub memo-answers : (s memo : List ℕ) (e : ℕ) → Holds s → Memo F (decode s) memo → (get_or memo e 0 ≡ 0 → ⊥) → Walked F s s memo e (Number (get_or memo e 0 - 1))
+  pub memo-answers : (s memo : List ℕ) (e : ℕ) → Holds s → Memo F (decode s) memo → (get_or memo e 0 ≡ 0 → ⊥) → Walked F s s memo e (Ok (get_or memo e 0 - 1))
   unfolding told
   memo-answers s memo e h m z =
       let o = m e z in
@@ -115,7 +117,7 @@ module _ (F : Expression → Expression) where
       }
 
   -- what grew has the number that was answered
-  pub grew-number : (x : Expression) (s t : List ℕ) (i : ℕ) → Holds s → Small x → Grew x s t (Number i) → (i < length (decode t)) × (expression_at (decode t) i ≡ x)
+  pub grew-number : (x : Expression) (s t : List ℕ) (i : ℕ) → Holds s → Small x → Grew x s t (Ok i) → (i < length (decode t)) × (expression_at (decode t) i ≡ x)
   unfolding told
   grew-number x s t i h m g =
       let a = add-expression x (decode s) h.sound m i (decode t) (sym g.is) in
@@ -124,14 +126,14 @@ module _ (F : Expression → Expression) where
   -- an answer is noted for its expression
   pub memo-noted : (s t memo : List ℕ) (e : ℕ) (a : Added) → Holds s → e < length (decode s) → Small (F (expression_at (decode s) e)) → Walked F s t memo e a → Walked F s t (noted memo e a) e a
   unfolding noted
-  memo-noted s t memo e (Number i) h b m w =
+  memo-noted s t memo e (Ok i) h b m w =
       let g = grew-number (F (expression_at (decode s) e)) s t i h m w.grew in
       let x = w.grew.extends in
       record {
         grew = w.grew;
         memo_true = memo-more (decode t) memo e i w.memo_true (omega (arith, extends-longer x)) g.0 (g.1 ∙ ap F (sym (expression-kept x e b)));
       }
-  memo-noted s t memo e (Refused k) h b m w = w
+  memo-noted s t memo e (Err k) h b m w = w
 
 -- ---- the loop over children
 
@@ -235,7 +237,7 @@ module _ (F : Expression → Expression) (s r : List ℕ) where
       same = expression-kept h.extends (get_or (children_of r) k 0) below
 
       -- child k is done
-      pub through-more : (i : ℕ) → Walked F t u memo₂ (get_or (children_of r) k 0) (Number i) → Through F s u memo₂ r (set r' (3 + k) i) (k + 1)
+      pub through-more : (i : ℕ) → Walked F t u memo₂ (get_or (children_of r) k 0) (Ok i) → Through F s u memo₂ r (set r' (3 + k) i) (k + 1)
       unfolding told and_then
       through-more i w =
           let a : add_expression (F (expression_at (decode s) (get_or (children_of r) k 0))) (decode t) ≡ placed i (decode u) = ap (λ (x : Expression). add_expression (F x) (decode t)) (sym same) ∙ sym w.grew.is in
@@ -253,7 +255,7 @@ module _ (F : Expression → Expression) (s r : List ℕ) where
           }
 
       -- there was no room for child k
-      pub through_fails : (j : ℕ) → Walked F t u memo₂ (get_or (children_of r) k 0) (Refused j) → WalkedAll F s u memo₂ r r' false
+      pub through_fails : (j : Refusal) → Walked F t u memo₂ (get_or (children_of r) k 0) (Err j) → WalkedAll F s u memo₂ r r' false
       unfolding told and_then told_all prefixed
       through_fails j w =
           let a : add_expression (F (expression_at (decode s) (get_or (children_of r) k 0))) (decode t) ≡ full = ap (λ (x : Expression). add_expression (F x) (decode t)) (sym same) ∙ sym w.grew.is in

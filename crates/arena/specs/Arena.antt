@@ -1,6 +1,5 @@
 -- Which arenas are sound, and how nodes and expressions are added.
-use Rattle.std.specs.Prelude.{ℕ, ◌<◌, ◌≤◌, List, [], ◌∷◌, ◌++◌, ◌≡◌, ltb, length, get_or, if◌then◌else◌}
-use Rattle.std.proofs.Math.Option.{Option, none, some}
+use Rattle.std.specs.Prelude.{ℕ, ◌<◌, ◌≤◌, List, [], ◌∷◌, ◌++◌, ◌≡◌, ltb, length, get_or, if◌then◌else◌, Option, None, Some}
 use Rattle.laws.specs.Tests.{first}
 use Rattle.arena.specs.Node.{Node, column, literal, operation, node_at, same_node}
 use Rattle.arena.specs.Expression.{Expression, Expressions, col, lit, op, ∅, ◌▹◌, size}
@@ -50,8 +49,8 @@ find n ns = first (λ i. same_node n (node_at ns i)) (length ns)
 
 -- found: the old number. Not found: the next number, if one is left
 unfoldable pub placed_at : Option ℕ → Node → List Node → Placed ℕ
-placed_at (some i) n ns = placed i ns
-placed_at none n ns = if ltb (length ns) 1024 then placed (length ns) (ns ++ (n ∷ [])) else full
+placed_at (Some i) n ns = placed i ns
+placed_at None n ns = if ltb (length ns) 1024 then placed (length ns) (ns ++ (n ∷ [])) else full
 
 -- a node is added: one that equals an old node answers the old number, also in a full arena
 unfoldable pub add : Node → List Node → Placed ℕ

@@ -1,20 +1,12 @@
 -- What the inner functions ask and promise each other. The public contracts (Calls) cite nothing of this file.
-use Rattle.std.specs.Prelude.{ℕ, ◌+◌, ◌-◌, ◌*◌, ◌<◌, ◌≤◌, Bool, true, false, List, ◌≡◌, ltb, length, get_or, set, if◌then◌else◌}
-use Rattle.std.proofs.Math.Option.{Option, none, some}
+use Rattle.arena.specs.declared.Refusal.TheVariants.{ArenaFull}
+use Rattle.arena.specs.Refusals.{Added}
+use Rattle.std.specs.Prelude.{ℕ, ◌+◌, ◌-◌, ◌*◌, ◌<◌, ◌≤◌, Bool, true, false, List, ◌≡◌, ltb, length, get_or, set, if◌then◌else◌, Err, Ok}
 use Rattle.std.proofs.Math.Seq.{paste}
 use Rattle.arena.specs.Node.{Node, operation}
 use Rattle.arena.specs.Expression.{Expression, Expressions, ∅, ◌▹◌, expression_at, expressions, those}
 use Rattle.arena.specs.Arena.{Sound, Allowed, Extends, Placed, placed, full, add_expression, add_expressions}
 use Rattle.arena.specs.Layout.{row, count, row_of, node_of, children_of, decode}
-use Rattle.arena.specs.declared.Added.{Added}
-use Rattle.arena.specs.declared.Added.TheVariants.{Number, Refused}
-use Rattle.arena.specs.declared.Found.{Found}
-use Rattle.arena.specs.declared.Found.TheVariants.{At, Nothing}
-
--- the answer of a search
-abbrev pub found_at : Option ℕ → Found
-found_at (some i) = At i
-found_at none = Nothing
 
 -- a row is the layout of a node
 abbrev pub Coded : List ℕ → Type 0
@@ -42,18 +34,18 @@ pub record Placeable (cells r : List ℕ) : Type 0 where
 -- the cells with a row as the next node, if one is left
 unfoldable pub appended : List ℕ → List ℕ → Added × List ℕ
 appended cells r =
-    if ltb (count cells) 1024 then (Number (count cells), set (paste cells (1 + 11 * count cells) r 11) 0 (count cells + 1))
-    else (Refused 3, cells)
+    if ltb (count cells) 1024 then (Ok (count cells), set (paste cells (1 + 11 * count cells) r 11) 0 (count cells + 1))
+    else (Err ArenaFull, cells)
 
 -- an answer and the arena as a placing
 unfoldable pub told : Added → List Node → Placed ℕ
-told (Number i) ns = placed i ns
-told (Refused k) ns = full
+told (Ok i) ns = placed i ns
+told (Err k) ns = full
 
 -- an answer is a refusal
 unfoldable pub is_refused : Added → Bool
-is_refused (Number i) = false
-is_refused (Refused k) = true
+is_refused (Ok i) = false
+is_refused (Err k) = true
 
 -- from the cells s to the cells t an expression was added, or there was no room; whichever, t is an arena that extends s
 pub record Grew (x : Expression) (s t : List ℕ) (answer : Added) : Type 0 where
@@ -73,8 +65,8 @@ Memo F ns memo = (e : ℕ) → (get_or memo e 0 ≡ 0 → ⊥) → Noted F ns e 
 
 -- the memo with an answer for e
 unfoldable pub noted : List ℕ → ℕ → Added → List ℕ
-noted memo e (Number i) = set memo e (i + 1)
-noted memo e (Refused k) = memo
+noted memo e (Ok i) = set memo e (i + 1)
+noted memo e (Err k) = memo
 
 -- what a walk F promises at node e: its expression was added, and the memo is true
 pub record Walked (F : Expression → Expression) (s t memo : List ℕ) (e : ℕ) (answer : Added) : Type 0 where

@@ -1,9 +1,8 @@
 -- How an arena lies in the lent cells, and which cells are an arena. The one file that speaks of cells.
 -- There are 11,265 cells of 32 bits. Cell 0 is the number of nodes. Node i has the 11 cells from 1 + 11·i on: its kind (1 column, 2 literal, 3 operation),
 -- its payload (of a column name · 65,536 + index, of a literal the value, of an operation the label), the number of its children, and 8 places for them. Every other cell is 0.
-use Rattle.std.specs.Prelude.{ℕ, ◌+◌, ◌-◌, ◌*◌, ◌/◌, ◌%◌, Bool, false, not, ◌&&◌, List, [], ◌∷◌, ◌++◌, eqb, ltb, leb, length, get_or, replicate, if◌then◌else◌}
-use Rattle.std.proofs.Math.Option.{Option}
-use Rattle.laws.specs.Tests.{each, first, is_some}
+use Rattle.std.specs.Prelude.{ℕ, ◌+◌, ◌-◌, ◌*◌, ◌/◌, ◌%◌, Bool, false, not, ◌&&◌, List, [], ◌∷◌, ◌++◌, eqb, ltb, leb, length, get_or, replicate, if◌then◌else◌, Option, is_some}
+use Rattle.laws.specs.Tests.{each, first}
 use Rattle.laws.specs.Lists.{table}
 use Rattle.arena.specs.Node.{Node, column, literal, operation}
 

@@ -8,9 +8,9 @@ ghost use Rattle.arena.specs.Layout.{row as row_of_node, count, node_of, decode}
 ghost use Rattle.arena.specs.Calls.{answered, in_cells};
 ghost use Rattle.arena.specs.Inner.{Placeable, appended};
 
+use crate::Refusal;
 use crate::cells::{narrow, node_count, wide};
 use crate::checking::row_below;
-use crate::{Added, Found};
 
 // The row of a column.
 pub fn column_row(name: u16, index: u16) -> [u32; 11]
@@ -18,7 +18,7 @@ pub fn column_row(name: u16, index: u16) -> [u32; 11]
 {
     [
         1,
-        (name as u32) * 65536 + (index as u32),
+        u32::from(name) * 65536 + u32::from(index),
         0,
         0,
         0,
@@ -45,11 +45,7 @@ pub fn operation_row(label: u32, children: &[u32]) -> [u32; 11]
 {
     let n = children.len();
     let mut row = [3, label, n as u32, 0, 0, 0, 0, 0, 0, 0, 0];
-    let mut k = 0;
-    while k < n {
-        row[3 + k] = children[k];
-        k += 1;
-    }
+    row[3..3 + n].copy_from_slice(children);
     row
 }
 
@@ -57,14 +53,7 @@ pub fn operation_row(label: u32, children: &[u32]) -> [u32; 11]
 pub fn all_below(numbers: &[u32], n: usize) -> bool
     ensures { result ≡ each (λ k. ltb (get_or numbers.now k 0) n) (length numbers.now) }
 {
-    let mut k = 0;
-    while k < numbers.len() {
-        if n <= wide(numbers[k]) {
-            return false;
-        }
-        k += 1;
-    }
-    true
+    numbers.iter().all(|number| wide(*number) < n)
 }
 
 // Writes a row into the cells from a place on.
@@ -72,15 +61,11 @@ fn write_row(cells: &mut [u32; 11265], at: usize, row: &[u32; 11])
     requires { (at + 11 ≤ 11265) × ((length cells.old ≡ 11265) × (length row.now ≡ 11)) }
     ensures { cells.new ≡ paste cells.old at row.now 11 }
 {
-    let mut j = 0;
-    while j < 11 {
-        cells[at + j] = row[j];
-        j += 1;
-    }
+    cells[at..at + 11].copy_from_slice(row);
 }
 
 // A row that no node has becomes the next node, if one is left.
-fn append(cells: &mut [u32; 11265], row: &[u32; 11]) -> Added
+fn append(cells: &mut [u32; 11265], row: &[u32; 11]) -> Result<u32, Refusal>
     requires { (count cells.old ≤ 1024) × ((length cells.old ≡ 11265) × (length row.now ≡ 11)) }
     ensures { (result, cells.new) ≡ appended cells.old row.now }
 {
@@ -88,20 +73,20 @@ fn append(cells: &mut [u32; 11265], row: &[u32; 11]) -> Added
     if n < 1024 {
         write_row(cells, 1 + 11 * n, row);
         cells[0] = narrow(n + 1);
-        Added::Number(narrow(n))
+        Ok(narrow(n))
     } else {
-        Added::Refused(3)
+        Err(Refusal::ArenaFull)
     }
 }
 
 // Adds a node by its row: an equal node answers its old number, also in a full arena.
-pub fn place(cells: &mut [u32; 11265], row: &[u32; 11]) -> Added
+pub fn place(cells: &mut [u32; 11265], row: &[u32; 11]) -> Result<u32, Refusal>
     requires { Placeable cells.old row.now }
     ensures { (result, cells.new) ≡ in_cells (answered (decode cells.old) (add (node_of row.now) (decode cells.old))) }
 {
     let n = node_count(cells);
     match row_below(cells, n, row) {
-        Found::At(i) => Added::Number(narrow(i)),
-        Found::Nothing => append(cells, row),
+        Some(i) => Ok(narrow(i)),
+        None => append(cells, row),
     }
 }

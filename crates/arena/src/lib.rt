@@ -15,8 +15,11 @@ pub mod cells;
 pub mod checking;
 pub mod memo;
 pub mod reading;
+pub mod refusing;
 
-ghost use Rattle.std.specs.Prelude.{◌≡◌};
+ghost use Rattle.std.specs.Prelude.{◌≡◌, Err};
+ghost use Rattle.arena.specs.Refusals.{outcome};
+ghost use Rattle.arena.specs.declared.Refusal.TheVariants.{BadState};
 ghost use Rattle.arena.specs.Calls.{checked, lent, on_lent, add_column, add_literal, add_operation, read_node, read_child};
 
 use adding::{all_below, column_row, literal_row, operation_row, place};
@@ -24,117 +27,103 @@ use cells::{node_count, wide};
 use checking::lawful_arena;
 use reading::{child_count, child_in, read_in};
 
-// What an addition answers: the number of the node, or of the refusal.
-#[derive(Clone, Copy)]
-pub enum Added {
-    Number(u32),
-    Refused(u32),
+// Why a call is refused: a number for each case stands in the table of refusals.
+#[derive(Clone, Copy, Debug, PartialEq, Eq)]
+pub enum Refusal {
+    UnknownExpression,
+    TooManyChildren,
+    ArenaFull,
+    GroupFull,
+    TooLarge,
+    UnknownKey,
+    NoTarget,
+    OutputShort,
+    Malformed,
+    IndexOutOfRange,
+    BadState,
+    BadNumber,
 }
 
-// What a read answers: a column's name and index, a literal's value, an operation's label and how many
-// children it has, or the number of the refusal.
-#[derive(Clone, Copy)]
+// What a node is: a column's name and index, a literal's value, an operation's label and how many children it has.
+#[derive(Clone, Copy, Debug, PartialEq, Eq)]
 pub enum Read {
     Column(u16, u16),
     Literal(u32),
     Operation(u32, u32),
-    Refused(u32),
 }
 
-// What a read of a child answers: the child's number, that the node has no such child, or the number of
-// the refusal.
-#[derive(Clone, Copy)]
-pub enum Child {
-    Number(u32),
-    Absent,
-    Refused(u32),
-}
-
-// What a search answers.
-#[derive(Clone, Copy)]
-pub enum Found {
-    At(usize),
-    Nothing,
-}
-
-// The check of a lent arena: 0, or 11 where the cells are no arena.
-pub fn check_arena(cells: &[u32; 11265]) -> u32
-    ensures { result ≡ checked cells.now }
+// The check of a lent arena. Refusal: 11, where the cells are no arena.
+pub fn check_arena(cells: &[u32; 11265]) -> Result<(), Refusal>
+    ensures { result ≡ outcome (checked cells.now) }
 {
-    if lawful_arena(cells) { 0 } else { 11 }
+    if lawful_arena(cells) {
+        Ok(())
+    } else {
+        Err(Refusal::BadState)
+    }
 }
 
 // Adds a column. Refusals: 11, 3.
-pub fn add_column(cells: &mut [u32; 11265], name: u16, index: u16) -> Added
+pub fn add_column(cells: &mut [u32; 11265], name: u16, index: u16) -> Result<u32, Refusal>
     ensures { (result, cells.new) ≡ lent (add_column name index) cells.old }
 {
-    if !lawful_arena(cells) {
-        return Added::Refused(11);
-    }
+    check_arena(cells)?;
     let row = column_row(name, index);
     place(cells, &row)
 }
 
 // Adds a literal. Refusals: 11, 3.
-pub fn add_literal(cells: &mut [u32; 11265], value: u32) -> Added
+pub fn add_literal(cells: &mut [u32; 11265], value: u32) -> Result<u32, Refusal>
     ensures { (result, cells.new) ≡ lent (add_literal value) cells.old }
 {
-    if !lawful_arena(cells) {
-        return Added::Refused(11);
-    }
+    check_arena(cells)?;
     let row = literal_row(value);
     place(cells, &row)
 }
 
 // Adds an operation over children that are there. Refusals: 11, 1, 2, 3.
-pub fn add_operation(cells: &mut [u32; 11265], label: u32, children: &[u32]) -> Added
+pub fn add_operation(cells: &mut [u32; 11265], label: u32, children: &[u32]) -> Result<u32, Refusal>
     ensures { (result, cells.new) ≡ lent (add_operation label children.now) cells.old }
 {
-    if !lawful_arena(cells) {
-        return Added::Refused(11);
-    }
+    check_arena(cells)?;
     let n = node_count(cells);
     if !all_below(children, n) {
-        return Added::Refused(1);
+        return Err(Refusal::UnknownExpression);
     }
     if 8 < children.len() {
-        return Added::Refused(2);
+        return Err(Refusal::TooManyChildren);
     }
     let row = operation_row(label, children);
     place(cells, &row)
 }
 
 // Reads a node. Refusals: 11, 1.
-pub fn read_node(cells: &[u32; 11265], expr: u32) -> Read
-    ensures { result ≡ on_lent (Read.Refused 11) (read_node expr) cells.now }
+pub fn read_node(cells: &[u32; 11265], expr: u32) -> Result<Read, Refusal>
+    ensures { result ≡ on_lent (Err BadState) (read_node expr) cells.now }
 {
-    if !lawful_arena(cells) {
-        return Read::Refused(11);
-    }
+    check_arena(cells)?;
     let n = node_count(cells);
     let e = wide(expr);
     if n <= e {
-        return Read::Refused(1);
+        return Err(Refusal::UnknownExpression);
     }
-    read_in(cells, e)
+    Ok(read_in(cells, e))
 }
 
 // Reads the child of a node at a place counted from 0. A place that the node doesn't have is answered
-// with Absent. Refusals: 11, 1.
-pub fn read_child(cells: &[u32; 11265], expr: u32, place: u32) -> Child
-    ensures { result ≡ on_lent (Child.Refused 11) (read_child expr place) cells.now }
+// with None. Refusals: 11, 1.
+pub fn read_child(cells: &[u32; 11265], expr: u32, place: u32) -> Result<Option<u32>, Refusal>
+    ensures { result ≡ on_lent (Err BadState) (read_child expr place) cells.now }
 {
-    if !lawful_arena(cells) {
-        return Child::Refused(11);
-    }
+    check_arena(cells)?;
     let n = node_count(cells);
     let e = wide(expr);
     if n <= e {
-        return Child::Refused(1);
+        return Err(Refusal::UnknownExpression);
     }
     let k = wide(place);
     if child_count(cells, e) <= k {
-        return Child::Absent;
+        return Ok(None);
     }
-    Child::Number(child_in(cells, e, k))
+    Ok(Some(child_in(cells, e, k)))
 }

@@ -15,13 +15,11 @@ pub fn read_in(cells: &[u32; 11265], e: usize) -> Read
 {
     let kind = cell_of(cells, e, 0);
     let payload = cell_of(cells, e, 1);
-    if kind == 1 {
-        return Read::Column((payload / 65536) as u16, (payload % 65536) as u16);
+    match kind {
+        1 => Read::Column((payload / 65536) as u16, (payload % 65536) as u16),
+        2 => Read::Literal(payload),
+        _ => Read::Operation(payload, cell_of(cells, e, 2)),
     }
-    if kind == 2 {
-        return Read::Literal(payload);
-    }
-    Read::Operation(payload, cell_of(cells, e, 2))
 }
 
 // How many children node e has.

@@ -1,15 +1,13 @@
--- Constants as the code has them: a flavour and a value.
+-- Constants as a group has them: a flavour and a value.
 use Prim.Native.Nat.{ℕ, zero, suc, ◌<◌, ◌≤◌}
 use mathlib.Core.Bool.{true, false}
-use mathlib.Core.Path.{◌≡◌, refl, sym, ap, ◌∙◌}
+use mathlib.Core.Path.{◌≡◌, refl, sym}
 use native.Mathlib.Omega.{arith}
-use borrow.Author.Tests.{ne_eqb, eqb-true, leb-true}
+use borrow.Author.Tests.{eqb-true, leb-true}
 use lib.Dec.{leb}
 use Rattle.laws.proofs.Booleans.{true_not_false, and_left}
-use Rattle.classes.specs.Class.{Constant, no_constant, heterogeneous, unknown, known, is_uniform, taken}
+use Rattle.classes.specs.Class.{Constant, no_constant, heterogeneous, unknown, known, is_uniform}
 use Rattle.classes.specs.Layout.{flavour_of, value_of, constant_from, known_flavour}
-use Rattle.classes.specs.Inner.{mark_of}
-use Rattle.classes.specs.declared.Mark.{Mark}
 
 -- a constant is what its flavour and its value say
 pub constant-from : (c : Constant) → constant_from (flavour_of c) (value_of c) ≡ c
@@ -18,10 +16,6 @@ constant-from no_constant = refl
 constant-from heterogeneous = refl
 constant-from unknown = refl
 constant-from (known v) = refl
-
--- a mark that is a constant's says that constant
-pub mark-constant : (m : Mark) (c : Constant) → m ≡ mark_of c → constant_from m.flavour m.value ≡ c
-mark-constant m c e = ap (λ (x : Mark). constant_from x.flavour x.value) e ∙ constant-from c
 
 -- these are known
 pub flavour-known : (c : Constant) → known_flavour (flavour_of c) (value_of c) ≡ true
@@ -74,62 +68,3 @@ uniform-flavour (known v) h = omega arith
 -- a known flavour of at least 2 says a uniform constant
 pub flavour-uniform : (f v : ℕ) → known_flavour f v ≡ true → 2 ≤ f → is_uniform (constant_from f v) ≡ true
 flavour-uniform f v h l = uniform-high (constant_from f v) (omega (arith, flavour-back f v h))
-
--- the mark of a flavour and a value, by the flavour
-module _ (f v : ℕ) where
-  pub from-known : f ≡ 3 → record { flavour = f; value = v } ≡ mark_of (constant_from f v)
-  unfolding constant_from flavour_of value_of
-  from-known e = rw e
-
-  pub from-unknown : f ≡ 2 → record { flavour = 2; value = 0 } ≡ mark_of (constant_from f v)
-  unfolding constant_from flavour_of value_of
-  from-unknown e = rw e
-
-  pub from-heterogeneous : f ≡ 1 → record { flavour = 1; value = 0 } ≡ mark_of (constant_from f v)
-  unfolding constant_from flavour_of value_of
-  from-heterogeneous e = rw e
-
-  pub from-other : (f ≡ 3 → ⊥) → (f ≡ 2 → ⊥) → (f ≡ 1 → ⊥) → record { flavour = 0; value = 0 } ≡ mark_of (constant_from f v)
-  unfolding constant_from flavour_of value_of
-  from-other a b c = rw (ne_eqb f 1 c, ne_eqb f 2 b, ne_eqb f 3 a)
-
--- a uniform constant stays
-taken-kept : (c d : Constant) → 2 ≤ flavour_of c → taken c d ≡ c
-unfolding taken
-taken-kept c no_constant l = refl
-taken-kept c heterogeneous l = rw (uniform-high c l)
-taken-kept c unknown l = rw (uniform-high c l)
-taken-kept c (known v) l = rw (uniform-high c l)
-
--- none takes nothing's place
-taken_none : (c d : Constant) → flavour_of d ≡ 0 → taken c d ≡ c
-unfolding taken flavour_of
-taken_none c no_constant e = refl
-taken_none c heterogeneous e = absurd (omega arith)
-taken_none c unknown e = absurd (omega arith)
-taken_none c (known v) e = absurd (omega arith)
-
--- any other is taken over one that is not uniform
-taken-new : (c d : Constant) → flavour_of c < 2 → (flavour_of d ≡ 0 → ⊥) → taken c d ≡ d
-unfolding taken flavour_of
-taken-new c no_constant l e = absurd (e refl)
-taken-new c heterogeneous l e = rw (uniform-low c l)
-taken-new c unknown l e = rw (uniform-low c l)
-taken-new c (known v) l e = rw (uniform-low c l)
-
--- the same of marks
-module _ (c d : Constant) (m n : Mark) (p : m ≡ mark_of c) (q : n ≡ mark_of d) where
-  flavour-m : m.flavour ≡ flavour_of c
-  flavour-m = ap (λ (x : Mark). x.flavour) p
-
-  flavour-n : n.flavour ≡ flavour_of d
-  flavour-n = ap (λ (x : Mark). x.flavour) q
-
-  pub over-uniform : 2 ≤ m.flavour → m ≡ mark_of (taken c d)
-  over-uniform l = p ∙ ap mark_of (sym (taken-kept c d (omega (arith, flavour-m))))
-
-  pub over_none : n.flavour ≡ 0 → m ≡ mark_of (taken c d)
-  over_none e = p ∙ ap mark_of (sym (taken_none c d (omega (arith, flavour-n))))
-
-  pub over-other : m.flavour < 2 → (n.flavour ≡ 0 → ⊥) → n ≡ mark_of (taken c d)
-  over-other l e = q ∙ ap mark_of (sym (taken-new c d (omega (arith, flavour-m)) (λ z. e (flavour-n ∙ z))))

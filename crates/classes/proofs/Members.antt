@@ -1,7 +1,8 @@
 -- Whether an expression is among members, and in which class of a struct.
 use Prim.Native.Nat.{ℕ, zero, suc, ◌+◌, ◌-◌, ◌<◌, ◌≤◌}
 use mathlib.Core.Bool.{Bool, true, false, ◌||◌}
-use mathlib.Core.List.{[], ◌∷◌}
+use Rattle.std.specs.List.{list_any}
+use mathlib.Core.List.{List, [], ◌∷◌}
 use mathlib.Core.Path.{◌≡◌, refl, sym, ap, ◌∙◌, subst}
 use native.Mathlib.Numerals.{add-one}
 use native.Mathlib.Decide.{ℕ_discrete}
@@ -49,6 +50,12 @@ module _ (e : ℕ) (f : ℕ → ℕ) where
   -- the end
   pub among-ends : (n k : ℕ) → k ≤ n → n ≤ k → among e (table f k) ≡ false → false ≡ among e (table f n)
   among-ends n k a b h = let s : k ≡ n = omega arith in sym (rw s at h)
+
+-- the same as the library's search of a slice
+pub among-any : (e : ℕ) (xs : List ℕ) → among e xs ≡ list_any (λ y. eqb y e) xs
+unfolding among
+among-any e [] = refl
+among-any e (x ∷ xs) = rw (among-any e xs)
 
 -- class i holds an expression
 abbrev pub Holds : Group → ℕ → ℕ → Bool

@@ -1,10 +1,9 @@
 -- Where expressions stand: how often a number is among the members, the class of an expression, and what a class removed, changed or added comes to.
-use Rattle.std.specs.Prelude.{if◌then◌else◌}
+use Rattle.std.specs.Prelude.{if◌then◌else◌, Option, None, Some}
 use Prim.Native.Nat.{ℕ, zero, suc, ◌+◌, ◌-◌, ◌<◌, ◌≤◌}
 use mathlib.Core.Bool.{Bool, true, false, ◌||◌}
 use mathlib.Core.List.{List, [], ◌∷◌, ◌++◌}
 use mathlib.Core.Logic.{◌⊎◌, inl, inr}
-use mathlib.Core.Option.{Option, none, some}
 use mathlib.Core.Path.{◌≡◌, refl, sym, ap, ◌∙◌, subst}
 use native.Mathlib.Decide.{ℕ_discrete, dec_lt}
 use native.Mathlib.Omega.{arith}
@@ -282,34 +281,34 @@ one_class cs o e i j a b h g = go (ℕ_discrete j i) (dec_lt i j)
     go (no q) (no l) = absurd (omega (arith, class_twice cs e j i (omega arith) a g h, o e))
 
 -- what the class of an expression is
-pub class_of-some : (cs : List Class) (e i : ℕ) → class_of cs e ≡ some i → (i < length cs) × (among e (class_at cs i).members ≡ true)
+pub class_of-some : (cs : List Class) (e i : ℕ) → class_of cs e ≡ Some i → (i < length cs) × (among e (class_at cs i).members ≡ true)
 unfolding class_of
 class_of-some cs e i q = let f = first_some (λ (j : ℕ). among e (class_at cs j).members) (length cs) i q in (f.below, f.passes)
 
-pub class_of-none : (cs : List Class) (e : ℕ) → class_of cs e ≡ none → counts e cs ≡ 0
+pub class_of-none : (cs : List Class) (e : ℕ) → class_of cs e ≡ None → counts e cs ≡ 0
 unfolding class_of
 class_of-none cs e q =
     sum-zero (λ (c : Class). count e c.members) cs nothing
     (λ i l. among-never e (class_at cs i).members (first-none (λ (j : ℕ). among e (class_at cs j).members) (length cs) q i l))
 
-pub class_of-missing : (cs : List Class) (e : ℕ) → counts e cs ≡ 0 → class_of cs e ≡ none
+pub class_of-missing : (cs : List Class) (e : ℕ) → counts e cs ≡ 0 → class_of cs e ≡ None
 unfolding class_of
 class_of-missing cs e q =
     first-missing (λ (j : ℕ). among e (class_at cs j).members) (length cs)
     (λ i l. never-among e (class_at cs i).members (omega (arith, sum-at (λ (c : Class). count e c.members) cs i nothing l)))
 
-pub class_of-one : (cs : List Class) → Once cs → (e i : ℕ) → i < length cs → among e (class_at cs i).members ≡ true → class_of cs e ≡ some i
+pub class_of-one : (cs : List Class) → Once cs → (e i : ℕ) → i < length cs → among e (class_at cs i).members ≡ true → class_of cs e ≡ Some i
 unfolding class_of
 class_of-one cs o e i l h = first-only (λ (j : ℕ). among e (class_at cs j).members) (length cs) i l h (λ j b g. one_class cs o e i j l b h g)
 
 -- the same in the words of Good: the class of an expression is unique
-pub class_of-only : (cs : List Class) → Distinct (flat cs) → (e i : ℕ) → i < length cs → among e (class_at cs i).members ≡ true → class_of cs e ≡ some i
+pub class_of-only : (cs : List Class) → Distinct (flat cs) → (e i : ℕ) → i < length cs → among e (class_at cs i).members ≡ true → class_of cs e ≡ Some i
 class_of-only cs d e i l h = class_of-one cs (distinct-once cs d) e i l h
 
-pub class_of-none-flat : (cs : List Class) (e : ℕ) → class_of cs e ≡ none → among e (flat cs) ≡ false
+pub class_of-none-flat : (cs : List Class) (e : ℕ) → class_of cs e ≡ None → among e (flat cs) ≡ false
 class_of-none-flat cs e q = never-among e (flat cs) (count-flat e cs ∙ class_of-none cs e q)
 
-pub flat-class_of-none : (cs : List Class) (e : ℕ) → among e (flat cs) ≡ false → class_of cs e ≡ none
+pub flat-class_of-none : (cs : List Class) (e : ℕ) → among e (flat cs) ≡ false → class_of cs e ≡ None
 flat-class_of-none cs e q = class_of-missing cs e (sym (count-flat e cs) ∙ among-never e (flat cs) q)
 
 -- a class has it: it is among all members
@@ -321,8 +320,8 @@ pub flat-class : (cs : List Class) (e : ℕ) → among e (flat cs) ≡ true → 
 flat-class cs e h = go (class_of cs e) refl
   where
     go : (o : Option ℕ) → class_of cs e ≡ o → (i : ℕ) × (i < length cs) × (among e (class_at cs i).members ≡ true)
-    go none q = absurd (true_not_false h (class_of-none-flat cs e q))
-    go (some i) q = let f = class_of-some cs e i q in (i, f.0, f.1)
+    go None q = absurd (true_not_false h (class_of-none-flat cs e q))
+    go (Some i) q = let f = class_of-some cs e i q in (i, f.0, f.1)
 
 -- a class removed
 pub removed-gap : (cs : List Class) (i : ℕ) → i < length cs - 1 → class_at (removed cs i) i ≡ class_at cs (length cs - 1)

@@ -10,12 +10,10 @@ use lib.Seq.{take-suc, take_all, length-take-le, map-set_same, get_or_at, set_at
 use Rattle.classes.specs.Class.{Constant, Class, taken, merged}
 use Rattle.classes.specs.Group.{class_at, total, removed, merged_at, constant_at}
 use Rattle.classes.specs.Good.{flat}
-use Rattle.classes.specs.Layout.{constant_from, padded, encode, sum_to, decode}
-use Rattle.classes.specs.Inner.{Coded, Room, mark_of}
+use Rattle.classes.specs.Layout.{flavour_of, value_of, padded, encode, sum_to, decode}
+use Rattle.classes.specs.Inner.{Coded, Room}
 use Rattle.classes.specs.declared.Group.{Group}
-use Rattle.classes.specs.declared.Mark.{Mark}
 use Rattle.classes.proofs.Codec.{size_of, flavour_in, value_in, set-padded, snoc_padded, paste-padded, map-append, map-set, flat_append, total-take, total-front, built-count, built-used, built-limit, built-classes, built-coded, length-decode, used-is, sizes-is, flavours-is, values-is, members-is, size_is, flavour-is, value-is, class-ends, class-inside, members-cut}
-use Rattle.classes.proofs.Marks.{mark-constant}
 use Rattle.classes.proofs.Places.{nothing, length-flat, flat-same, total-same, total-more, total-merged_at, removed-gap, removed-other}
 
 -- a column with one number more
@@ -123,30 +121,29 @@ module _ (out src : Group) (j : ℕ) (r : Room out src j) where
       held = omega (arith, total-more (decode out) came, came-size, used-is out v)
 
   -- a group with a class merged into its last
-  pub merge_made : (start : ℕ) (ms : List ℕ) (m a b : Mark) → 0 < out.count → start ≡ sum_to src.sizes j
+  pub merge_made : (start : ℕ) (ms : List ℕ) (f w : ℕ) (k a b : Constant) → 0 < out.count → start ≡ sum_to src.sizes j
       → ms ≡ paste out.members out.used (drop start src.members) (get_or src.sizes j 0)
-      → a ≡ mark_of (class_at (decode out) (out.count - 1)).constant → b ≡ mark_of came.constant
-      → m ≡ mark_of (taken (constant_from a.flavour a.value) (constant_from b.flavour b.value))
+      → a ≡ (class_at (decode out) (out.count - 1)).constant → b ≡ came.constant → k ≡ taken a b → f ≡ flavour_of k → w ≡ value_of k
       → ◌≡◌ {A = Group}
       (record {
         limit = out.limit;
         count = out.count;
         used = out.used + get_or src.sizes j 0;
         sizes = set out.sizes (out.count - 1) (get_or out.sizes (out.count - 1) 0 + get_or src.sizes j 0);
-        flavours = set out.flavours (out.count - 1) m.flavour;
-        values = set out.values (out.count - 1) m.value;
+        flavours = set out.flavours (out.count - 1) f;
+        values = set out.values (out.count - 1) w;
         members = ms;
       })
       (encode out.limit (merged_at (decode out) (out.count - 1) came))
   unfolding encode merged_at merged
-  merge_made start ms m a b l p q s t w = λ i.
+  merge_made start ms f w k a b l p q s t u x y = λ i.
       record {
         limit = out.limit;
         count = counted i;
         used = held i;
         sizes = column-set size_of cs at c out.sizes (get_or out.sizes at 0 + get_or src.sizes j 0) (sizes-is out v) grown inside i;
-        flavours = column-set flavour_in cs at c out.flavours m.flavour (flavours-is out v) (ap (λ (x : Mark). x.flavour) over) inside i;
-        values = column-set value_in cs at c out.values m.value (values-is out v) (ap (λ (x : Mark). x.value) over) inside i;
+        flavours = column-set flavour_in cs at c out.flavours f (flavours-is out v) (x ∙ ap flavour_of over) inside i;
+        values = column-set value_in cs at c out.values w (values-is out v) (y ∙ ap value_of over) inside i;
         members = (members-came start ms p q ∙ ap (padded 256) (sym (flat-last cs at came last))) i;
       }
     where
@@ -177,8 +174,8 @@ module _ (out src : Group) (j : ℕ) (r : Room out src j) where
       grown : get_or out.sizes (out.count - 1) 0 + get_or src.sizes j 0 ≡ length ((class_at (decode out) (out.count - 1)).members ++ came.members)
       grown = omega (arith, size_is out v (out.count - 1), came-size, length-append (class_at (decode out) (out.count - 1)).members came.members)
 
-      over : m ≡ mark_of (taken (class_at (decode out) (out.count - 1)).constant came.constant)
-      over = w ∙ ap₂ (λ (x y : Constant). mark_of (taken x y)) (mark-constant a (class_at (decode out) (out.count - 1)).constant s) (mark-constant b came.constant t)
+      over : k ≡ taken (class_at (decode out) (out.count - 1)).constant came.constant
+      over = u ∙ ap₂ taken s t
 
 -- a group with another constant for a class
 module _ (g : Group) (v : Coded g) (i : ℕ) (k : Constant) where
@@ -208,24 +205,24 @@ module _ (g : Group) (v : Coded g) (i : ℕ) (k : Constant) where
       }
 
 -- a group with a constant over that of a class
-pub constant-made : (g : Group) (i : ℕ) (d : Constant) (m a : Mark) → Coded g → i < g.count
-    → a ≡ mark_of (class_at (decode g) i).constant → m ≡ mark_of (taken (constant_from a.flavour a.value) d)
+pub constant-made : (g : Group) (i : ℕ) (d : Constant) (f w : ℕ) (n a : Constant) → Coded g → i < g.count
+    → a ≡ (class_at (decode g) i).constant → n ≡ taken a d → f ≡ flavour_of n → w ≡ value_of n
     → ◌≡◌ {A = Group}
     (record {
       limit = g.limit;
       count = g.count;
       used = g.used;
       sizes = g.sizes;
-      flavours = set g.flavours i m.flavour;
-      values = set g.values i m.value;
+      flavours = set g.flavours i f;
+      values = set g.values i w;
       members = g.members;
     })
     (encode g.limit (constant_at (decode g) i d))
 unfolding constant_at
-constant-made g i d m a v l s w =
-    constant-put g v i k (set g.flavours i m.flavour) (set g.values i m.value)
-    (column-set flavour_in (decode g) i c g.flavours m.flavour (flavours-is g v) (ap (λ (x : Mark). x.flavour) over) inside)
-    (column-set value_in (decode g) i c g.values m.value (values-is g v) (ap (λ (x : Mark). x.value) over) inside)
+constant-made g i d f w n a v l s u x y =
+    constant-put g v i k (set g.flavours i f) (set g.values i w)
+    (column-set flavour_in (decode g) i c g.flavours f (flavours-is g v) (x ∙ ap flavour_of over) inside)
+    (column-set value_in (decode g) i c g.values w (values-is g v) (y ∙ ap value_of over) inside)
   where
     k : Constant
     k = taken (class_at (decode g) i).constant d
@@ -236,8 +233,8 @@ constant-made g i d m a v l s w =
     inside : i < length (decode g)
     inside = omega (arith, length-decode g)
 
-    over : m ≡ mark_of (taken (class_at (decode g) i).constant d)
-    over = w ∙ ap (λ (x : Constant). mark_of (taken x d)) (mark-constant a (class_at (decode g) i).constant s)
+    over : n ≡ taken (class_at (decode g) i).constant d
+    over = u ∙ ap (λ (x : Constant). taken x d) s
 
 -- a group that is built class by class
 module _ (l : ℕ) (rs : List Class) (few : length rs ≤ 64) (small : total rs ≤ 256) where

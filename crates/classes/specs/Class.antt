@@ -1,13 +1,8 @@
 -- A class: its members in order of arrival, and a constant.
 use Rattle.std.specs.Prelude.{ℕ, Bool, true, false, List, [], ◌∷◌, ◌++◌, eqb, if◌then◌else◌}
+pub use Rattle.classes.specs.declared.Constant.{Constant}
+pub use Rattle.classes.specs.declared.Constant.TheVariants.{NoConstant as no_constant, Heterogeneous as heterogeneous, Unknown as unknown, Known as known}
 use Rattle.arena.specs.Node.{Node, column, literal, operation, node_at}
-
--- a constant: none, one value a partition, one value throughout that is not known, one value throughout
-pub data Constant : Type 0 where
-  no_constant : Constant
-  heterogeneous : Constant
-  unknown : Constant
-  known : (value : ℕ) → Constant
 
 -- a class: its members in order, and its constant
 pub record Class : Type 0 where

@@ -1,8 +1,7 @@
 -- A group is a list of classes. What document 01 says of it, in its order: the class of an expression, an equal condition, a constant, a gap, clearing.
 use Prim.Native.Nat.{ℕ, zero, suc, ◌+◌, ◌-◌, ◌<◌, ◌≤◌, min, max}
-use Rattle.std.specs.Prelude.{Bool, true, false, ◌||◌, ◌≡◌, eqb, get_or, take, if◌then◌else◌}
+use Rattle.std.specs.Prelude.{Bool, true, false, ◌||◌, ◌≡◌, eqb, get_or, take, if◌then◌else◌, Option, None, Some}
 use mathlib.Core.List.{List, [], ◌∷◌, ◌++◌}
-use Rattle.std.proofs.Math.Option.{Option, none, some}
 use Rattle.std.proofs.Math.Path.{ap}
 use Rattle.std.proofs.Common.{◌∙◌, length-take-le}
 use native.Mathlib.Omega.{arith}
@@ -29,10 +28,10 @@ unfoldable pub same_class : List Class → ℕ → ℕ → Bool
 same_class cs a b = same_place (class_of cs a) (class_of cs b)
   where
     same_place : Option ℕ → Option ℕ → Bool
-    same_place none none = false
-    same_place none (some j) = false
-    same_place (some i) none = false
-    same_place (some i) (some j) = eqb i j
+    same_place None None = false
+    same_place None (Some j) = false
+    same_place (Some i) None = false
+    same_place (Some i) (Some j) = eqb i j
 
 -- one class of a list holds both, also of a list whose classes overlap
 pub record Together (cs : List Class) (x y : ℕ) : Type 0 where
@@ -70,10 +69,10 @@ joined cs i j = merged_at (removed cs (max i j)) (min i j) (class_at cs (max i j
 
 -- an equal condition, where the classes of both are known: whether a new class was made, and the classes afterwards
 unfoldable pub equated : List Node → List Class → ℕ → ℕ → Option ℕ → Option ℕ → Bool × List Class
-equated ns cs a b none none = (true, cs ++ (pair ns a b ∷ []))
-equated ns cs a b none (some j) = (false, merged_at cs j (single ns a))
-equated ns cs a b (some i) none = (false, merged_at cs i (single ns b))
-equated ns cs a b (some i) (some j) = (false, if eqb i j then cs else joined cs i j)
+equated ns cs a b None None = (true, cs ++ (pair ns a b ∷ []))
+equated ns cs a b None (Some j) = (false, merged_at cs j (single ns a))
+equated ns cs a b (Some i) None = (false, merged_at cs i (single ns b))
+equated ns cs a b (Some i) (Some j) = (false, if eqb i j then cs else joined cs i j)
 
 -- an equal condition of two expressions, by the classes that they are in
 unfoldable pub equal_condition : List Node → List Class → ℕ → ℕ → Bool × List Class
@@ -89,17 +88,17 @@ constant_at cs i c = set cs i (record { members = (class_at cs i).members; const
 
 -- the first class with an equal constant, for a uniform one
 unfoldable pub class_like : Bool → List Class → Constant → Option ℕ
-class_like two cs c = if is_uniform c then first (λ i. same_constant two (class_at cs i).constant c) (length cs) else none
+class_like two cs c = if is_uniform c then first (λ i. same_constant two (class_at cs i).constant c) (length cs) else None
 
 -- a nonmember: to the class that was found, else a new class
 unfoldable pub constant_for : List Class → ℕ → Constant → Option ℕ → List Class
-constant_for cs e c (some i) = merged_at cs i (record { members = e ∷ []; constant = no_constant })
-constant_for cs e c none = cs ++ (record { members = e ∷ []; constant = c } ∷ [])
+constant_for cs e c (Some i) = merged_at cs i (record { members = e ∷ []; constant = no_constant })
+constant_for cs e c None = cs ++ (record { members = e ∷ []; constant = c } ∷ [])
 
 -- a constant, where the expression's class is known; `two` says whether two unknown uniforms count as equal
 unfoldable pub constant_in : Bool → List Class → ℕ → Constant → Option ℕ → List Class
-constant_in two cs e c (some i) = constant_at cs i c
-constant_in two cs e c none = constant_for cs e c (class_like two cs c)
+constant_in two cs e c (Some i) = constant_at cs i c
+constant_in two cs e c None = constant_for cs e c (class_like two cs c)
 
 -- a constant that is said of an expression, by the class that it is in
 unfoldable pub with_constant : Bool → List Node → List Class → ℕ → Constant → List Class

@@ -1,24 +1,15 @@
 -- What the inner functions ask and promise each other, here and in the crates above. The public contracts cite nothing of this file.
 use Rattle.std.specs.Prelude.{ℕ, ◌+◌, ◌<◌, ◌≤◌, List, ◌≡◌, get_or}
-use Rattle.std.proofs.Math.Option.{Option, none, some}
 use Rattle.arena.specs.Node.{Node}
 use Rattle.classes.specs.Good.{Good}
 use Rattle.classes.specs.Layout.{encode, decode}
-pub use Rattle.classes.specs.Layout.{mark_of}
 use Rattle.classes.specs.declared.Group.{Group}
-use Rattle.classes.specs.declared.Place.{Place}
-use Rattle.classes.specs.declared.Place.TheVariants.{At, Nowhere}
 
 -- the struct is the layout of its classes, which are few
 pub record Coded (g : Group) : Type 0 where
   pub coded : encode g.limit (decode g) ≡ g
   pub few : g.count ≤ 64
   pub small : g.used ≤ 256
-
--- the answer of a search
-abbrev pub place_of : Option ℕ → Place
-place_of (some i) = At i
-place_of none = Nowhere
 
 -- class j can be put at the end of a group
 pub record Room (out src : Group) (j : ℕ) : Type 0 where

@@ -9,7 +9,6 @@ use Rattle.classes.specs.Class.{Constant, no_constant, heterogeneous, unknown, k
 use Rattle.classes.specs.Group.{total}
 use Rattle.classes.specs.Good.{flat}
 use Rattle.classes.specs.declared.Group.{Group}
-use Rattle.classes.specs.declared.Mark.{Mark}
 
 -- the flavour of a constant
 unfoldable pub flavour_of : Constant → ℕ
@@ -24,10 +23,6 @@ value_of no_constant = 0
 value_of heterogeneous = 0
 value_of unknown = 0
 value_of (known v) = v
-
--- a constant as the code has it
-abbrev pub mark_of : Constant → Mark
-mark_of c = record { flavour = flavour_of c; value = value_of c }
 
 -- a flavour and a value as a constant
 unfoldable pub constant_from : ℕ → ℕ → Constant

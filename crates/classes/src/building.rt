@@ -2,19 +2,19 @@
 // class into the last, one sets a constant. The others rebuild a group from those.
 ghost use Rattle.std.specs.Prelude.{◌≡◌, [], ◌∷◌, ◌++◌, ◌≤◌, ◌<◌, ◌+◌, ◌-◌, length, get_or, set, drop};
 ghost use Rattle.std.proofs.Math.Seq.{paste};
-ghost use Rattle.classes.specs.Class.{taken, merged};
+ghost use Rattle.classes.specs.Class.{merged};
 ghost use Rattle.classes.specs.Group.{class_at, merged_at, removed, constant_at};
-ghost use Rattle.classes.specs.Layout.{encode, decode, sum_to, constant_from};
-ghost use Rattle.classes.specs.Inner.{Coded, Room, mark_of};
+ghost use Rattle.classes.specs.Layout.{encode, decode, sum_to};
+ghost use Rattle.classes.specs.Inner.{Coded, Room};
 
-use crate::{Group, Mark};
+use crate::{Constant, Group};
 
 // The empty group: every table starts from a repeated 0.
 pub fn empty(limit: usize) -> Group
     ensures { result ≡ encode limit [] }
 {
     Group {
-        limit: limit,
+        limit,
         count: 0,
         used: 0,
         sizes: [0usize; 64],
@@ -30,10 +30,8 @@ pub fn class_start(sizes: [usize; 64], j: usize) -> usize
     ensures { result ≡ sum_to sizes j }
 {
     let mut sum = 0;
-    let mut i = 0;
-    while i < j {
+    for i in 0..j {
         sum += sizes[i];
-        i += 1;
     }
     sum
 }
@@ -44,63 +42,16 @@ fn copy_members(to: [u32; 256], at: usize, from: [u32; 256], start: usize, n: us
     ensures { result ≡ paste to at (drop start from) n }
 {
     let mut out = to;
-    let mut k = 0;
-    while k < n {
-        out[at + k] = from[start + k];
-        k += 1;
-    }
+    out[at..at + n].copy_from_slice(&from[start..start + n]);
     out
 }
 
-// The constant that a class has once another is merged in: the other's over none or a heterogeneous one.
-pub fn taken_over(old: Mark, new: Mark) -> Mark
-    ensures { result ≡ mark_of (taken (constant_from old.flavour old.value) (constant_from new.flavour new.value)) }
-{
-    let had = mark_from(old);
-    let given = mark_from(new);
-    if 2 <= had.flavour {
-        return had;
-    }
-    if given.flavour == 0 {
-        return had;
-    }
-    given
-}
-
-// The constant that a flavour and a value say: a value stands only where one is known, and any other flavour is none.
-pub fn mark_from(m: Mark) -> Mark
-    ensures { result ≡ mark_of (constant_from m.flavour m.value) }
-{
-    if m.flavour == 3 {
-        return m;
-    }
-    if m.flavour == 2 {
-        return Mark {
-            flavour: 2,
-            value: 0,
-        };
-    }
-    if m.flavour == 1 {
-        return Mark {
-            flavour: 1,
-            value: 0,
-        };
-    }
-    Mark {
-        flavour: 0,
-        value: 0,
-    }
-}
-
 // The constant of class i.
-pub fn mark_of(g: Group, i: usize) -> Mark
+pub fn constant_of(g: Group, i: usize) -> Constant
     requires { Coded g × (i < g.count) }
-    ensures { result ≡ mark_of (class_at (decode g) i).constant }
+    ensures { result ≡ (class_at (decode g) i).constant }
 {
-    Mark {
-        flavour: g.flavours[i],
-        value: g.values[i],
-    }
+    Constant::from_numbers(g.flavours[i], g.values[i])
 }
 
 // A group with class j of another at its end.
@@ -138,7 +89,7 @@ pub fn merge_last(out: Group, src: Group, j: usize) -> Group
     let start = class_start(sizes, j);
     let last = out.count - 1;
     let used = out.used;
-    let mark = taken_over(mark_of(out, last), mark_of(src, j));
+    let constant = constant_of(out, last).taken_over(constant_of(src, j));
     let to = out.members;
     let from = src.members;
     let members = copy_members(to, used, from, start, size);
@@ -146,21 +97,21 @@ pub fn merge_last(out: Group, src: Group, j: usize) -> Group
     let mut next = out;
     next.members = members;
     next.sizes[last] = grown;
-    next.flavours[last] = mark.flavour;
-    next.values[last] = mark.value;
+    next.flavours[last] = constant.flavour();
+    next.values[last] = constant.value();
     next.used = used + size;
     next
 }
 
 // A group with a constant over that of class i.
-pub fn set_constant(g: Group, i: usize, new: Mark) -> Group
+pub fn set_constant(g: Group, i: usize, new: Constant) -> Group
     requires { Coded g × (i < g.count) }
-    ensures { result ≡ encode g.limit (constant_at (decode g) i (constant_from new.flavour new.value)) }
+    ensures { result ≡ encode g.limit (constant_at (decode g) i new) }
 {
-    let mark = taken_over(mark_of(g, i), new);
+    let constant = constant_of(g, i).taken_over(new);
     let mut next = g;
-    next.flavours[i] = mark.flavour;
-    next.values[i] = mark.value;
+    next.flavours[i] = constant.flavour();
+    next.values[i] = constant.value();
     next
 }
 
@@ -171,11 +122,8 @@ pub fn remove_class_at_idx(g: Group, i: usize) -> Group
 {
     let last = g.count - 1;
     let mut out = empty(g.limit);
-    let mut k = 0;
-    while k < last {
-        let next = k + 1;
+    for k in 0..last {
         out = add_class(out, g, moved_place(k, i, last));
-        k = next;
     }
     out
 }
@@ -184,10 +132,7 @@ pub fn remove_class_at_idx(g: Group, i: usize) -> Group
 fn moved_place(k: usize, i: usize, last: usize) -> usize
     ensures { (k ≡ i → result ≡ last) × ((k ≡ i → ⊥) → result ≡ k) }
 {
-    if i == k {
-        return last;
-    }
-    k
+    if i == k { last } else { k }
 }
 
 // The next class of a group in which class j of another is merged into class i.
@@ -209,10 +154,8 @@ pub fn merge_class_at_idx(g: Group, i: usize, src: Group, j: usize) -> Group
     ensures { result ≡ encode g.limit (merged_at (decode g) i (class_at (decode src) j)) }
 {
     let mut out = empty(g.limit);
-    let mut k = 0;
-    while k < g.count {
+    for k in 0..g.count {
         out = add_merged(out, g, k, i, src, j);
-        k += 1;
     }
     out
 }

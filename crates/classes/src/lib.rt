@@ -10,12 +10,16 @@
 #![tactic(auto)]
 
 pub mod building;
+pub mod constants;
 pub mod finding;
 pub mod refusing;
 pub mod single;
 
+use arena::Refusal;
+
 // A group: its member limit, the number of its classes and of all members, and the tables. The members of all
 // classes stand in class order in one table; unused places are 0.
+// Flat arrays with counts: a state crosses to its callers as these numbers, and the project has no heap.
 #[derive(Clone, Copy)]
 pub struct Group {
     pub limit: usize,
@@ -27,25 +31,19 @@ pub struct Group {
     pub members: [u32; 256],
 }
 
-// A constant: flavour 0 none, 1 heterogeneous, 2 uniform unknown, 3 uniform with a value; the value is 0 but
-// for flavour 3.
-#[derive(Clone, Copy)]
-pub struct Mark {
-    pub flavour: u32,
-    pub value: u32,
+// A constant: none, one value a partition, one value throughout that is not known, one value throughout. A group has its
+// flavour (0, 1, 2, 3 in this order) and its value, 0 where none is known, in two tables.
+#[derive(Clone, Copy, Debug, PartialEq, Eq)]
+pub enum Constant {
+    NoConstant,
+    Heterogeneous,
+    Unknown,
+    Known(u32),
 }
 
-// What a call that changes a group answers: the refusal's number or 0, the answer, and the group afterwards.
+// What a call that changes a group answers, and the group afterwards: on a refusal the group as it was.
 #[derive(Clone, Copy)]
 pub struct Changed {
-    pub number: u32,
-    pub answer: bool,
+    pub answer: Result<bool, Refusal>,
     pub group: Group,
-}
-
-// What a search for a class answers.
-#[derive(Clone, Copy)]
-pub enum Place {
-    At(usize),
-    Nowhere,
 }

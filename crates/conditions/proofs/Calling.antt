@@ -8,8 +8,10 @@ use borrow.Author.Tests.{eq-eqb, ne_eqb, lt-ltb, le-ltb, le-leb, leb-true, eqb-t
 use lib.Dec.{leb, eqb}
 use lib.ListN.{length}
 use Rattle.laws.proofs.Booleans.{and_left, and_right}
+use Rattle.arena.specs.declared.Refusal.TheVariants.{BadNumber}
 use Rattle.arena.specs.Node.{Node}
-use Rattle.classes.specs.Class.{Class, Constant}
+use Rattle.classes.specs.declared.Constant.{Constant}
+use Rattle.classes.specs.Class.{Class}
 use Rattle.classes.specs.Group.{equal_condition, with_constant}
 use Rattle.classes.specs.Steps.{refused, judged}
 use Rattle.classes.specs.Layout.{constant_from, known_flavour}
@@ -71,6 +73,6 @@ module _ (cells : List ℕ) (g : Group) (e flavour value : ℕ) where
   unfolding on_constant
   constant-said s = rw s
 
-  pub constant_unsaid : sayable flavour value ≡ false → on_constant e flavour value cells g ≡ handed_back 12 g
+  pub constant_unsaid : sayable flavour value ≡ false → on_constant e flavour value cells g ≡ handed_back BadNumber g
   unfolding on_constant
   constant_unsaid s = rw s

@@ -1,4 +1,5 @@
 -- Clearing on the struct: which turn a class takes, and what each turn leaves.
+use Rattle.std.specs.Prelude.{Ok}
 use Prim.Native.Nat.{ℕ, ◌+◌, ◌-◌, ◌<◌, ◌≤◌}
 use mathlib.Core.Bool.{Bool, true, false}
 use mathlib.Core.List.{List, map}
@@ -7,10 +8,12 @@ use native.Mathlib.Omega.{arith}
 use borrow.Author.Tests.{eq-eqb, ne_eqb}
 use lib.ListN.{length, get_or, set}
 use lib.Seq.{map-set_same}
-use Rattle.classes.specs.Class.{Constant, no_constant, heterogeneous, unknown, known, Class}
+use Rattle.classes.specs.declared.Constant.{Constant}
+use Rattle.classes.specs.declared.Constant.TheVariants.{NoConstant as no_constant, Heterogeneous as heterogeneous, Unknown as unknown, Known as known}
+use Rattle.classes.specs.Class.{Class}
 use Rattle.classes.specs.Group.{class_at, removed, length_removed, kept, dropped, gone, cleared_by, clear_rest, clear_end, clear_kept, clear-dropped, clear-gone, cleared}
 use Rattle.classes.specs.Layout.{flavour_of, value_of, padded, encode, decode}
-use Rattle.classes.specs.Calls.{changed}
+use Rattle.classes.specs.Calls.{changed, answer_of}
 use Rattle.classes.specs.Inner.{Coded}
 use Rattle.classes.specs.declared.Group.{Group}
 use Rattle.classes.specs.declared.Changed.{Changed}
@@ -131,8 +134,8 @@ clear-begins g = refl
 
 -- and ends after the last
 pub clear-ends : (g h : Group) (i : ℕ) (b : Bool) → Coded h → h.limit ≡ g.limit → h.count ≤ i → cleared (decode g) ≡ clear_rest i b (decode h)
-    → ◌≡◌ {A = Changed} (record { number = 0; answer = b; group = h }) (changed g.limit (clear (decode g)))
-unfolding changed clear
+    → ◌≡◌ {A = Changed} (record { answer = Ok b; group = h }) (changed g.limit (clear (decode g)))
+unfolding changed clear answer_of
 clear-ends g h i b v e l p =
     let q : cleared (decode g) ≡ (b, decode h) = p ∙ clear_end i b (decode h) (omega (arith, length-decode h)) in
-    rw (q, ← e) (λ t. record { number = 0; answer = b; group = sym v.coded t })
+    rw (q, ← e) (λ t. record { answer = Ok b; group = sym v.coded t })

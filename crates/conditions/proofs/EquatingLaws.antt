@@ -1,9 +1,8 @@
 -- An equal condition on the struct: two classes joined, and what a call with two expressions comes to.
-use Rattle.std.specs.Prelude.{if◌then◌else◌}
+use Rattle.std.specs.Prelude.{if◌then◌else◌, None, Some}
 use Prim.Native.Nat.{ℕ, ◌+◌, ◌-◌, ◌<◌, ◌≤◌}
 use mathlib.Core.Bool.{true, false}
 use mathlib.Core.List.{List, [], ◌∷◌, ◌++◌}
-use mathlib.Core.Option.{none, some}
 use mathlib.Core.Path.{◌≡◌, sym, ap, ◌∙◌}
 use native.Mathlib.Nat.{max_comm, min_comm, max-eq_right, min-eq_left}
 use native.Mathlib.Decide.{ℕ_discrete, dec_lt}
@@ -12,7 +11,8 @@ use borrow.Author.Tests.{eq-eqb, ne_eqb}
 use lib.Dec.{eqb}
 use lib.ListN.{length, get_or}
 use Rattle.arena.specs.Node.{Node, node_at}
-use Rattle.classes.specs.Class.{Constant, Class, carried, single, merged}
+use Rattle.classes.specs.declared.Constant.{Constant}
+use Rattle.classes.specs.Class.{Class, carried, single, merged}
 use Rattle.classes.specs.Group.{class_at, class_of, total, removed, length_removed, merged_at, pair, joined, equated, equal_condition}
 use Rattle.classes.specs.Steps.{fits}
 use Rattle.classes.specs.Layout.{encode, decode}
@@ -117,19 +117,19 @@ pair-two ns a b n = rw (ne_eqb a b n)
 
 -- what an equal condition says, by the classes of its sides
 module _ (ns : List Node) (cs : List Class) (a b : ℕ) where
-  pub equal-both : (i j : ℕ) → class_of cs a ≡ some i → class_of cs b ≡ some j → equal_condition ns cs a b ≡ (false, (if eqb i j then cs else joined cs i j))
+  pub equal-both : (i j : ℕ) → class_of cs a ≡ Some i → class_of cs b ≡ Some j → equal_condition ns cs a b ≡ (false, (if eqb i j then cs else joined cs i j))
   unfolding equal_condition equated
   equal-both i j p q = rw (p, q)
 
-  pub equal-left : (i : ℕ) → class_of cs a ≡ some i → class_of cs b ≡ none → equal_condition ns cs a b ≡ (false, merged_at cs i (single ns b))
+  pub equal-left : (i : ℕ) → class_of cs a ≡ Some i → class_of cs b ≡ None → equal_condition ns cs a b ≡ (false, merged_at cs i (single ns b))
   unfolding equal_condition equated
   equal-left i p q = rw (p, q)
 
-  pub equal-right : (j : ℕ) → class_of cs a ≡ none → class_of cs b ≡ some j → equal_condition ns cs a b ≡ (false, merged_at cs j (single ns a))
+  pub equal-right : (j : ℕ) → class_of cs a ≡ None → class_of cs b ≡ Some j → equal_condition ns cs a b ≡ (false, merged_at cs j (single ns a))
   unfolding equal_condition equated
   equal-right j p q = rw (p, q)
 
-  pub equal-new : class_of cs a ≡ none → class_of cs b ≡ none → equal_condition ns cs a b ≡ (true, cs ++ (pair ns a b ∷ []))
+  pub equal-new : class_of cs a ≡ None → class_of cs b ≡ None → equal_condition ns cs a b ≡ (true, cs ++ (pair ns a b ∷ []))
   unfolding equal_condition equated
   equal-new p q = rw (p, q)
 

@@ -1,5 +1,6 @@
 -- A call with a constant, over the lent cells and the struct. An equal condition and clearing are a call on a lent group (`onGroup`) with their step.
-use Rattle.std.specs.Prelude.{ℕ, ◌+◌, Bool, true, false, ◌&&◌, ◌||◌, List, eqb, leb, if◌then◌else◌}
+use Rattle.std.specs.Prelude.{ℕ, ◌+◌, Bool, true, ◌&&◌, ◌||◌, List, eqb, leb, if◌then◌else◌, Err}
+use Rattle.arena.specs.declared.Refusal.TheVariants.{BadNumber}
 use Rattle.classes.specs.Layout.{constant_from}
 use Rattle.classes.specs.Calls.{on_group}
 use Rattle.classes.specs.declared.Group.{Group}
@@ -14,4 +15,4 @@ sayable flavour value = leb flavour 2 && (eqb flavour 2 || eqb value 0)
 unfoldable pub on_constant : ℕ → ℕ → ℕ → List ℕ → Group → Changed
 on_constant e flavour value cells g =
     if sayable flavour value then on_group (λ ns cs. add_constant true g.limit ns e (constant_from (flavour + 1) value) cs) cells g
-    else record { number = 12; answer = false; group = g }
+    else record { answer = Err BadNumber; group = g }

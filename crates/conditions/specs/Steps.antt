@@ -2,7 +2,8 @@
 use Rattle.std.specs.Prelude.{ℕ, Bool, false, ◌&&◌, eqb, ltb, length, if◌then◌else◌}
 use mathlib.Core.List.{List, [], ◌∷◌, ◌++◌}
 use Rattle.arena.specs.Node.{Node}
-use Rattle.classes.specs.Class.{Constant, Class}
+use Rattle.classes.specs.declared.Constant.{Constant}
+use Rattle.classes.specs.Class.{Class}
 use Rattle.classes.specs.Group.{equal_condition, with_constant, cleared}
 use Rattle.classes.specs.Steps.{Outcome, judged, refused}
 

@@ -27,7 +27,7 @@ fn clear_step(g: Group, i: usize, changed: bool) -> Clearing
         return Clearing {
             group: g,
             next: i + 1,
-            changed: changed,
+            changed,
         };
     }
     if g.sizes[i] == 1 {
@@ -54,6 +54,7 @@ pub fn clear_in(given: Group) -> Changed
     let mut g = given;
     let mut i = 0;
     let mut any = false;
+    // No count drives this loop: a step may leave the place as it is, where the last class moves into the gap.
     while i < g.count {
         let step = clear_step(g, i, any);
         let rest = step.group;
@@ -62,8 +63,7 @@ pub fn clear_in(given: Group) -> Changed
         any = step.changed;
     }
     Changed {
-        number: 0,
-        answer: any,
+        answer: Ok(any),
         group: g,
     }
 }

@@ -7,13 +7,14 @@ ghost use Rattle.classes.specs.Group.{class_of, merged_at, joined, pair, equal_c
 ghost use Rattle.classes.specs.Steps.{judged};
 ghost use Rattle.classes.specs.Layout.{encode, decode};
 ghost use Rattle.classes.specs.Calls.{changed};
-ghost use Rattle.classes.specs.Inner.{Coded, Held, place_of};
+ghost use Rattle.classes.specs.Inner.{Coded, Held};
 
+use arena::Refusal;
 use classes::building::{add_class, merge_class_at_idx, merge_last, remove_class_at_idx};
 use classes::finding::find_class;
 use classes::refusing::refusal;
 use classes::single::single_group;
-use classes::{Changed, Group, Place};
+use classes::{Changed, Group};
 
 // An expression that no class holds is pushed to class i. Refusal: 4.
 fn push(cells: &[u32; 11265], g: Group, i: usize, e: u32) -> Changed
@@ -21,13 +22,12 @@ fn push(cells: &[u32; 11265], g: Group, i: usize, e: u32) -> Changed
     ensures { result ≡ changed g.limit (judged g.limit (decode g) (false, merged_at (decode g) i (single (nodes cells.now) e))) }
 {
     if g.limit <= g.used {
-        return refusal(4, g);
+        return refusal(Refusal::GroupFull, g);
     }
     let one = single_group(cells, e);
     let more = merge_class_at_idx(g, i, one, 0);
     Changed {
-        number: 0,
-        answer: false,
+        answer: Ok(false),
         group: more,
     }
 }
@@ -61,52 +61,49 @@ fn open_class(cells: &[u32; 11265], g: Group, a: u32, b: u32) -> Changed
     ensures { result ≡ changed g.limit (judged g.limit (decode g) (true, decode g ++ (pair (nodes cells.now) a b ∷ []))) }
 {
     if 64 <= g.count {
-        return refusal(4, g);
+        return refusal(Refusal::GroupFull, g);
     }
     if g.limit <= g.used {
-        return refusal(4, g);
+        return refusal(Refusal::GroupFull, g);
     }
     let one = single_group(cells, a);
     let next = add_class(g, one, 0);
     if a == b {
         return Changed {
-            number: 0,
-            answer: true,
+            answer: Ok(true),
             group: next,
         };
     }
     if g.limit <= g.used + 1 {
-        return refusal(4, g);
+        return refusal(Refusal::GroupFull, g);
     }
     let other = single_group(cells, b);
     Changed {
-        number: 0,
-        answer: true,
+        answer: Ok(true),
         group: merge_last(next, other, 0),
     }
 }
 
 // The equal condition, by the classes of its two sides. Refusal: 4.
-fn equate(cells: &[u32; 11265], g: Group, a: u32, b: u32, left: Place, right: Place) -> Changed
-    requires { (Held (nodes cells.now) g × (Known cells.now a × Known cells.now b)) × ((left ≡ place_of (class_of (decode g) a)) × (right ≡ place_of (class_of (decode g) b))) }
+fn equate(
+    cells: &[u32; 11265],
+    g: Group,
+    a: u32,
+    b: u32,
+    left: Option<usize>,
+    right: Option<usize>,
+) -> Changed
+    requires { (Held (nodes cells.now) g × (Known cells.now a × Known cells.now b)) × ((left ≡ class_of (decode g) a) × (right ≡ class_of (decode g) b)) }
     ensures { result ≡ changed g.limit (judged g.limit (decode g) (equal_condition (nodes cells.now) (decode g) a b)) }
 {
-    match left {
-        Place::At(i) => match right {
-            Place::At(j) => {
-                let both = join(g, i, j);
-                Changed {
-                    number: 0,
-                    answer: false,
-                    group: both,
-                }
-            }
-            Place::Nowhere => push(cells, g, i, b),
+    match (left, right) {
+        (Some(i), Some(j)) => Changed {
+            answer: Ok(false),
+            group: join(g, i, j),
         },
-        Place::Nowhere => match right {
-            Place::At(j) => push(cells, g, j, a),
-            Place::Nowhere => open_class(cells, g, a, b),
-        },
+        (Some(i), None) => push(cells, g, i, b),
+        (None, Some(j)) => push(cells, g, j, a),
+        (None, None) => open_class(cells, g, a, b),
     }
 }
 

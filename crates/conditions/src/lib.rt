@@ -15,9 +15,10 @@ ghost use Rattle.classes.specs.Calls.{on_group};
 ghost use Rattle.conditions.specs.Steps.{add_equal, clear};
 ghost use Rattle.conditions.specs.Calls.{on_constant};
 
+use arena::Refusal;
 use arena::cells::{node_count, wide};
 use classes::refusing::refusal;
-use classes::{Changed, Group, Mark};
+use classes::{Changed, Constant, Group};
 use clearing::clear_in;
 use constants::{add_constant_in, can_say};
 use equating::equal_condition_in;
@@ -27,16 +28,15 @@ use group_checks::checking::check_group;
 pub fn add_equal_conditions(cells: &[u32; 11265], group: Group, left: u32, right: u32) -> Changed
     ensures { result ≡ on_group (λ ns cs. add_equal group.limit ns left right cs) cells.now group }
 {
-    let number = check_group(cells, group);
-    if number != 0 {
-        return refusal(number, group);
+    if let Err(why) = check_group(cells, group) {
+        return refusal(why, group);
     }
     let n = node_count(cells);
     if n <= wide(left) {
-        return refusal(1, group);
+        return refusal(Refusal::UnknownExpression, group);
     }
     if n <= wide(right) {
-        return refusal(1, group);
+        return refusal(Refusal::UnknownExpression, group);
     }
     equal_condition_in(cells, group, left, right)
 }
@@ -53,20 +53,16 @@ pub fn add_constant(
     ensures { result ≡ on_constant expr flavour value cells.now group }
 {
     if !can_say(flavour, value) {
-        return refusal(12, group);
+        return refusal(Refusal::BadNumber, group);
     }
-    let number = check_group(cells, group);
-    if number != 0 {
-        return refusal(number, group);
+    if let Err(why) = check_group(cells, group) {
+        return refusal(why, group);
     }
     let n = node_count(cells);
     if n <= wide(expr) {
-        return refusal(1, group);
+        return refusal(Refusal::UnknownExpression, group);
     }
-    let said = Mark {
-        flavour: flavour + 1,
-        value: value,
-    };
+    let said = Constant::from_numbers(flavour + 1, value);
     add_constant_in(cells, group, expr, said)
 }
 
@@ -75,9 +71,8 @@ pub fn add_constant(
 pub fn clear_per_partition_constants(cells: &[u32; 11265], group: Group) -> Changed
     ensures { result ≡ on_group (λ ns cs. clear cs) cells.now group }
 {
-    let number = check_group(cells, group);
-    if number != 0 {
-        return refusal(number, group);
+    if let Err(why) = check_group(cells, group) {
+        return refusal(why, group);
     }
     clear_in(group)
 }

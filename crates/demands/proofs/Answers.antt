@@ -1,10 +1,9 @@
 -- Facts about "in one class" that hold of every list of classes, and the ways a call can come out.
-use Rattle.std.specs.Prelude.{if◌then◌else◌}
+use Rattle.std.specs.Prelude.{if◌then◌else◌, Option, None, Some}
 use Prim.Native.Nat.{ℕ, ◌<◌}
 use mathlib.Core.Bool.{Bool, true, false, ◌&&◌}
 use mathlib.Core.List.{List, []}
 use mathlib.Core.Logic.{◌⊎◌, inl, inr}
-use mathlib.Core.Option.{Option, none, some}
 use mathlib.Core.Path.{◌≡◌, refl, sym}
 use native.Mathlib.Omega.{arith}
 use borrow.Author.Tests.{eqb-true, eq-eqb, ltb-true}
@@ -13,7 +12,8 @@ use lib.ListN.{length}
 use Rattle.laws.specs.Tests.{first, first_from}
 use Rattle.laws.proofs.Booleans.{and_left, and_right}
 use Rattle.arena.specs.Node.{Node}
-use Rattle.classes.specs.Class.{Constant, Class}
+use Rattle.classes.specs.declared.Constant.{Constant}
+use Rattle.classes.specs.Class.{Class}
 use Rattle.classes.specs.Group.{class_of, equal_condition, with_constant, same_class}
 use Rattle.classes.specs.Steps.{Outcome, refused, fits, judged}
 use Rattle.conditions.specs.Steps.{add_equal, add_constant}
@@ -22,8 +22,8 @@ use Rattle.demands.proofs.Step.{With}
 -- two expressions have one place
 pub record OnePlace (cs : List Class) (x y : ℕ) : Type 0 where
   pub place : ℕ
-  pub left : class_of cs x ≡ some place
-  pub right : class_of cs y ≡ some place
+  pub left : class_of cs x ≡ Some place
+  pub right : class_of cs y ≡ Some place
 
 -- in one class is to have one place, and the other way round
 pub same_place_lem : (cs : List Class) (x y : ℕ) → same_class cs x y ≡ true → OnePlace cs x y
@@ -31,10 +31,10 @@ unfolding same_class
 same_place_lem cs x y h = go (class_of cs x) (class_of cs y) refl refl
   where
     go : (o p : Option ℕ) → class_of cs x ≡ o → class_of cs y ≡ p → OnePlace cs x y
-    go none none e f = absurd (let z : ◌≡◌ {A = ℕ} 0 1 = cc (rw (e, f) at h) in omega arith)
-    go none (some j) e f = absurd (let z : ◌≡◌ {A = ℕ} 0 1 = cc (rw (e, f) at h) in omega arith)
-    go (some i) none e f = absurd (let z : ◌≡◌ {A = ℕ} 0 1 = cc (rw (e, f) at h) in omega arith)
-    go (some i) (some j) e f = let q : i ≡ j = eqb-true i j (rw (e, f) at h) in record { place = i; left = e; right = rw q f }
+    go None None e f = absurd (let z : ◌≡◌ {A = ℕ} 0 1 = cc (rw (e, f) at h) in omega arith)
+    go None (Some j) e f = absurd (let z : ◌≡◌ {A = ℕ} 0 1 = cc (rw (e, f) at h) in omega arith)
+    go (Some i) None e f = absurd (let z : ◌≡◌ {A = ℕ} 0 1 = cc (rw (e, f) at h) in omega arith)
+    go (Some i) (Some j) e f = let q : i ≡ j = eqb-true i j (rw (e, f) at h) in record { place = i; left = e; right = rw q f }
 
 pub place_same : (cs : List Class) (x y : ℕ) → OnePlace cs x y → same_class cs x y ≡ true
 unfolding same_class

@@ -1,10 +1,9 @@
 -- An equal condition puts its two expressions together, and whoever is together through them; all else stays.
-use Rattle.std.specs.Prelude.{if◌then◌else◌}
+use Rattle.std.specs.Prelude.{if◌then◌else◌, Option, None, Some}
 use Prim.Native.Nat.{ℕ, ◌-◌, ◌<◌, ◌≤◌, min, max}
 use mathlib.Core.Bool.{Bool, true, false}
 use mathlib.Core.List.{List, [], ◌∷◌, ◌++◌}
 use mathlib.Core.Logic.{◌⊎◌, inl, inr}
-use mathlib.Core.Option.{Option, none, some}
 use mathlib.Core.Path.{◌≡◌, refl, sym, ap, ◌∙◌, subst}
 use native.Mathlib.Decide.{ℕ_discrete, dec_lt}
 use native.Mathlib.Omega.{arith}
@@ -25,10 +24,10 @@ unfolding same_class
 same_together cs x y h = go (class_of cs x) (class_of cs y) refl refl
   where
     go : (o p : Option ℕ) → class_of cs x ≡ o → class_of cs y ≡ p → Together cs x y
-    go none none q r = absurd (true_not_false (rw (q, r) at h) refl)
-    go none (some j) q r = absurd (true_not_false (rw (q, r) at h) refl)
-    go (some i) none q r = absurd (true_not_false (rw (q, r) at h) refl)
-    go (some i) (some j) q r =
+    go None None q r = absurd (true_not_false (rw (q, r) at h) refl)
+    go None (Some j) q r = absurd (true_not_false (rw (q, r) at h) refl)
+    go (Some i) None q r = absurd (true_not_false (rw (q, r) at h) refl)
+    go (Some i) (Some j) q r =
         let e : i ≡ j = eqb-true i j (rw (q, r) at h) in
         let a = class_of-some cs x i q in
         let b = class_of-some cs y j r in
@@ -340,7 +339,7 @@ same-joins : (cs : List Class) → Once cs → (a b : ℕ) → Together cs a b �
 same-joins cs o a b t = record { once = o; stays = λ x y s. s; joins = t; only = λ x y s. inl s }
 
 -- two classes, in either order
-some-joins : (cs : List Class) → Once cs → (a b i j : ℕ) → class_of cs a ≡ some i → class_of cs b ≡ some j → Joins cs a b (if eqb i j then cs else joined cs i j)
+some-joins : (cs : List Class) → Once cs → (a b i j : ℕ) → class_of cs a ≡ Some i → class_of cs b ≡ Some j → Joins cs a b (if eqb i j then cs else joined cs i j)
 unfolding joined
 some-joins cs o a b i j p q = go (eqb i j) refl (dec_lt i j)
   where
@@ -368,12 +367,12 @@ unfolding equal_condition equated
 condition_joins ns cs o a b = go (class_of cs a) (class_of cs b) refl refl
   where
     go : (p q : Option ℕ) → class_of cs a ≡ p → class_of cs b ≡ q → Joins cs a b (equated ns cs a b p q).1
-    go none none p q = new-joins ns cs o a b (class_of-none cs a p) (class_of-none cs b q)
-    go none (some j) p q = let g = class_of-some cs b j q in pushed-joins ns cs o a b j (class_of-none cs a p) g.0 g.1
-    go (some i) none p q =
+    go None None p q = new-joins ns cs o a b (class_of-none cs a p) (class_of-none cs b q)
+    go None (Some j) p q = let g = class_of-some cs b j q in pushed-joins ns cs o a b j (class_of-none cs a p) g.0 g.1
+    go (Some i) None p q =
         let f = class_of-some cs a i p in
         joins-back cs a b (merged_at cs i (single ns b)) (pushed-joins ns cs o b a i (class_of-none cs b q) f.0 f.1)
-    go (some i) (some j) p q = some-joins cs o a b i j p q
+    go (Some i) (Some j) p q = some-joins cs o a b i j p q
 
 -- the same in the words of who is with whom
 pub condition_step : (ns : List Node) (cs : List Class) → Distinct (flat cs) → (a b : ℕ) → Step cs a b (equal_condition ns cs a b).1
@@ -396,7 +395,7 @@ unfolding equal_condition equated same_class
 already ns cs a b h = go (class_of cs a) (class_of cs b) refl refl
   where
     go : (p q : Option ℕ) → class_of cs a ≡ p → class_of cs b ≡ q → equated ns cs a b p q ≡ (false, cs)
-    go none none p q = absurd (true_not_false (rw (p, q) at h) refl)
-    go none (some j) p q = absurd (true_not_false (rw (p, q) at h) refl)
-    go (some i) none p q = absurd (true_not_false (rw (p, q) at h) refl)
-    go (some i) (some j) p q = let e : eqb i j ≡ true = rw (p, q) at h in rw e
+    go None None p q = absurd (true_not_false (rw (p, q) at h) refl)
+    go None (Some j) p q = absurd (true_not_false (rw (p, q) at h) refl)
+    go (Some i) None p q = absurd (true_not_false (rw (p, q) at h) refl)
+    go (Some i) (Some j) p q = let e : eqb i j ≡ true = rw (p, q) at h in rw e

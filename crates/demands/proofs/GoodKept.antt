@@ -1,10 +1,9 @@
 -- A good group stays good: by an equal condition, a constant and clearing, refused or not.
-use Rattle.std.specs.Prelude.{if◌then◌else◌}
+use Rattle.std.specs.Prelude.{if◌then◌else◌, Option, None, Some}
 use Prim.Native.Nat.{ℕ, zero, suc, ◌+◌, ◌-◌, ◌<◌, ◌≤◌, min, max}
 use mathlib.Core.Bool.{Bool, true, false}
 use mathlib.Core.List.{List, [], ◌∷◌}
 use mathlib.Core.Logic.{◌⊎◌, inl, inr}
-use mathlib.Core.Option.{Option, none, some}
 use mathlib.Core.Path.{◌≡◌, refl, sym, ap, ◌∙◌, subst}
 use native.Mathlib.Decide.{ℕ_discrete, dec_lt}
 use native.Mathlib.Omega.{arith}
@@ -14,7 +13,9 @@ use Rattle.laws.specs.Tests.{first}
 use Rattle.laws.proofs.Booleans.{true_not_false}
 use Rattle.laws.proofs.First.{first_some}
 use Rattle.arena.specs.Node.{Node, literal, node_at}
-use Rattle.classes.specs.Class.{Constant, no_constant, heterogeneous, unknown, known, Class, is_uniform, taken, carried, single, merged, same_constant}
+use Rattle.classes.specs.declared.Constant.{Constant}
+use Rattle.classes.specs.declared.Constant.TheVariants.{NoConstant as no_constant, Heterogeneous as heterogeneous, Unknown as unknown, Known as known}
+use Rattle.classes.specs.Class.{Class, is_uniform, taken, carried, single, merged, same_constant}
 use Rattle.classes.specs.Group.{among, class_at, class_of, removed, length_removed, pair, joined, equated, equal_condition, given, constant_at, class_like, constant_for, constant_in, with_constant, Cleared, kept, dropped, gone, cleared_by, clear_rest, clear_end, clear_kept, clear-dropped, clear-gone, cleared}
 use Rattle.classes.specs.Good.{Good}
 use Rattle.classes.proofs.Places.{sum, count, count_same, count-other, among-either, among_one, counts, Once, All, nothing, distinct-once, once-distinct, class-flat, flat-class, class_of-some, class_of-none, counts-removed, counts-set, counts-merged_at, counts-more, all_set, all-removed, all-merged_at, all_more}
@@ -115,12 +116,12 @@ fine-pair ns a b la lb = go (eqb a b)
 -- an equal condition, by its cases
 fine-equated : (ns : List Node) (cs : List Class) (a b : ℕ) → All (Fine ns) cs → a < length ns → b < length ns → (p q : Option ℕ) → class_of cs a ≡ p → class_of cs b ≡ q → All (Fine ns) (equated ns cs a b p q).1
 unfolding equated joined
-fine-equated ns cs a b f la lb none none p q = all_more (Fine ns) cs (pair ns a b) f (fine-pair ns a b la lb)
-fine-equated ns cs a b f la lb none (some j) p q =
+fine-equated ns cs a b f la lb None None p q = all_more (Fine ns) cs (pair ns a b) f (fine-pair ns a b la lb)
+fine-equated ns cs a b f la lb None (Some j) p q =
     all-merged_at (Fine ns) cs j (single ns a) f (λ l. fine-merged ns (class_at cs j) (single ns a) (f j l) (fine-single ns a la))
-fine-equated ns cs a b f la lb (some i) none p q =
+fine-equated ns cs a b f la lb (Some i) None p q =
     all-merged_at (Fine ns) cs i (single ns b) f (λ l. fine-merged ns (class_at cs i) (single ns b) (f i l) (fine-single ns b lb))
-fine-equated ns cs a b f la lb (some i) (some j) p q = go (eqb i j)
+fine-equated ns cs a b f la lb (Some i) (Some j) p q = go (eqb i j)
   where
     less : All (Fine ns) (removed cs (max i j))
     less = all-removed (Fine ns) cs (max i j) f
@@ -164,11 +165,11 @@ same-uniform two unknown d h u = refl
 same-uniform two (known v) d h u = refl
 
 -- the first class with an equal constant is uniform
-like-uniform : (two : Bool) (cs : List Class) (c : Constant) (i : ℕ) → class_like two cs c ≡ some i → (i < length cs) × (is_uniform (class_at cs i).constant ≡ true)
+like-uniform : (two : Bool) (cs : List Class) (c : Constant) (i : ℕ) → class_like two cs c ≡ Some i → (i < length cs) × (is_uniform (class_at cs i).constant ≡ true)
 unfolding class_like
 like-uniform two cs c i = go (is_uniform c) refl
   where
-    go : (t : Bool) → is_uniform c ≡ t → (if t then first (λ j. same_constant two (class_at cs j).constant c) (length cs) else none) ≡ some i → (i < length cs) × (is_uniform (class_at cs i).constant ≡ true)
+    go : (t : Bool) → is_uniform c ≡ t → (if t then first (λ j. same_constant two (class_at cs j).constant c) (length cs) else None) ≡ Some i → (i < length cs) × (is_uniform (class_at cs i).constant ≡ true)
     go true u q =
         let f = first_some (λ (j : ℕ). same_constant two (class_at cs j).constant c) (length cs) i q in
         (f.below, same-uniform two (class_at cs i).constant c f.passes u)
@@ -176,7 +177,7 @@ like-uniform two cs c i = go (is_uniform c) refl
 
 module _ (ns : List Node) (cs : List Class) (p : Parts ns cs) (e : ℕ) (l : e < length ns) where
   -- over a member's class
-  parts-member : (c : Constant) (i : ℕ) → class_of cs e ≡ some i → Parts ns (constant_at cs i c)
+  parts-member : (c : Constant) (i : ℕ) → class_of cs e ≡ Some i → Parts ns (constant_at cs i c)
   unfolding constant_at
   parts-member c i q =
       let k = (class_of-some cs e i q).0 in
@@ -190,11 +191,11 @@ module _ (ns : List Node) (cs : List Class) (p : Parts ns cs) (e : ℕ) (l : e <
   -- a nonmember, in the class that was found or a new one
   parts_nonmember : (c : Constant) → counts e cs ≡ 0 → ((v : ℕ) → node_at ns e ≡ literal v → is_uniform c ≡ true) → (two : Bool) (o : Option ℕ) → class_like two cs c ≡ o → Parts ns (constant_for cs e c o)
   unfolding constant_for merged taken
-  parts_nonmember c z u two none q = record {
+  parts_nonmember c z u two None q = record {
     once = λ x. omega (arith, counts-more x cs (record { members = e ∷ []; constant = c }), once-push cs e p.once z x);
     fine = all_more (Fine ns) cs (record { members = e ∷ []; constant = c }) p.fine (fine-one ns e c l u);
   }
-  parts_nonmember c z u two (some i) q =
+  parts_nonmember c z u two (Some i) q =
       let k = like-uniform two cs c i q in
       record {
         once = λ x. omega (arith, counts-merged_at x cs i (record { members = e ∷ []; constant = no_constant }) k.0, once-push cs e p.once z x);
@@ -211,8 +212,8 @@ module _ (ns : List Node) (cs : List Class) (p : Parts ns cs) (e : ℕ) (l : e <
 
   parts-constant : (two : Bool) (c : Constant) → ((v : ℕ) → node_at ns e ≡ literal v → is_uniform c ≡ true) → (o : Option ℕ) → class_of cs e ≡ o → Parts ns (constant_in two cs e c o)
   unfolding constant_in
-  parts-constant two c u none q = parts_nonmember c (class_of-none cs e q) u two (class_like two cs c) refl
-  parts-constant two c u (some i) q = parts-member c i q
+  parts-constant two c u None q = parts_nonmember c (class_of-none cs e q) u two (class_like two cs c) refl
+  parts-constant two c u (Some i) q = parts-member c i q
 
 pub constant-good : (two : Bool) (ns : List Node) (cs : List Class) (e : ℕ) → Good ns cs → e < length ns → (said : Constant) → Good ns (with_constant two ns cs e said)
 unfolding with_constant given

@@ -1,6 +1,6 @@
 -- A valid group stays valid, and a refusal hands the group back as it was: for each call that hands back a group, over the functions that the contracts cite.
 -- Valid is a group that the check lets pass beside its arena: its number is 0.
-use Rattle.std.specs.Prelude.{if◌then◌else◌}
+use Rattle.std.specs.Prelude.{if◌then◌else◌, Ok}
 use Prim.Native.Nat.{ℕ, ◌+◌, ◌≤◌}
 use mathlib.Core.Bool.{Bool, true, false, ◌&&◌}
 use mathlib.Core.List.{List, []}
@@ -10,14 +10,19 @@ use borrow.Author.Tests.{eqb-true, ltb-true, leb-true}
 use lib.Dec.{eqb, ltb, leb}
 use lib.ListN.{length, length-set}
 use Rattle.laws.proofs.Booleans.{and_left, and_right}
+use Rattle.arena.specs.declared.Refusal.TheVariants.{BadNumber}
+use Rattle.arena.specs.Refusals.{refusal, number_of}
+use Rattle.classes.proofs.Judging.{answer-done}
 use Rattle.arena.specs.Node.{Node}
 use Rattle.arena.specs.Layout.{lawful, decode as nodes}
-use Rattle.classes.specs.Class.{Constant, no_constant, Class}
+use Rattle.classes.specs.declared.Constant.{Constant}
+use Rattle.classes.specs.declared.Constant.TheVariants.{NoConstant as no_constant}
+use Rattle.classes.specs.Class.{Class}
 use Rattle.classes.specs.Group.{class_at, total, length_removed, equal_condition, with_constant}
 use Rattle.classes.specs.Good.{Good}
 use Rattle.classes.specs.Steps.{Outcome, fits}
 use Rattle.classes.specs.Layout.{encode, decode, constant_from}
-use Rattle.classes.specs.Calls.{group_number, changed, on_group}
+use Rattle.classes.specs.Calls.{changed_number, group_number, changed, on_group}
 use Rattle.group_checks.specs.Calls.{opened}
 use Rattle.classes.specs.declared.Group.{Group}
 use Rattle.classes.specs.declared.Changed.{Changed}
@@ -56,7 +61,7 @@ module _ (cells : List ℕ) (g : Group) where
   unfolding on_group changed
   valid_outcome call k e = go (eqb (group_number cells g) 0)
     where
-      go : (b : Bool) → group_number cells (if b then changed g.limit (call (nodes cells) (decode g)) else handed_back (group_number cells g) g).group ≡ 0
+      go : (b : Bool) → group_number cells (if b then changed g.limit (call (nodes cells) (decode g)) else handed_back (refusal (group_number cells g)) g).group ≡ 0
       go true = held_number cells (number-lawful cells g e) g.limit (call (nodes cells) (decode g)).classes (k (nodes cells) (decode g) (number-fit cells g e))
       go false = e
 
@@ -78,7 +83,7 @@ module _ (cells : List ℕ) (g : Group) where
       call : List Node → List Class → Outcome
       call ns cs = add_constant true g.limit ns e said cs
 
-      go : (b : Bool) → group_number cells (if b then on_group call cells g else handed_back 12 g).group ≡ 0
+      go : (b : Bool) → group_number cells (if b then on_group call cells g else handed_back BadNumber g).group ≡ 0
       go true =
           valid_outcome call
           (λ ns cs f. add_constant-holds (λ (ds : List Class). Fit ns g.limit ds) g.limit cs f true ns e said
@@ -93,25 +98,25 @@ module _ (cells : List ℕ) (g : Group) where
 
 -- what opening comes to, by whether the limit is from 1 to 256
 abbrev opened_by : ℕ → Bool → Changed
-opened_by limit b = if b then record { number = 0; answer = true; group = encode limit [] } else handed_back 12 (encode 0 [])
+opened_by limit b = if b then record { answer = Ok true; group = encode limit [] } else handed_back BadNumber (encode 0 [])
 
 -- a group that was opened is valid beside every arena
-pub valid_opened : (cells : List ℕ) → lawful cells ≡ true → (limit : ℕ) → (opened limit).number ≡ 0 → group_number cells (opened limit).group ≡ 0
+pub valid_opened : (cells : List ℕ) → lawful cells ≡ true → (limit : ℕ) → changed_number (opened limit) ≡ 0 → group_number cells (opened limit).group ≡ 0
 unfolding opened total
 valid_opened cells w limit = go (ltb 0 limit && leb limit 256) refl
   where
-    go : (b : Bool) → (ltb 0 limit && leb limit 256) ≡ b → (opened_by limit b).number ≡ 0 → group_number cells (opened_by limit b).group ≡ 0
+    go : (b : Bool) → (ltb 0 limit && leb limit 256) ≡ b → changed_number (opened_by limit b) ≡ 0 → group_number cells (opened_by limit b).group ≡ 0
     go true q z =
         held_number cells w limit []
         (record { low = ltb-true 0 limit (and_left (ltb 0 limit) (leb limit 256) q); high = leb-true limit 256 (and_right (ltb 0 limit) (leb limit 256) q); few = omega arith; within = omega arith; good = empty-good (nodes cells) })
     go false q z = absurd (omega arith)
 
 -- a limit that is refused opens no group
-pub refusal_opens_none : (limit : ℕ) → ((opened limit).number ≡ 0 → ⊥) → (opened limit).group ≡ encode 0 []
+pub refusal_opens_none : (limit : ℕ) → (changed_number (opened limit) ≡ 0 → ⊥) → (opened limit).group ≡ encode 0 []
 unfolding opened
 refusal_opens_none limit = go (ltb 0 limit && leb limit 256)
   where
-    go : (b : Bool) → ((opened_by limit b).number ≡ 0 → ⊥) → (opened_by limit b).group ≡ encode 0 []
+    go : (b : Bool) → (changed_number (opened_by limit b) ≡ 0 → ⊥) → (opened_by limit b).group ≡ encode 0 []
     go true z = absurd (z refl)
     go false z = refl
 
@@ -126,19 +131,19 @@ module _ (cells : List ℕ) (g : Group) where
   -- a call on a lent group that is refused hands it back, where its outcome does
   refusal-keeps : (call : List Node → List Class → Outcome)
       → (group_number cells g ≡ 0 → ((call (nodes cells) (decode g)).number ≡ 0 → ⊥) → encode g.limit (call (nodes cells) (decode g)).classes ≡ g)
-      → ((on_group call cells g).number ≡ 0 → ⊥) → (on_group call cells g).group ≡ g
+      → (changed_number (on_group call cells g) ≡ 0 → ⊥) → (on_group call cells g).group ≡ g
   unfolding on_group changed
   refusal-keeps call k = go (eqb (group_number cells g) 0) refl
     where
       out : Bool → Changed
-      out b = if b then changed g.limit (call (nodes cells) (decode g)) else handed_back (group_number cells g) g
+      out b = if b then changed g.limit (call (nodes cells) (decode g)) else handed_back (refusal (group_number cells g)) g
 
-      go : (b : Bool) → eqb (group_number cells g) 0 ≡ b → ((out b).number ≡ 0 → ⊥) → (out b).group ≡ g
-      go true q z = k (eqb-true (group_number cells g) 0 q) z
+      go : (b : Bool) → eqb (group_number cells g) 0 ≡ b → (changed_number (out b) ≡ 0 → ⊥) → (out b).group ≡ g
+      go true q z = k (eqb-true (group_number cells g) 0 q) (λ w. z (ap number_of (answer-done (call (nodes cells) (decode g)) w)))
       go false q z = refl
 
   -- clearing
-  pub refusal-keeps-clear : ((on_group (λ ns cs. clear cs) cells g).number ≡ 0 → ⊥) → (on_group (λ ns cs. clear cs) cells g).group ≡ g
+  pub refusal-keeps-clear : (changed_number (on_group (λ ns cs. clear cs) cells g) ≡ 0 → ⊥) → (on_group (λ ns cs. clear cs) cells g).group ≡ g
   unfolding clear
   refusal-keeps-clear = refusal-keeps (λ ns cs. clear cs) (λ e z. absurd (z refl))
 
@@ -148,13 +153,13 @@ module _ (cells : List ℕ) (g : Group) where
     coded e = (number-held cells g t.sizes t.flavours t.values t.members e).coded.coded
 
     -- an equal condition
-    pub refusal-keeps-equal : (a b : ℕ) → let r : Changed = on_group (λ ns cs. add_equal g.limit ns a b cs) cells g in (r.number ≡ 0 → ⊥) → r.group ≡ g
+    pub refusal-keeps-equal : (a b : ℕ) → let r : Changed = on_group (λ ns cs. add_equal g.limit ns a b cs) cells g in (changed_number r ≡ 0 → ⊥) → r.group ≡ g
     refusal-keeps-equal a b =
         refusal-keeps (λ ns cs. add_equal g.limit ns a b cs)
         (λ e z. ap (encode g.limit) (add_equal-keeps g.limit (nodes cells) a b (decode g) z) ∙ coded e)
 
     -- a constant
-    pub refusal-keeps-constant : (e flavour value : ℕ) → ((on_constant e flavour value cells g).number ≡ 0 → ⊥) → (on_constant e flavour value cells g).group ≡ g
+    pub refusal-keeps-constant : (e flavour value : ℕ) → (changed_number (on_constant e flavour value cells g) ≡ 0 → ⊥) → (on_constant e flavour value cells g).group ≡ g
     unfolding on_constant
     refusal-keeps-constant e flavour value = go (sayable flavour value)
       where
@@ -162,9 +167,9 @@ module _ (cells : List ℕ) (g : Group) where
         said = constant_from (flavour + 1) value
 
         out : Bool → Changed
-        out b = if b then on_group (λ ns cs. add_constant true g.limit ns e said cs) cells g else handed_back 12 g
+        out b = if b then on_group (λ ns cs. add_constant true g.limit ns e said cs) cells g else handed_back BadNumber g
 
-        go : (b : Bool) → ((out b).number ≡ 0 → ⊥) → (out b).group ≡ g
+        go : (b : Bool) → (changed_number (out b) ≡ 0 → ⊥) → (out b).group ≡ g
         go true =
             refusal-keeps (λ ns cs. add_constant true g.limit ns e said cs)
             (λ n z. ap (encode g.limit) (add_constant-keeps true g.limit (nodes cells) e said (decode g) z) ∙ coded n)

@@ -1,64 +1,51 @@
--- What is given to a call, and the answers of an insert by the tests of what it is lent and given.
+-- What is given to a call, and the answers of an insert by the check of what it is lent and given.
 use Prim.Native.Nat.{ℕ, ◌+◌, ◌*◌, ◌<◌, ◌≤◌}
-use mathlib.Core.Bool.{Bool, true, false, not, ◌&&◌}
+use mathlib.Core.Bool.{Bool, true, false, ◌&&◌}
 use mathlib.Core.List.{List, []}
-use mathlib.Core.Option.{Option, none, some}
+use Rattle.std.specs.Prelude.{if◌then◌else◌, Option, None, Some, Ok, Err}
 use mathlib.Core.Path.{◌≡◌, refl, sym, ap, ◌∙◌}
 use native.Mathlib.Omega.{arith}
-use borrow.Author.Tests.{leb-true, le-leb, lt-leb, ltb-true, lt-ltb, le-ltb, ne_eqb, not-true, not-false}
-use lib.Dec.{ltb, leb}
-use Rattle.laws.proofs.Booleans.{and_both, and_fails_left, and_fails_right}
-use Rattle.arena.specs.Layout.{count}
+use borrow.Author.Tests.{leb-true, ltb-true, lt-ltb, eqb-true, eq-eqb}
+use lib.Dec.{eqb, ltb, leb}
+use Rattle.laws.proofs.Booleans.{true_not_false, and_left, and_right}
+use Rattle.arena.specs.Layout.{count, lawful}
+use Rattle.arena.specs.declared.Refusal.{Refusal}
+use Rattle.arena.specs.Refusals.{refusal, outcome}
+use Rattle.arena.proofs.Refusals.{ok-zero, err-refusal, Listed, listed-if}
 use Rattle.arena.proofs.Layouts.{lawful-holds}
 use Rattle.dependencies.specs.Map.{inserted}
-use Rattle.dependencies.specs.Layout.{is_there, number_or0, row, unused, decode}
+use Rattle.dependencies.specs.Layout.{is_there, number_or0, row, unused, decode, lawful_map, keys_inside}
 use Rattle.dependencies.specs.Calls.{map_number, options_known, given_below, key_of, insert_number, judged, insert_answer}
 use Rattle.dependencies.specs.Inner.{Held}
 use Rattle.dependencies.specs.declared.DependencyNode.{DependencyNode}
 use Rattle.dependencies.specs.declared.DependencyMap.{DependencyMap}
-use Rattle.dependencies.specs.declared.Given.{Given}
-use Rattle.dependencies.specs.declared.Given.TheVariants.{Key, Nothing}
+use Rattle.dependencies.specs.declared.Key.{Key}
 use Rattle.dependencies.specs.declared.Inserted.{Inserted}
 use Rattle.dependencies.proofs.MapChecks.{number-lawful, number-arena}
 use Rattle.dependencies.proofs.MapCodec.{Sized, held-lawful}
 
--- a key that is given: its options, its expression, and the key as one number
-module _ (g : Given) (e options : ℕ) (q : g ≡ Key e options) where
-  pub options-given : leb options 3 ≡ options_known g
-  unfolding options_known
-  options-given = sym (ap options_known q)
-
-  pub below-given : (n : ℕ) → ltb e n ≡ given_below n g
-  unfolding given_below
-  below-given n = sym (ap (given_below n) q)
-
-  pub key-given : (k : ℕ) → k ≡ e * 4 + options → some k ≡ key_of g
+-- a key that is given, as one number
+module _ (g : Option Key) (k : Key) (q : g ≡ Some k) where
+  pub key-given : (n : ℕ) → n ≡ k.expr * 4 + k.options → Some n ≡ key_of g
   unfolding key_of
-  key-given k p = ap {B = Option ℕ} some p ∙ sym (ap key_of q)
+  key-given n p = ap {B = Option ℕ} Some p ∙ sym (ap key_of q)
 
   -- it is within the bounds of a key
-  pub key-bounds : (options_known g ≡ true) × (given_below 1024 g ≡ true) → (e < 1024) × (options ≤ 3)
-  key-bounds p = (ltb-true e 1024 (below-given 1024 ∙ p.1), leb-true options 3 (options-given ∙ p.0))
+  pub key-bounds : (options_known g ≡ true) × (given_below 1024 g ≡ true) → (k.expr < 1024) × (k.options ≤ 3)
+  unfolding options_known given_below
+  key-bounds p = (ltb-true k.expr 1024 (sym (ap (given_below 1024) q) ∙ p.1), leb-true k.options 3 (sym (ap options_known q) ∙ p.0))
 
   -- a new entry with this target
-  pub fresh-projected : (key k : ℕ) (r : DependencyNode) → r ≡ unused → k ≡ e * 4 + options
-      → ◌≡◌ {A = DependencyNode} (record { key = key; projected = true; target = k; size = r.size; dependencies = r.dependencies }) (row (record { key = key; target = key_of g; dependencies = [] }))
+  pub fresh-projected : (key n : ℕ) (r : DependencyNode) → r ≡ unused → n ≡ k.expr * 4 + k.options
+      → ◌≡◌ {A = DependencyNode} (record { key = key; projected = true; target = n; size = r.size; dependencies = r.dependencies }) (row (record { key = key; target = key_of g; dependencies = [] }))
   unfolding row is_there number_or0
-  fresh-projected key k r p s =
-      ap (λ (x : DependencyNode). record { key = key; projected = true; target = k; size = x.size; dependencies = x.dependencies }) p
-      ∙ ap (λ (o : Option ℕ). row (record { key = key; target = o; dependencies = [] })) (key-given k s)
+  fresh-projected key n r p s =
+      ap (λ (x : DependencyNode). record { key = key; projected = true; target = n; size = x.size; dependencies = x.dependencies }) p
+      ∙ ap (λ (o : Option ℕ). row (record { key = key; target = o; dependencies = [] })) (key-given n s)
 
 -- no key is given
-module _ (g : Given) (q : g ≡ Nothing) where
-  pub options-none : true ≡ options_known g
-  unfolding options_known
-  options-none = sym (ap options_known q)
-
-  pub below_none : (n : ℕ) → true ≡ given_below n g
-  unfolding given_below
-  below_none n = sym (ap (given_below n) q)
-
-  pub key-none : none ≡ key_of g
+module _ (g : Option Key) (q : g ≡ None) where
+  pub key-none : None ≡ key_of g
   unfolding key_of
   key-none = sym (ap key_of q)
 
@@ -70,113 +57,80 @@ module _ (g : Given) (q : g ≡ Nothing) where
       ∙ ap (λ (o : Option ℕ). row (record { key = key; target = o; dependencies = [] })) key-none
 
 -- what is below a number is below a larger one
-pub below_wider : (g : Given) (n m : ℕ) → n ≤ m → given_below n g ≡ true → given_below m g ≡ true
+pub below_wider : (g : Option Key) (n m : ℕ) → n ≤ m → given_below n g ≡ true → given_below m g ≡ true
 unfolding given_below
-below_wider (Key e options) n m l h = let b = ltb-true e n h in lt-ltb e m (omega arith)
-below_wider Nothing n m l h = refl
+below_wider (Some k) n m l h = let b = ltb-true k.expr n h in lt-ltb k.expr m (omega arith)
+below_wider None n m l h = refl
 
--- a test of the code that passed, and one that failed
-passed : (p b : Bool) → p ≡ b → not p ≡ false → b ≡ true
-passed p b e h = sym e ∙ not-false p h
-
-failed : (p b : Bool) → p ≡ b → not p ≡ true → b ≡ false
-failed p b e h = sym e ∙ not-true p h
-
--- the options that are given are known
-pub record Options (options : ℕ) (target dependency : Given) : Type 0 where
-  pub low : options ≤ 3
-  pub target-known : options_known target ≡ true
-  pub dependency-known : options_known dependency ≡ true
-
-pub options-pass : (options : ℕ) (target dependency : Given) (p q : Bool) → options ≤ 3 → p ≡ options_known target → not p ≡ false → q ≡ options_known dependency → not q ≡ false → Options options target dependency
-options-pass options target dependency p q l e h f k =
-    record { low = l; target-known = passed p (options_known target) e h; dependency-known = passed q (options_known dependency) f k }
-
--- the expressions that are given are below n
-pub record Below (n e : ℕ) (target dependency : Given) : Type 0 where
-  pub expr-below : e < n
-  pub target_below : given_below n target ≡ true
-  pub dependency-below : given_below n dependency ≡ true
-
-pub below-pass : (n e : ℕ) (target dependency : Given) (p q : Bool) → e < n → p ≡ given_below n target → not p ≡ false → q ≡ given_below n dependency → not q ≡ false → Below n e target dependency
-below-pass n e target dependency p q l s h f k =
-    record { expr-below = l; target_below = passed p (given_below n target) s h; dependency-below = passed q (given_below n dependency) f k }
+-- a number that is 0 comes after tests that passed
+passed : (a b : Bool) (n : ℕ) → ◌≡◌ {A = ℕ} (if a then (if eqb n 0 then (if b then 0 else 1) else n) else 12) 0 → (a ≡ true) × (n ≡ 0) × (b ≡ true)
+passed false b n h = absurd (omega arith)
+passed true b n h = go (eqb n 0) b refl h
+  where
+    go : (d c : Bool) → eqb n 0 ≡ d → ◌≡◌ {A = ℕ} (if d then (if c then 0 else 1) else n) 0 → (true ≡ true) × (n ≡ 0) × (c ≡ true)
+    go true true e z = (refl, eqb-true n 0 e, refl)
+    go true false e z = absurd (omega arith)
+    go false c e z = absurd (true_not_false (eq-eqb n 0 z) e)
 
 -- the answers of an insert
-module _ (cells : List ℕ) (m : DependencyMap) (e options : ℕ) (target dependency : Given) where
+module _ (cells : List ℕ) (m : DependencyMap) (e options : ℕ) (target dependency : Option Key) where
+  abbrev number : ℕ
+  number = insert_number cells m e options target dependency
+
   abbrev options_test : Bool
   options_test = leb options 3 && options_known target && options_known dependency
 
   abbrev exprs_test : Bool
   exprs_test = ltb e (count cells) && given_below (count cells) target && given_below (count cells) dependency
 
-  abbrev refused : ℕ → Inserted
-  refused k = record { number = k; map = m }
+  pub insert-tests : number ≡ 0 → (options_test ≡ true) × (map_number cells m ≡ 0) × (exprs_test ≡ true)
+  unfolding insert_number
+  insert-tests h = passed options_test exprs_test (map_number cells m) h
 
-  abbrev given : Inserted
-  given = insert_answer cells m e options target dependency
+  -- what is refused
+  pub insert-refused : (r : Inserted) (why : Refusal) → outcome number ≡ Err why → r ≡ record { done = Err why; map = m } → r ≡ insert_answer cells m e options target dependency
+  unfolding insert_answer
+  insert-refused r why h q =
+      let p = err-refusal number why h in
+      q ∙ rw (p.0) (ap (λ (x : Refusal). record { done = Err x; map = m }) p.1)
 
-  options-test : Options options target dependency → options_test ≡ true
-  options-test o = and_both (and_both (le-leb options 3 o.low) o.target-known) o.dependency-known
+  -- what passes
+  module _ (h : outcome number ≡ Ok tt) where
+    zero : number ≡ 0
+    zero = eqb-true number 0 (ok-zero number h)
 
-  unknown-options : options_test ≡ false → refused 12 ≡ given
-  unfolding insert_answer insert_number
-  unknown-options f = rw f
+    pub insert-passed : (r : Inserted) → r ≡ judged m (inserted (decode m) (e * 4 + options) (key_of target) (key_of dependency)) → r ≡ insert_answer cells m e options target dependency
+    unfolding insert_answer
+    insert-passed r q = rw (ok-zero number h) q
 
-  -- options that are not known: the key's, the target's, the dependency's
-  pub insert-options : 3 < options → refused 12 ≡ given
-  insert-options l = unknown-options (and_fails_left (leb options 3 && options_known target) (options_known dependency) (and_fails_left (leb options 3) (options_known target) (lt-leb options 3 l)))
+    few-exprs : count cells ≤ 1024
+    few-exprs = (lawful-holds cells (number-arena cells m (insert-tests zero).1)).few
 
-  pub insert-target-options : (p : Bool) → p ≡ options_known target → not p ≡ true → refused 12 ≡ given
-  insert-target-options p q h =
-      unknown-options (and_fails_left (leb options 3 && options_known target) (options_known dependency) (and_fails_right (leb options 3) (options_known target) (failed p (options_known target) q h)))
+    -- is what the function inside asks for
+    pub insert-asks : Sized m → (Held m × ((e < 1024) × (options ≤ 3))) × (((options_known target ≡ true) × (given_below 1024 target ≡ true)) × ((options_known dependency ≡ true) × (given_below 1024 dependency ≡ true)))
+    insert-asks z =
+        let t = insert-tests zero in
+        let o = and_left (leb options 3 && options_known target) (options_known dependency) t.0 in
+        let x = and_left (ltb e (count cells) && given_below (count cells) target) (given_below (count cells) dependency) t.2 in
+        let b : e < count cells = ltb-true e (count cells) (and_left (ltb e (count cells)) (given_below (count cells) target) x) in (
+          (held-lawful m z (number-lawful cells m t.1), (omega (arith, few-exprs), leb-true options 3 (and_left (leb options 3) (options_known target) o))),
+          (
+            (and_right (leb options 3) (options_known target) o, below_wider target (count cells) 1024 few-exprs (and_right (ltb e (count cells)) (given_below (count cells) target) x)),
+            (and_right (leb options 3 && options_known target) (options_known dependency) t.0, below_wider dependency (count cells) 1024 few-exprs (and_right (ltb e (count cells) && given_below (count cells) target) (given_below (count cells) dependency) t.2)),
+          ),
+        )
 
-  pub insert-dependency-options : (p : Bool) → p ≡ options_known dependency → not p ≡ true → refused 12 ≡ given
-  insert-dependency-options p q h = unknown-options (and_fails_right (leb options 3 && options_known target) (options_known dependency) (failed p (options_known dependency) q h))
+-- the numbers of the checks stand in the table
+pub map_number-listed : (cells : List ℕ) (m : DependencyMap) → Listed (map_number cells m)
+unfolding map_number outcome refusal
+map_number-listed cells m =
+    listed-if (lawful cells && lawful_map m) (if keys_inside (count cells) m then 0 else 1) 11 (listed-if (keys_inside (count cells) m) 0 1 refl refl) refl
 
-  module _ (o : Options options target dependency) where
-    -- a map that does not pass
-    pub insert-refused : (k : ℕ) → k ≡ map_number cells m → (k ≡ 0 → ⊥) → refused k ≡ given
-    unfolding insert_answer insert_number
-    insert-refused k q z = rw (options-test o, sym q, ne_eqb k 0 z) (rw (ne_eqb k 0 z))
-
-    module _ (z : map_number cells m ≡ 0) where
-      unknown-expr : exprs_test ≡ false → refused 1 ≡ given
-      unfolding insert_answer insert_number
-      unknown-expr f = rw (options-test o, z, f)
-
-      -- an expression that is not known: the key's, the target's, the dependency's
-      pub insert-unknown : count cells ≤ e → refused 1 ≡ given
-      insert-unknown l =
-          unknown-expr (and_fails_left (ltb e (count cells) && given_below (count cells) target) (given_below (count cells) dependency)
-          (and_fails_left (ltb e (count cells)) (given_below (count cells) target) (le-ltb e (count cells) l)))
-
-      pub insert-target-unknown : (p : Bool) → p ≡ given_below (count cells) target → not p ≡ true → refused 1 ≡ given
-      insert-target-unknown p q h =
-          unknown-expr (and_fails_left (ltb e (count cells) && given_below (count cells) target) (given_below (count cells) dependency)
-          (and_fails_right (ltb e (count cells)) (given_below (count cells) target) (failed p (given_below (count cells) target) q h)))
-
-      pub insert-dependency-unknown : (p : Bool) → p ≡ given_below (count cells) dependency → not p ≡ true → refused 1 ≡ given
-      insert-dependency-unknown p q h =
-          unknown-expr (and_fails_right (ltb e (count cells) && given_below (count cells) target) (given_below (count cells) dependency) (failed p (given_below (count cells) dependency) q h))
-
-      -- what passes
-      pub insert-passed : (r : Inserted) → r ≡ judged m (inserted (decode m) (e * 4 + options) (key_of target) (key_of dependency)) → Below (count cells) e target dependency → r ≡ given
-      unfolding insert_answer insert_number
-      insert-passed r q b =
-          q ∙ (rw (options-test o, z, all))
-        where
-          all : exprs_test ≡ true
-          all = and_both (and_both (lt-ltb e (count cells) b.expr-below) b.target_below) b.dependency-below
-
--- what passes is what the function inside asks for
-module _ (cells : List ℕ) (m : DependencyMap) (q : map_number cells m ≡ 0) where
-  few-exprs : count cells ≤ 1024
-  few-exprs = (lawful-holds cells (number-arena cells m q)).few
-
-  pub insert-asks : (e options : ℕ) (target dependency : Given) → Sized m → Options options target dependency → Below (count cells) e target dependency
-      → (Held m × ((e < 1024) × (options ≤ 3))) × (((options_known target ≡ true) × (given_below 1024 target ≡ true)) × ((options_known dependency ≡ true) × (given_below 1024 dependency ≡ true)))
-  insert-asks e options target dependency z o b = (
-    (held-lawful m z (number-lawful cells m q), (omega (arith, few-exprs, b.expr-below), o.low)),
-    ((o.target-known, below_wider target (count cells) 1024 few-exprs b.target_below), (o.dependency-known, below_wider dependency (count cells) 1024 few-exprs b.dependency-below)),
-  )
+pub insert_number-listed : (cells : List ℕ) (m : DependencyMap) (e options : ℕ) (target dependency : Option Key) → Listed (insert_number cells m e options target dependency)
+unfolding insert_number outcome refusal
+insert_number-listed cells m e options target dependency =
+    listed-if (leb options 3 && options_known target && options_known dependency) (if eqb (map_number cells m) 0 then (if x then 0 else 1) else map_number cells m) 12
+    (listed-if (eqb (map_number cells m) 0) (if x then 0 else 1) (map_number cells m) (listed-if x 0 1 refl refl) (map_number-listed cells m)) refl
+  where
+    x : Bool
+    x = ltb e (count cells) && given_below (count cells) target && given_below (count cells) dependency

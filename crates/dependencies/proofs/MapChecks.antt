@@ -3,9 +3,9 @@ use Rattle.std.specs.Prelude.{if◌then◌else◌}
 use Prim.Native.Nat.{ℕ, ◌+◌, ◌-◌, ◌<◌, ◌≤◌}
 use mathlib.Core.Bool.{Bool, true, false, not, ◌&&◌, ◌||◌}
 use mathlib.Core.List.{List, []}
-use mathlib.Core.Path.{◌≡◌, refl, sym, ap, subst, ◌∙◌}
+use mathlib.Core.Path.{◌≡◌, refl, sym, subst}
 use native.Mathlib.Omega.{arith}
-use borrow.Author.Tests.{leb-true, eq-eqb, ne_eqb}
+use borrow.Author.Tests.{leb-true}
 use denote.Laws.{Is}
 use mir.Val.{Val}
 use lib.Dec.{eqb, ltb, leb}
@@ -36,10 +36,6 @@ no_place = record { key = 0; projected = false; target = 0; size = 0; dependenci
 pub read_is : (m : DependencyMap) → length m.list ≡ 64 → (i : ℕ) → i < 64 → get_or m.list i no_place ≡ place_in m i
 read_is m z i l = get_d_any m.list i no_place unused (omega arith)
 
--- so a test of what it reads is a test of the place
-pub at_place : (f : DependencyNode → Bool) (b : Bool) (m : DependencyMap) → length m.list ≡ 64 → (i : ℕ) → i < 64 → f (get_or m.list i no_place) ≡ b → f (place_in m i) ≡ b
-at_place f b m z i l e = subst (λ (r : DependencyNode). f r ≡ b) (read_is m z i l) e
-
 -- the tests of a place for dependencies
 abbrev pub Fresh : DependencyNode → ℕ → Bool
 Fresh r k = fresh r.dependencies k
@@ -69,16 +65,6 @@ InsideAt n m i = entry_inside n (place_in m i)
 -- the key at place i is not the one at place k
 abbrev pub Unlike : DependencyMap → ℕ → ℕ → Bool
 Unlike m k i = not (eqb (place_in m i).key (place_in m k).key)
-
--- from the keys that the code reads
-module _ (m : DependencyMap) (z : length m.list ≡ 64) (k i : ℕ) (a : k < 64) (b : i < 64) where
-  pub like-read : (get_or m.list i no_place).key ≡ (get_or m.list k no_place).key → Unlike m k i ≡ false
-  like-read e =
-      ap not (eq-eqb (place_in m i).key (place_in m k).key (ap (λ (r : DependencyNode). r.key) (sym (read_is m z i b)) ∙ e ∙ ap (λ (r : DependencyNode). r.key) (read_is m z k a)))
-
-  pub unlike-read : ((get_or m.list i no_place).key ≡ (get_or m.list k no_place).key → ⊥) → Unlike m k i ≡ true
-  unlike-read n =
-      ap not (ne_eqb (place_in m i).key (place_in m k).key (λ e. n (ap (λ (r : DependencyNode). r.key) (read_is m z i b) ∙ e ∙ ap (λ (r : DependencyNode). r.key) (sym (read_is m z k a)))))
 
 -- an entry that passes has at most 16 dependencies
 pub entry-size : (r : DependencyNode) → lawful_entry r ≡ true → r.size ≤ 16

@@ -1,9 +1,8 @@
 -- The struct of a dependency map: what stands where, that nothing is lost, that a struct which passes the check is the layout of a map, and what writing a place makes of the map.
-use Rattle.std.specs.Prelude.{if◌then◌else◌}
+use Rattle.std.specs.Prelude.{if◌then◌else◌, Option, None, Some}
 use Prim.Native.Nat.{ℕ, zero, suc, ◌+◌, ◌-◌, ◌<◌, ◌≤◌}
 use mathlib.Core.Bool.{Bool, true, false, not, ◌&&◌, ◌||◌}
 use mathlib.Core.List.{List, [], ◌∷◌, ◌++◌, map, map-append}
-use mathlib.Core.Option.{Option, none, some}
 use mathlib.Core.Path.{◌≡◌, refl, sym, ap, ◌∙◌, subst}
 use native.Mathlib.Decide.{dec_lt}
 use native.Mathlib.Omega.{arith}
@@ -74,17 +73,17 @@ arrays_sized m vs p =
     record { places = n; dependencies = λ i l. dependencies-sized m.list list.0 list.1.1 i (omega arith) }
 
 -- a target and its two fields
-target-back : (o : Option ℕ) → (if is_there o then some (number_or0 o) else none) ≡ o
+target-back : (o : Option ℕ) → (if is_there o then Some (number_or0 o) else None) ≡ o
 unfolding is_there number_or0
-target-back none = refl
-target-back (some t) = refl
+target-back None = refl
+target-back (Some t) = refl
 
-there_back : (b : Bool) (t : ℕ) → is_there (if b then some t else none) ≡ b
+there_back : (b : Bool) (t : ℕ) → is_there (if b then Some t else None) ≡ b
 unfolding is_there
 there_back true t = refl
 there_back false t = refl
 
-number-back : (b : Bool) (t : ℕ) → (b || eqb t 0) ≡ true → number_or0 (if b then some t else none) ≡ t
+number-back : (b : Bool) (t : ℕ) → (b || eqb t 0) ≡ true → number_or0 (if b then Some t else None) ≡ t
 unfolding number_or0
 number-back true t e = refl
 number-back false t e = sym (eqb-true t 0 e)
@@ -165,13 +164,13 @@ module _ (r : DependencyNode) (n : length r.dependencies ≡ 16) where
 -- a place of a map, also past its end
 pub place-encode : (ds : List Dependent) (i : ℕ) → place_in (encode ds) i ≡ row (entry_at ds i)
 unfolding encode
-place-encode ds i = fill_after unused (map row ds) (64 - length ds) i ∙ get_or-map row ds i (record { key = 0; target = none; dependencies = [] })
+place-encode ds i = fill_after unused (map row ds) (64 - length ds) i ∙ get_or-map row ds i (record { key = 0; target = None; dependencies = [] })
 
 -- nothing is lost
 pub decode-encode : (ds : List Dependent) → decode (encode ds) ≡ ds
 unfolding decode encode
 decode-encode ds =
-    sym (table_is (λ i. entry_of (place_in (encode ds) i)) (length ds) ds (record { key = 0; target = none; dependencies = [] }) refl
+    sym (table_is (λ i. entry_of (place_in (encode ds) i)) (length ds) ds (record { key = 0; target = None; dependencies = [] }) refl
     (λ i l. sym (ap entry_of (place-encode ds i) ∙ entry_row (entry_at ds i))))
 
 -- there are as many entries as the struct says
@@ -182,7 +181,7 @@ length-decode m = length-table (λ i. entry_of (place_in m i)) m.count
 -- an entry of a struct
 pub place-decode : (m : DependencyMap) (i : ℕ) → i < m.count → entry_at (decode m) i ≡ entry_of (place_in m i)
 unfolding decode
-place-decode m i l = get_or-table (λ i. entry_of (place_in m i)) m.count i (record { key = 0; target = none; dependencies = [] }) l
+place-decode m i l = get_or-table (λ i. entry_of (place_in m i)) m.count i (record { key = 0; target = None; dependencies = [] }) l
 
 -- a struct that passes
 module _ (m : DependencyMap) (z : Sized m) (e : lawful_map m ≡ true) where
@@ -203,11 +202,11 @@ module _ (m : DependencyMap) (z : Sized m) (e : lawful_map m ≡ true) where
   list-is =
       ap (λ (n : ℕ). map row (decode m) ++ replicate (64 - n) unused) (sym (length-map (decode m) row))
       ∙ fill_is unused 64 (map row (decode m)) m.list (omega (arith, length-map (decode m) row, length-decode m, lawful-few m e)) z.places
-      (λ i b. get_or-map row (decode m) i (record { key = 0; target = none; dependencies = [] }) ∙ at i b (dec_lt i m.count))
+      (λ i b. get_or-map row (decode m) i (record { key = 0; target = None; dependencies = [] }) ∙ at i b (dec_lt i m.count))
     where
       at : (i : ℕ) → i < 64 → Dec (i < m.count) → row (entry_at (decode m) i) ≡ place_in m i
       at i b (yes l) = ap row (place-decode m i l) ∙ (place-coded i l).coded
-      at i b (no l) = ap row (get_or-eq_default (decode m) (record { key = 0; target = none; dependencies = [] }) (omega (arith, length-decode m))) ∙ sym (place-unused i (omega arith) b)
+      at i b (no l) = ap row (get_or-eq_default (decode m) (record { key = 0; target = None; dependencies = [] }) (omega (arith, length-decode m))) ∙ sym (place-unused i (omega arith) b)
 
   -- it is the layout of its map
   pub held-lawful : Held m

@@ -1,19 +1,20 @@
 -- Inserting as the code does it: the search for a key, a dependency more, and the answers by whether the map fits.
-use Prim.Native.Nat.{ℕ, ◌+◌, ◌-◌, ◌<◌, ◌≤◌}
-use mathlib.Core.Bool.{Bool, true, false}
+use Prim.Native.Nat.{ℕ, ◌+◌, ◌<◌, ◌≤◌}
+use mathlib.Core.Bool.{Bool, true, false, ◌||◌}
+use Rattle.std.specs.List.{list_any}
 use mathlib.Core.List.{List, [], ◌∷◌, ◌++◌}
-use mathlib.Core.Option.{Option, none, some}
+use Rattle.std.specs.Prelude.{Option, None, Some, Ok, Err}
 use mathlib.Core.Path.{◌≡◌, refl, sym, ap, ◌∙◌, subst}
 use native.Mathlib.Decide.{ℕ_discrete}
 use native.Mathlib.Omega.{arith}
-use borrow.Author.Tests.{leb-true, leb-false, le-leb, lt-leb, eq-eqb, ne_eqb}
+use borrow.Author.Tests.{leb-true, leb-false, le-leb, lt-leb}
 use lib.Dec.{eqb, leb}
 use lib.ListN.{length, set, length-append, length-set, get_or-append}
 use lib.Seq.{get_or_at, get_or-set_same, get_or-set_other}
-use Rattle.laws.specs.Tests.{each, first_from, first}
-use Rattle.laws.proofs.Booleans.{true_not_false, and_fails_right}
+use Rattle.laws.specs.Tests.{each, first}
+use Rattle.laws.proofs.Booleans.{and_fails_right}
 use Rattle.laws.proofs.Each.{each_all, each_fails}
-use Rattle.laws.proofs.First.{first-begins, first-hit, first_on, first_ends, first_some, first_cong}
+use Rattle.laws.proofs.First.{first_some, first_cong}
 use Rattle.classes.specs.Group.{among}
 use Rattle.dependencies.specs.Map.{Dependent, entry_at, place_of, with_dependency, inserted_at, inserted, fits}
 use Rattle.dependencies.specs.Layout.{row, entry_of, encode, decode, place_in}
@@ -21,39 +22,32 @@ use Rattle.dependencies.specs.Calls.{judged}
 use Rattle.dependencies.specs.Inner.{Coded, Held, extended_by}
 use Rattle.dependencies.specs.declared.DependencyNode.{DependencyNode}
 use Rattle.dependencies.specs.declared.DependencyMap.{DependencyMap}
-use Rattle.dependencies.specs.declared.Extended.{Extended}
+use Rattle.arena.specs.declared.Refusal.{Refusal}
+use Rattle.arena.specs.declared.Refusal.TheVariants.{TooLarge}
+use Rattle.arena.proofs.Refusals.{ok-not-err}
 use Rattle.dependencies.specs.declared.Inserted.{Inserted}
-use Rattle.classes.specs.Inner.{place_of as place_as}
-use Rattle.classes.specs.declared.Place.TheVariants.{At, Nowhere}
 use Rattle.dependencies.proofs.MapCodec.{entry_row, size_is, length-decode, place-decode, place_set, place-more, row_more}
+
+-- what a search of a slice answers
+pub any-among : (k : ℕ) (ks : List ℕ) → list_any (λ y. eqb y k) ks ≡ among k ks
+unfolding among
+any-among k [] = refl
+any-among k (m ∷ ms) = ap (λ b. eqb m k || b) (any-among k ms)
 
 -- the key at a place of a struct is the one that is looked for
 abbrev pub KeyAt : DependencyMap → ℕ → ℕ → Bool
 KeyAt m key i = eqb (place_in m i).key key
 
--- the search for a key: it begins, finds, goes on, and ends
+-- the search for a key
 module _ (m : DependencyMap) (key : ℕ) where
-  key-first : place_of (decode m) key ≡ first (KeyAt m key) m.count
+  pub key-first : place_of (decode m) key ≡ first (KeyAt m key) m.count
   unfolding place_of entry_of
   key-first =
       ap (λ (n : ℕ). first (λ i. eqb (entry_at (decode m) i).key key) n) (length-decode m)
       ∙ first_cong (λ i. eqb (entry_at (decode m) i).key key) (KeyAt m key) m.count (λ i l. ap (λ (d : Dependent). eqb d.key key) (place-decode m i l))
 
-  pub key-begins : place_of (decode m) key ≡ first_from (KeyAt m key) (m.count - 0) 0
-  key-begins = key-first ∙ first-begins (KeyAt m key) m.count
-
-  module _ (i : ℕ) (h : place_of (decode m) key ≡ first_from (KeyAt m key) (m.count - i) i) where
-    pub key-found : i < m.count → (place_in m i).key ≡ key → At i ≡ place_as (place_of (decode m) key)
-    key-found l q = sym (ap place_as (h ∙ first-hit (KeyAt m key) m.count i l (eq-eqb (place_in m i).key key q)))
-
-    pub key-on : i < m.count → ((place_in m i).key ≡ key → ⊥) → place_of (decode m) key ≡ first_from (KeyAt m key) (m.count - (i + 1)) (i + 1)
-    key-on l f = h ∙ first_on (KeyAt m key) m.count i l (ne_eqb (place_in m i).key key f)
-
-    pub key-nowhere : m.count ≤ i → Nowhere ≡ place_as (place_of (decode m) key)
-    key-nowhere l = sym (ap place_as (h ∙ first_ends (KeyAt m key) m.count i l))
-
   -- a place that was found is one of the map
-  pub key-inside : (i : ℕ) → place_of (decode m) key ≡ some i → i < m.count
+  pub key-inside : (i : ℕ) → place_of (decode m) key ≡ Some i → i < m.count
   key-inside i e = (first_some (KeyAt m key) m.count i (sym key-first ∙ e)).below
 
 -- the answer of an insert by the place of its key; where the key is, its target and the key that is given make no difference
@@ -63,38 +57,35 @@ module _ (m : DependencyMap) (k key : ℕ) (target dependency : Option ℕ) (r :
   inserted-at o e q p =
       p ∙ ap (λ (x : Option ℕ). judged m (inserted_at (decode m) k target dependency x)) (sym e) ∙ ap (λ (x : ℕ). judged m (inserted (decode m) x target dependency)) q
 
-  pub inserted-there : (i : ℕ) → place_of (decode m) k ≡ some i → k ≡ key → r ≡ judged m (inserted_at (decode m) 0 none dependency (some i)) → r ≡ judged m (inserted (decode m) key target dependency)
+  pub inserted-there : (i : ℕ) → place_of (decode m) k ≡ Some i → k ≡ key → r ≡ judged m (inserted_at (decode m) 0 None dependency (Some i)) → r ≡ judged m (inserted (decode m) key target dependency)
   unfolding inserted_at
-  inserted-there i e q p = inserted-at (some i) e q p
+  inserted-there i e q p = inserted-at (Some i) e q p
 
 -- a dependency is there, or it comes to the end
-pub with-there : (ks : List ℕ) (k : ℕ) → among k ks ≡ true → with_dependency ks (some k) ≡ ks
+pub with-there : (ks : List ℕ) (k : ℕ) → among k ks ≡ true → with_dependency ks (Some k) ≡ ks
 unfolding with_dependency
 with-there ks k e = rw e
 
-pub with-new : (ks : List ℕ) (k : ℕ) → among k ks ≡ false → with_dependency ks (some k) ≡ ks ++ (k ∷ [])
+pub with-new : (ks : List ℕ) (k : ℕ) → among k ks ≡ false → with_dependency ks (Some k) ≡ ks ++ (k ∷ [])
 unfolding with_dependency
 with-new ks k e = rw e
 
 -- a first dependency is one
 pub with-one : (d : Option ℕ) → length (with_dependency [] d) ≤ 16
 unfolding with_dependency among
-with-one none = omega arith
-with-one (some k) = omega arith
+with-one None = omega arith
+with-one (Some k) = omega arith
 
 -- an entry with other dependencies
 abbrev depends : Dependent → List ℕ → Dependent
 depends e ks = record { key = e.key; target = e.target; dependencies = ks }
 
-abbrev answer : Bool → DependencyNode → Extended
-answer b r = record { fits = b; node = r }
-
 -- an entry with a dependency more, by its dependencies then
-extended_fits : (r : DependencyNode) (d : Option ℕ) (ks : List ℕ) → with_dependency (entry_of r).dependencies d ≡ ks → length ks ≤ 16 → extended_by r d ≡ answer true (row (depends (entry_of r) ks))
+extended_fits : (r : DependencyNode) (d : Option ℕ) (ks : List ℕ) → with_dependency (entry_of r).dependencies d ≡ ks → length ks ≤ 16 → extended_by r d ≡ Ok (row (depends (entry_of r) ks))
 unfolding extended_by
 extended_fits r d ks e l = rw (e, le-leb (length ks) 16 l)
 
-extended-full : (r : DependencyNode) (d : Option ℕ) (ks : List ℕ) → with_dependency (entry_of r).dependencies d ≡ ks → 16 < length ks → extended_by r d ≡ answer false r
+extended-full : (r : DependencyNode) (d : Option ℕ) (ks : List ℕ) → with_dependency (entry_of r).dependencies d ≡ ks → 16 < length ks → extended_by r d ≡ Err TooLarge
 unfolding extended_by
 extended-full r d ks e l = rw (e, lt-leb (length ks) 16 l)
 
@@ -103,49 +94,53 @@ module _ (r : DependencyNode) (h : Coded r) where
   few : length (entry_of r).dependencies ≤ 16
   few = omega (arith, h.short, size_is r)
 
-  pub extended_none : answer true r ≡ extended_by r none
+  pub extended_none : Ok r ≡ extended_by r None
   unfolding with_dependency
-  extended_none = sym (extended_fits r none (entry_of r).dependencies refl few ∙ ap (answer true) h.coded)
+  extended_none = sym (extended_fits r None (entry_of r).dependencies refl few ∙ ap Ok h.coded)
 
   module _ (key : ℕ) where
-    pub extended-there : among key (entry_of r).dependencies ≡ true → answer true r ≡ extended_by r (some key)
-    extended-there q = sym (extended_fits r (some key) (entry_of r).dependencies (with-there (entry_of r).dependencies key q) few ∙ ap (answer true) h.coded)
+    pub extended-there : among key (entry_of r).dependencies ≡ true → Ok r ≡ extended_by r (Some key)
+    extended-there q = sym (extended_fits r (Some key) (entry_of r).dependencies (with-there (entry_of r).dependencies key q) few ∙ ap Ok h.coded)
 
-    pub extended-many : among key (entry_of r).dependencies ≡ false → 16 ≤ r.size → answer false r ≡ extended_by r (some key)
+    pub extended-many : among key (entry_of r).dependencies ≡ false → 16 ≤ r.size → Err TooLarge ≡ extended_by r (Some key)
     extended-many q l =
-        sym (extended-full r (some key) ((entry_of r).dependencies ++ (key ∷ [])) (with-new (entry_of r).dependencies key q)
+        sym (extended-full r (Some key) ((entry_of r).dependencies ++ (key ∷ [])) (with-new (entry_of r).dependencies key q)
         (omega (arith, length-append (entry_of r).dependencies (key ∷ []), size_is r)))
 
     pub extended-new : among key (entry_of r).dependencies ≡ false → r.size < 16
-        → answer true (record { key = r.key; projected = r.projected; target = r.target; size = r.size + 1; dependencies = set r.dependencies r.size key }) ≡ extended_by r (some key)
+        → Ok (record { key = r.key; projected = r.projected; target = r.target; size = r.size + 1; dependencies = set r.dependencies r.size key }) ≡ extended_by r (Some key)
     extended-new q l =
-        ap (answer true)
+        ap Ok
         (subst (λ (x : DependencyNode). ◌≡◌ {A = DependencyNode} (record { key = x.key; projected = x.projected; target = x.target; size = x.size + 1; dependencies = set x.dependencies x.size key })
         (row (depends (entry_of r) ((entry_of r).dependencies ++ (key ∷ []))))) h.coded (row_more (entry_of r) key (omega (arith, size_is r))))
-        ∙ sym (extended_fits r (some key) ((entry_of r).dependencies ++ (key ∷ [])) (with-new (entry_of r).dependencies key q)
+        ∙ sym (extended_fits r (Some key) ((entry_of r).dependencies ++ (key ∷ [])) (with-new (entry_of r).dependencies key q)
         (omega (arith, length-append (entry_of r).dependencies (key ∷ []), size_is r)))
 
 -- what an answer says of the dependencies
-record Fitting (e : Extended) (r : DependencyNode) (d : Option ℕ) : Type 0 where
+record Fitting (n r : DependencyNode) (d : Option ℕ) : Type 0 where
   short : length (with_dependency (entry_of r).dependencies d) ≤ 16
-  is : e.node ≡ row (depends (entry_of r) (with_dependency (entry_of r).dependencies d))
+  is : n ≡ row (depends (entry_of r) (with_dependency (entry_of r).dependencies d))
 
-module _ (e : Extended) (r : DependencyNode) (d : Option ℕ) (q : e ≡ extended_by r d) where
-  fitting : e.fits ≡ true → Fitting e r d
-  fitting t = go (leb (length (with_dependency (entry_of r).dependencies d)) 16) refl
+module _ (r : DependencyNode) (d : Option ℕ) where
+  abbrev more : List ℕ
+  more = with_dependency (entry_of r).dependencies d
+
+  fitting : (n : DependencyNode) → Ok n ≡ extended_by r d → Fitting n r d
+  fitting n q = go (leb (length more) 16) refl
     where
-      go : (b : Bool) → leb (length (with_dependency (entry_of r).dependencies d)) 16 ≡ b → Fitting e r d
+      go : (b : Bool) → leb (length more) 16 ≡ b → Fitting n r d
       go true s =
-          let l = leb-true (length (with_dependency (entry_of r).dependencies d)) 16 s in
-          record { short = l; is = ap (λ (x : Extended). x.node) (q ∙ extended_fits r d (with_dependency (entry_of r).dependencies d) refl l) }
-      go false s = absurd (true_not_false t (ap (λ (x : Extended). x.fits) (q ∙ extended-full r d (with_dependency (entry_of r).dependencies d) refl (leb-false (length (with_dependency (entry_of r).dependencies d)) 16 s))))
+          let l = leb-true (length more) 16 s in
+          let e : Ok n ≡ Ok (row (depends (entry_of r) more)) = q ∙ extended_fits r d more refl l in
+          record { short = l; is = cc }
+      go false s = absurd (ok-not-err (q ∙ extended-full r d more refl (leb-false (length more) 16 s)))
 
-  unfitting : e.fits ≡ false → 16 < length (with_dependency (entry_of r).dependencies d)
-  unfitting t = go (leb (length (with_dependency (entry_of r).dependencies d)) 16) refl
+  pub unfitting : (e : Refusal) → Err e ≡ extended_by r d → (16 < length more) × (e ≡ TooLarge)
+  unfitting e q = go (leb (length more) 16) refl
     where
-      go : (b : Bool) → leb (length (with_dependency (entry_of r).dependencies d)) 16 ≡ b → 16 < length (with_dependency (entry_of r).dependencies d)
-      go true s = absurd (true_not_false (ap (λ (x : Extended). x.fits) (q ∙ extended_fits r d (with_dependency (entry_of r).dependencies d) refl (leb-true (length (with_dependency (entry_of r).dependencies d)) 16 s))) t)
-      go false s = leb-false (length (with_dependency (entry_of r).dependencies d)) 16 s
+      go : (b : Bool) → leb (length more) 16 ≡ b → (16 < length more) × (e ≡ TooLarge)
+      go true s = absurd (ok-not-err (sym (q ∙ extended_fits r d more refl (leb-true (length more) 16 s))))
+      go false s = let l = leb-false (length more) 16 s in let p : Err e ≡ Err TooLarge = q ∙ extended-full r d more refl l in (l, cc)
 
 -- each entry has at most 16 dependencies
 abbrev AllShort : List Dependent → Type 0
@@ -159,10 +154,10 @@ long-fits ds i l b =
     (each_fails (λ i. leb (length (entry_at ds i).dependencies) 16) (length ds) i l (lt-leb (length (entry_at ds i).dependencies) 16 b))
 
 abbrev made : DependencyMap → Inserted
-made m = record { number = 0; map = m }
+made m = record { done = Ok tt; map = m }
 
 abbrev refused : DependencyMap → Inserted
-refused m = record { number = 5; map = m }
+refused m = record { done = Err TooLarge; map = m }
 
 -- a map that was made: it fits, it has too many keys, or an entry has too many dependencies
 module _ (m : DependencyMap) (ds : List Dependent) where
@@ -186,7 +181,7 @@ held-short m h i l =
     omega (arith, (h.entries i b).short, size_is (place_in m i))
 
 -- an entry is replaced, with a dependency more
-module _ (m : DependencyMap) (h : Held m) (i : ℕ) (l : i < m.count) (e : Extended) (d : Option ℕ) (q : e ≡ extended_by (place_in m i) d) where
+module _ (m : DependencyMap) (h : Held m) (i : ℕ) (l : i < m.count) (d : Option ℕ) where
   abbrev next : Dependent
   next = depends (entry_at (decode m) i) (with_dependency (entry_at (decode m) i).dependencies d)
 
@@ -200,27 +195,28 @@ module _ (m : DependencyMap) (h : Held m) (i : ℕ) (l : i < m.count) (e : Exten
   inside = omega (arith, length-decode m)
 
   place-next : entry_at (set (decode m) i next) i ≡ next
-  place-next = get_or-set_same (decode m) i next (record { key = 0; target = none; dependencies = [] }) inside
+  place-next = get_or-set_same (decode m) i next (record { key = 0; target = None; dependencies = [] }) inside
 
-  pub replaced-full : e.fits ≡ false → judged m (inserted_at (decode m) 0 none d (some i)) ≡ refused m
+  pub replaced-full : (e : Refusal) → Err e ≡ extended_by (place_in m i) d → record { done = Err e; map = m } ≡ judged m (inserted_at (decode m) 0 None d (Some i))
   unfolding inserted_at
-  replaced-full f =
-      judged-long m (set (decode m) i next) i (omega (arith, inside, length-set (decode m) i next))
-      (omega (arith, ap (λ (x : Dependent). length x.dependencies) place-next, next-size, unfitting e (place_in m i) d q f))
+  replaced-full e q =
+      ap (λ (x : Refusal). record { done = Err x; map = m }) (unfitting (place_in m i) d e q).1
+      ∙ sym (judged-long m (set (decode m) i next) i (omega (arith, inside, length-set (decode m) i next))
+      (omega (arith, ap (λ (x : Dependent). length x.dependencies) place-next, next-size, (unfitting (place_in m i) d e q).0)))
 
-  pub replaced : e.fits ≡ true → made (record { count = m.count; list = set m.list i e.node }) ≡ judged m (inserted_at (decode m) 0 none d (some i))
+  pub replaced : (n : DependencyNode) → Ok n ≡ extended_by (place_in m i) d → made (record { count = m.count; list = set m.list i n }) ≡ judged m (inserted_at (decode m) 0 None d (Some i))
   unfolding inserted_at
-  replaced f =
-      let v = fitting e (place_in m i) d q f in
+  replaced n q =
+      let v = fitting (place_in m i) d n q in
       ap (λ (r : DependencyNode). made (record { count = m.count; list = set m.list i r })) (v.is ∙ ap row (sym next-is))
       ∙ ap made (place_set m h next i l)
       ∙ sym (judged-made m (set (decode m) i next) (omega (arith, h.few, length-decode m, length-set (decode m) i next)) (λ j b. at j b (ℕ_discrete j i)))
     where
       at : (j : ℕ) → j < length (set (decode m) i next) → Dec (j ≡ i) → length (entry_at (set (decode m) i next) j).dependencies ≤ 16
-      at j b (yes s) = rw s (omega (arith, ap (λ (x : Dependent). length x.dependencies) place-next, next-size, (fitting e (place_in m i) d q f).short))
+      at j b (yes s) = rw s (omega (arith, ap (λ (x : Dependent). length x.dependencies) place-next, next-size, (fitting (place_in m i) d n q).short))
       at j b (no s) =
           let k : j < length (decode m) = omega (arith, length-set (decode m) i next) in
-          let same = ap (λ (x : Dependent). length x.dependencies) (get_or-set_other (decode m) i j next (record { key = 0; target = none; dependencies = [] }) s) in
+          let same = ap (λ (x : Dependent). length x.dependencies) (get_or-set_other (decode m) i j next (record { key = 0; target = None; dependencies = [] }) s) in
           omega (arith, held-short m h j k)
 
 -- a key comes to the end
@@ -228,28 +224,35 @@ module _ (m : DependencyMap) (h : Held m) (key : ℕ) (target d : Option ℕ) wh
   abbrev last : Dependent
   last = record { key = key; target = target; dependencies = with_dependency [] d }
 
-  pub appended-many : 64 ≤ m.count → judged m (inserted_at (decode m) key target d none) ≡ refused m
+  pub appended-many : 64 ≤ m.count → judged m (inserted_at (decode m) key target d None) ≡ refused m
   unfolding inserted_at
   appended-many l = judged-many m (decode m ++ (last ∷ [])) (omega (arith, length-append (decode m) (last ∷ []), length-decode m))
 
-  pub appended : (r : DependencyNode) (e : Extended) → r ≡ row (record { key = key; target = target; dependencies = [] }) → e ≡ extended_by r d → m.count < 64
-      → made (record { count = m.count + 1; list = set m.list m.count e.node }) ≡ judged m (inserted_at (decode m) key target d none)
-  unfolding inserted_at
-  appended r e p q l =
-      ap (λ (x : DependencyNode). made (record { count = m.count + 1; list = set m.list m.count x })) node
-      ∙ ap made (place-more m h last l)
-      ∙ sym (judged-made m (decode m ++ (last ∷ [])) (omega (arith, length-append (decode m) (last ∷ []), length-decode m)) (λ j b. at j b (ℕ_discrete j (length (decode m)))))
+  -- there is room for its dependency
+  first-fits : (r : DependencyNode) → r ≡ row (record { key = key; target = target; dependencies = [] }) → extended_by r d ≡ Ok (row last)
+  first-fits r p =
+      extended_fits r d (with_dependency [] d) (ap (λ (x : Dependent). with_dependency x.dependencies d) back) (with-one d)
+      ∙ ap (λ (x : Dependent). Ok (row (depends x (with_dependency [] d)))) back
     where
       back : entry_of r ≡ record { key = key; target = target; dependencies = [] }
       back = ap entry_of p ∙ entry_row (record { key = key; target = target; dependencies = [] })
 
-      node : e.node ≡ row last
-      node =
-          ap (λ (x : Extended). x.node) (q ∙ extended_fits r d (with_dependency [] d) (ap (λ (x : Dependent). with_dependency x.dependencies d) back) (with-one d))
-          ∙ ap (λ (x : Dependent). row (depends x (with_dependency [] d))) back
+  pub first-refused : (A : Type 0) (r : DependencyNode) (e : Refusal) → r ≡ row (record { key = key; target = target; dependencies = [] }) → Err e ≡ extended_by r d → A
+  first-refused A r e p q = absurd (ok-not-err (sym (q ∙ first-fits r p)))
+
+  pub appended : (r n : DependencyNode) → r ≡ row (record { key = key; target = target; dependencies = [] }) → Ok n ≡ extended_by r d → m.count < 64
+      → made (record { count = m.count + 1; list = set m.list m.count n }) ≡ judged m (inserted_at (decode m) key target d None)
+  unfolding inserted_at
+  appended r n p q l =
+      ap (λ (x : DependencyNode). made (record { count = m.count + 1; list = set m.list m.count x })) node
+      ∙ ap made (place-more m h last l)
+      ∙ sym (judged-made m (decode m ++ (last ∷ [])) (omega (arith, length-append (decode m) (last ∷ []), length-decode m)) (λ j b. at j b (ℕ_discrete j (length (decode m)))))
+    where
+      node : n ≡ row last
+      node = let w : Ok n ≡ Ok (row last) = q ∙ first-fits r p in cc
 
       at : (j : ℕ) → j < length (decode m ++ (last ∷ [])) → Dec (j ≡ length (decode m)) → length (entry_at (decode m ++ (last ∷ [])) j).dependencies ≤ 16
-      at j b (yes s) = rw (get_or_at (decode m) last [] (record { key = 0; target = none; dependencies = [] }) j (sym s)) (with-one d)
+      at j b (yes s) = rw (get_or_at (decode m) last [] (record { key = 0; target = None; dependencies = [] }) j (sym s)) (with-one d)
       at j b (no s) =
           let k : j < length (decode m) = omega (arith, length-append (decode m) (last ∷ [])) in
-          rw (get_or-append (decode m) (last ∷ []) (record { key = 0; target = none; dependencies = [] }) j k) (held-short m h j k)
+          rw (get_or-append (decode m) (last ∷ []) (record { key = 0; target = None; dependencies = [] }) j k) (held-short m h j k)

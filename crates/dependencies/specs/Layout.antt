@@ -1,7 +1,6 @@
 -- How a dependency map lies in its struct, and which structs are one. The one file that speaks of the struct.
 -- A place for each of 64 keys: the key, whether it has a target, the target, the number of its dependencies and 16 places for them. Every unused place is 0.
-use Rattle.std.specs.Prelude.{ℕ, ◌+◌, ◌-◌, Bool, true, false, not, ◌&&◌, ◌||◌, List, [], ◌++◌, map, eqb, ltb, leb, length, get_or, replicate, if◌then◌else◌}
-use Rattle.std.proofs.Math.Option.{Option, none, some}
+use Rattle.std.specs.Prelude.{ℕ, ◌+◌, ◌-◌, Bool, true, false, not, ◌&&◌, ◌||◌, List, [], ◌++◌, map, eqb, ltb, leb, length, get_or, replicate, if◌then◌else◌, Option, None, Some}
 use Rattle.laws.specs.Lists.{table}
 use Rattle.laws.specs.Tests.{each}
 use Rattle.classes.specs.Layout.{fresh}
@@ -12,13 +11,13 @@ use Rattle.dependencies.specs.declared.DependencyMap.{DependencyMap}
 
 -- there is a target
 unfoldable pub is_there : Option ℕ → Bool
-is_there none = false
-is_there (some t) = true
+is_there None = false
+is_there (Some t) = true
 
 -- the number of a target; 0 where there is none
 unfoldable pub number_or0 : Option ℕ → ℕ
-number_or0 none = 0
-number_or0 (some t) = t
+number_or0 None = 0
+number_or0 (Some t) = t
 
 -- an entry as its struct
 unfoldable pub row : Dependent → DependencyNode
@@ -36,13 +35,13 @@ unfoldable pub entry_of : DependencyNode → Dependent
 entry_of r =
     record {
       key = r.key;
-      target = if r.projected then some r.target else none;
+      target = if r.projected then Some r.target else None;
       dependencies = table (λ k. get_or r.dependencies k 0) r.size;
     }
 
 -- an unused place
 abbrev pub unused : DependencyNode
-unused = row (record { key = 0; target = none; dependencies = [] })
+unused = row (record { key = 0; target = None; dependencies = [] })
 
 -- a map as its struct
 unfoldable pub encode : List Dependent → DependencyMap

@@ -10,15 +10,18 @@ pub mod checking;
 pub mod inserting;
 
 ghost use Rattle.std.specs.Prelude.{[], ◌≡◌};
+ghost use Rattle.arena.specs.Refusals.{outcome};
 ghost use Rattle.dependencies.specs.Layout.{encode};
 ghost use Rattle.dependencies.specs.Calls.{map_number, insert_answer};
 
-use arena::cells::{node_count, wide};
-use checking::check_map;
-use inserting::{given_below, insert_in, options_known};
+use arena::Refusal;
+use checking::{check_insert, check_map};
+use inserting::insert_in;
 
 // A key of the map: the key as expression · 4 + options, whether it has a target, the target likewise, how many
 // dependencies it has, and these; unused places are 0.
+// A flag and a number stay in place of an Option: rule 11 for a lent map speaks of a number where there is no target.
+// Flat arrays with counts: a state crosses to its callers as these numbers, and the project has no heap.
 #[derive(Clone, Copy)]
 pub struct DependencyNode {
     pub key: u16,
@@ -29,31 +32,25 @@ pub struct DependencyNode {
 }
 
 // A dependency map: how many keys it has, and the keys in order of arrival; unused places are 0.
+// Flat arrays with counts: a state crosses to its callers as these numbers, and the project has no heap.
 #[derive(Clone, Copy)]
 pub struct DependencyMap {
     pub count: usize,
     pub list: [DependencyNode; 64],
 }
 
-// A key that is given, its expression and its options, or none.
-#[derive(Clone, Copy)]
-pub enum Given {
-    Key(u32, u32),
-    Nothing,
+// A key that is given: its expression and its options.
+#[derive(Clone, Copy, Debug, PartialEq, Eq)]
+pub struct Key {
+    pub expr: u32,
+    pub options: u32,
 }
 
-// What an insert answers: the refusal's number or 0, and the map; beside a refusal the map that was given.
+// What an insert answers: whether it is done, and the map; beside a refusal the map that was given.
 #[derive(Clone, Copy)]
 pub struct Inserted {
-    pub number: u32,
+    pub done: Result<(), Refusal>,
     pub map: DependencyMap,
-}
-
-// A key with a dependency more, or that it has no room for it.
-#[derive(Clone, Copy)]
-pub struct Extended {
-    pub fits: bool,
-    pub node: DependencyNode,
 }
 
 // The empty map.
@@ -66,9 +63,9 @@ pub fn open_map() -> DependencyMap
     }
 }
 
-// The check of a lent map: 0, or 11 or 1, whichever is first.
-pub fn check(cells: &[u32; 11265], map: DependencyMap) -> u32
-    ensures { result ≡ map_number cells.now map }
+// The check of a lent map: done, or refusal 11 or 1, whichever is first.
+pub fn check(cells: &[u32; 11265], map: DependencyMap) -> Result<(), Refusal>
+    ensures { result ≡ outcome (map_number cells.now map) }
 {
     check_map(cells, map)
 }
@@ -80,33 +77,13 @@ pub fn insert(
     map: DependencyMap,
     expr: u32,
     options: u32,
-    target: Given,
-    dependency: Given,
+    target: Option<Key>,
+    dependency: Option<Key>,
 ) -> Inserted
     ensures { result ≡ insert_answer cells.now map expr options target dependency }
 {
-    if 3 < options {
-        return inserting::refusal(12, map);
+    match check_insert(cells, map, expr, options, target, dependency) {
+        Ok(()) => insert_in(map, expr, options, target, dependency),
+        Err(why) => inserting::refusal(why, map),
     }
-    if !options_known(target) {
-        return inserting::refusal(12, map);
-    }
-    if !options_known(dependency) {
-        return inserting::refusal(12, map);
-    }
-    let number = check_map(cells, map);
-    if number != 0 {
-        return inserting::refusal(number, map);
-    }
-    let n = node_count(cells);
-    if n <= wide(expr) {
-        return inserting::refusal(1, map);
-    }
-    if !given_below(target, n) {
-        return inserting::refusal(1, map);
-    }
-    if !given_below(dependency, n) {
-        return inserting::refusal(1, map);
-    }
-    insert_in(map, expr, options, target, dependency)
 }

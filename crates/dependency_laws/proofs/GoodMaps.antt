@@ -1,9 +1,8 @@
 -- Maps that pass the check, without their struct: what the check says of the entries, and that entries of which this holds lie in a struct that passes.
-use Rattle.std.specs.Prelude.{if◌then◌else◌}
+use Rattle.std.specs.Prelude.{if◌then◌else◌, Option, None, Some}
 use Prim.Native.Nat.{ℕ, ◌+◌, ◌-◌, ◌<◌, ◌≤◌}
 use mathlib.Core.Bool.{Bool, true, false, not, ◌&&◌, ◌||◌}
 use mathlib.Core.List.{List, ◌++◌}
-use mathlib.Core.Option.{Option, none, some}
 use mathlib.Core.Path.{◌≡◌, refl, sym, ap, ◌∙◌, subst}
 use native.Mathlib.Omega.{arith}
 use borrow.Author.Tests.{le-leb, ltb-true, lt-ltb, eq-eqb, ne_eqb, not-true}
@@ -56,7 +55,7 @@ module _ (f : ℕ → ℕ) (k : ℕ) where
 -- ---- from the struct
 
 -- the number of a target that is told, or 0
-told_below : (n : ℕ) (b : Bool) (t : ℕ) → expr_of t < n → expr_of (number_or0 (if b then some t else none)) < n
+told_below : (n : ℕ) (b : Bool) (t : ℕ) → expr_of t < n → expr_of (number_or0 (if b then Some t else None)) < n
 unfolding expr_of number_or0
 told_below n true t l = l
 told_below n false t l = omega arith
@@ -128,8 +127,8 @@ module _ (cells : List ℕ) (m : DependencyMap) (e : map_number cells m ≡ 0) w
 -- a target number stands only where there is a target
 target_told : (o : Option ℕ) → (is_there o || eqb (number_or0 o) 0) ≡ true
 unfolding is_there number_or0
-target_told none = refl
-target_told (some t) = refl
+target_told None = refl
+target_told (Some t) = refl
 
 module _ (n : ℕ) (x : Dependent) (g : GoodEntry n x) where
   abbrev ks : List ℕ

@@ -1,9 +1,8 @@
 -- Theorems on the dependency map: what is opened and what an insert makes passes the check, a refusal hands the map back, and what an insert adds and keeps.
-use Rattle.std.specs.Prelude.{if◌then◌else◌}
+use Rattle.std.specs.Prelude.{if◌then◌else◌, Option, None, Some, Ok, Err}
 use Prim.Native.Nat.{ℕ, ◌+◌, ◌*◌, ◌<◌, ◌≤◌}
-use mathlib.Core.Bool.{Bool, true, false, ◌&&◌}
+use mathlib.Core.Bool.{Bool, true, false}
 use mathlib.Core.List.{List, [], ◌∷◌, ◌++◌}
-use mathlib.Core.Option.{Option, none, some}
 use mathlib.Core.Path.{◌≡◌, refl, sym, ap, ◌∙◌, subst}
 use native.Mathlib.Decide.{ℕ_discrete}
 use native.Mathlib.Omega.{arith}
@@ -15,6 +14,9 @@ use Rattle.laws.specs.Tests.{each}
 use Rattle.laws.proofs.Booleans.{true_not_false, and_left, and_right}
 use Rattle.laws.proofs.Each.{each_holds}
 use Rattle.arena.specs.Layout.{count, lawful}
+use Rattle.arena.specs.Refusals.{refusal}
+use Rattle.arena.specs.declared.Refusal.TheVariants.{TooLarge}
+use Rattle.arena.proofs.Refusals.{ok-not-err}
 use Rattle.classes.specs.Group.{among}
 use Rattle.classes.proofs.Places.{get_or-among, among-right, one-among}
 use Rattle.orderings.specs.Ordering.{expr_of}
@@ -23,10 +25,10 @@ use Rattle.dependencies.specs.Map.{Dependent, entry_at, place_of, with_dependenc
 use Rattle.dependencies.specs.Layout.{number_or0, encode, decode}
 use Rattle.dependencies.specs.Calls.{map_number, options_known, given_below, key_of, insert_number, judged, insert_answer}
 use Rattle.dependencies.specs.declared.DependencyMap.{DependencyMap}
-use Rattle.dependencies.specs.declared.Given.{Given}
-use Rattle.dependencies.specs.declared.Given.TheVariants.{Key, Nothing}
+use Rattle.dependencies.specs.declared.Key.{Key}
 use Rattle.dependencies.specs.declared.Inserted.{Inserted}
 use Rattle.dependencies.proofs.MapChecks.{number-arena}
+use Rattle.dependencies.proofs.MapCalls.{insert-tests}
 use Rattle.dependency_laws.proofs.Inserts.{nothing, more, place-below, place_none, there-is, there-length, there-entry, there-other, new-length, new-entry, new-other, keys_kept, place_kept, place-new}
 use Rattle.dependency_laws.proofs.GoodMaps.{GoodEntry, GoodMap, number-good, good-number}
 
@@ -73,8 +75,8 @@ module _ (n : ℕ) (x : Dependent) (g : GoodEntry n x) (d : ℕ) (f : among d x.
 -- a good entry with the dependency that is given
 more-good : (n : ℕ) (x : Dependent) (d : Option ℕ) → GoodEntry n x → expr_of (number_or0 d) < n → length (with_dependency x.dependencies d) ≤ 16 → GoodEntry n (more x d)
 unfolding with_dependency number_or0
-more-good n x none g b s = g
-more-good n x (some d) g b s = go (among d x.dependencies) refl s
+more-good n x None g b s = g
+more-good n x (Some d) g b s = go (among d x.dependencies) refl s
   where
     made : Bool → List ℕ
     made t = if t then x.dependencies else x.dependencies ++ (d ∷ [])
@@ -111,7 +113,7 @@ module _ (n : ℕ) (ds : List Dependent) (k : ℕ) (t d : Option ℕ) (g : GoodM
   inserted-good = go (place_of ds k) refl
     where
       go : (o : Option ℕ) → place_of ds k ≡ o → GoodMap n made
-      go (some i) e =
+      go (Some i) e =
           let z = there-length ds k t d i e in
           record {
             few = few;
@@ -127,7 +129,7 @@ module _ (n : ℕ) (ds : List Dependent) (k : ℕ) (t d : Option ℕ) (g : GoodM
           entry j l (no s) =
               let w : j < length ds = omega (arith, there-length ds k t d i e) in
               subst (λ (y : Dependent). GoodEntry n y) (sym (there-other ds k t d i e j s)) (g.entries j w)
-      go none e =
+      go None e =
           record {
             few = few;
             entries = λ j l. entry j l (ℕ_discrete j (length ds));
@@ -158,32 +160,22 @@ unfolding expr_of
 expr-key e options l = omega arith
 
 -- a key that is given, if one is, is known
-given-known : (n : ℕ) (g : Given) → 0 < n → options_known g ≡ true → given_below n g ≡ true → expr_of (number_or0 (key_of g)) < n
+given-known : (n : ℕ) (g : Option Key) → 0 < n → options_known g ≡ true → given_below n g ≡ true → expr_of (number_or0 (key_of g)) < n
 unfolding options_known given_below key_of number_or0 expr_of
-given-known n (Key e options) z o b = let l = leb-true options 3 o in let w = ltb-true e n b in omega arith
-given-known n Nothing z o b = omega arith
+given-known n (Some k) z o b = let l = leb-true k.options 3 o in let w = ltb-true k.expr n b in omega arith
+given-known n None z o b = omega arith
 
 -- what a number 0 says of what is lent and given
-record Lent (cells : List ℕ) (m : DependencyMap) (e options : ℕ) (target dependency : Given) : Type 0 where
+record Lent (cells : List ℕ) (m : DependencyMap) (e options : ℕ) (target dependency : Option Key) : Type 0 where
   checked : map_number cells m ≡ 0
   key : expr_of (e * 4 + options) < count cells
   target-known : expr_of (number_or0 (key_of target)) < count cells
   dependency-known : expr_of (number_or0 (key_of dependency)) < count cells
 
--- the parts of a number that is 0
-number-parts : (a b c : Bool) (x : ℕ) → eqb x 0 ≡ b → ◌≡◌ {A = ℕ} (if a then (if b then (if c then 0 else 1) else x) else 12) 0 → (a ≡ true) × (x ≡ 0) × (c ≡ true)
-number-parts true true true x e q = (refl, eqb-true x 0 e, refl)
-number-parts true true false x e q = absurd (omega arith)
-number-parts true false c x e q = absurd (true_not_false (ap (λ (y : ℕ). eqb y 0) q) e)
-number-parts false b c x e q = absurd (omega arith)
-
-module _ (cells : List ℕ) (m : DependencyMap) (e options : ℕ) (target dependency : Given) where
+module _ (cells : List ℕ) (m : DependencyMap) (e options : ℕ) (target dependency : Option Key) where
   lent-known : insert_number cells m e options target dependency ≡ 0 → Lent cells m e options target dependency
-  unfolding insert_number
   lent-known q =
-      let p =
-      number-parts (leb options 3 && options_known target && options_known dependency) (eqb (map_number cells m) 0)
-      (ltb e (count cells) && given_below (count cells) target && given_below (count cells) dependency) (map_number cells m) refl q in
+      let p = insert-tests cells m e options target dependency q in
       let o = three (leb options 3) (options_known target) (options_known dependency) p.0 in
       let b = three (ltb e (count cells)) (given_below (count cells) target) (given_below (count cells) dependency) p.2 in
       let l = ltb-true e (count cells) b.0 in
@@ -200,27 +192,27 @@ module _ (cells : List ℕ) (m : DependencyMap) (e options : ℕ) (target depend
   -- the answer, by the check and by whether the map fits
   abbrev answer_by : Bool → Bool → Inserted
   answer_by p q =
-      if p then (if q then record { number = 0; map = encode after } else record { number = 5; map = m }) else record { number = insert_number cells m e options target dependency; map = m }
+      if p then (if q then record { done = Ok tt; map = encode after } else record { done = Err TooLarge; map = m }) else record { done = Err (refusal (insert_number cells m e options target dependency)); map = m }
 
   -- a map that an insert made passes the check
-  pub insert_valid : (insert_answer cells m e options target dependency).number ≡ 0 → map_number cells (insert_answer cells m e options target dependency).map ≡ 0
+  pub insert_valid : (insert_answer cells m e options target dependency).done ≡ Ok tt → map_number cells (insert_answer cells m e options target dependency).map ≡ 0
   unfolding insert_answer judged
   insert_valid = go (eqb (insert_number cells m e options target dependency) 0) (fits after) refl refl
     where
-      go : (p q : Bool) → eqb (insert_number cells m e options target dependency) 0 ≡ p → fits after ≡ q → (answer_by p q).number ≡ 0 → map_number cells (answer_by p q).map ≡ 0
+      go : (p q : Bool) → eqb (insert_number cells m e options target dependency) 0 ≡ p → fits after ≡ q → (answer_by p q).done ≡ Ok tt → map_number cells (answer_by p q).map ≡ 0
       go true true s f z =
           let l = lent-known (eqb-true (insert_number cells m e options target dependency) 0 s) in
           good-number cells after (number-arena cells m l.checked)
           (inserted-good (count cells) (decode m) (e * 4 + options) (key_of target) (key_of dependency) (number-good cells m l.checked) l.key l.target-known l.dependency-known f)
-      go true false s f z = absurd (omega arith)
-      go false q s f z = absurd (true_not_false (ap (λ (y : ℕ). eqb y 0) z) s)
+      go true false s f z = absurd (ok-not-err (sym z))
+      go false q s f z = absurd (ok-not-err (sym z))
 
   -- a refusal hands the map back as it was
-  pub refusal-keeps-map : ((insert_answer cells m e options target dependency).number ≡ 0 → ⊥) → (insert_answer cells m e options target dependency).map ≡ m
+  pub refusal-keeps-map : ((insert_answer cells m e options target dependency).done ≡ Ok tt → ⊥) → (insert_answer cells m e options target dependency).map ≡ m
   unfolding insert_answer judged
   refusal-keeps-map = go (eqb (insert_number cells m e options target dependency) 0) (fits after)
     where
-      go : (p q : Bool) → ((answer_by p q).number ≡ 0 → ⊥) → (answer_by p q).map ≡ m
+      go : (p q : Bool) → ((answer_by p q).done ≡ Ok tt → ⊥) → (answer_by p q).map ≡ m
       go true true n = absurd (n refl)
       go true false n = refl
       go false q n = refl
@@ -229,31 +221,31 @@ module _ (cells : List ℕ) (m : DependencyMap) (e options : ℕ) (target depend
 
 module _ (ds : List Dependent) (k : ℕ) (t d : Option ℕ) where
   -- the key has a place then
-  pub key-there : (i : ℕ) × (place_of (inserted ds k t d) k ≡ some i)
+  pub key-there : (i : ℕ) × (place_of (inserted ds k t d) k ≡ Some i)
   key-there = go (place_of ds k) refl
     where
-      go : (o : Option ℕ) → place_of ds k ≡ o → (i : ℕ) × (place_of (inserted ds k t d) k ≡ some i)
-      go none e = (length ds, place-new ds k t d e)
-      go (some i) e = (i, place_kept ds k t d i e)
+      go : (o : Option ℕ) → place_of ds k ≡ o → (i : ℕ) × (place_of (inserted ds k t d) k ≡ Some i)
+      go None e = (length ds, place-new ds k t d e)
+      go (Some i) e = (i, place_kept ds k t d i e)
 
   -- a key that is there keeps its first target
-  pub first_target-kept : (i : ℕ) → place_of ds k ≡ some i → (entry_at (inserted ds k t d) i).target ≡ (entry_at ds i).target
+  pub first_target-kept : (i : ℕ) → place_of ds k ≡ Some i → (entry_at (inserted ds k t d) i).target ≡ (entry_at ds i).target
   first_target-kept i e = ap (λ (x : Dependent). x.target) (there-entry ds k t d i e)
 
   -- a new key comes to the end with the target that is given
-  pub target-taken : place_of ds k ≡ none → (entry_at (inserted ds k t d) (length ds)).target ≡ t
+  pub target-taken : place_of ds k ≡ None → (entry_at (inserted ds k t d) (length ds)).target ≡ t
   target-taken e = ap (λ (x : Dependent). x.target) (new-entry ds k t d e)
 
   -- every entry but the key's is kept
-  pub others-kept : (j : ℕ) → j < length ds → (place_of ds k ≡ some j → ⊥) → entry_at (inserted ds k t d) j ≡ entry_at ds j
+  pub others-kept : (j : ℕ) → j < length ds → (place_of ds k ≡ Some j → ⊥) → entry_at (inserted ds k t d) j ≡ entry_at ds j
   others-kept j l n = go (place_of ds k) refl
     where
       go : (o : Option ℕ) → place_of ds k ≡ o → entry_at (inserted ds k t d) j ≡ entry_at ds j
-      go none e = new-other ds k t d e j l
-      go (some i) e = there-other ds k t d i e j (λ q. n (e ∙ ap {B = Option ℕ} some (sym q)))
+      go None e = new-other ds k t d e j l
+      go (Some i) e = there-other ds k t d i e j (λ q. n (e ∙ ap {B = Option ℕ} Some (sym q)))
 
 -- a dependency that is given is there then
-with-among : (ks : List ℕ) (d : ℕ) → among d (with_dependency ks (some d)) ≡ true
+with-among : (ks : List ℕ) (d : ℕ) → among d (with_dependency ks (Some d)) ≡ true
 unfolding with_dependency
 with-among ks d = go (among d ks) refl
   where
@@ -263,25 +255,25 @@ with-among ks d = go (among d ks) refl
 
 module _ (ds : List Dependent) (k : ℕ) (t : Option ℕ) (d : ℕ) where
   abbrev depending : List Dependent
-  depending = inserted ds k t (some d)
+  depending = inserted ds k t (Some d)
 
   -- the entry of the key has the dependency then
-  pub dependency-there : (i : ℕ) → place_of depending k ≡ some i → among d (entry_at depending i).dependencies ≡ true
+  pub dependency-there : (i : ℕ) → place_of depending k ≡ Some i → among d (entry_at depending i).dependencies ≡ true
   dependency-there i p = go (place_of ds k) refl
     where
-      at : (j : ℕ) → place_of depending k ≡ some j → among d (entry_at depending j).dependencies ≡ true → among d (entry_at depending i).dependencies ≡ true
-      at j q h = let w : ◌≡◌ {A = Option ℕ} (some j) (some i) = sym q ∙ p in let s : j ≡ i = cc w in subst (λ (x : ℕ). among d (entry_at depending x).dependencies ≡ true) s h
+      at : (j : ℕ) → place_of depending k ≡ Some j → among d (entry_at depending j).dependencies ≡ true → among d (entry_at depending i).dependencies ≡ true
+      at j q h = let w : ◌≡◌ {A = Option ℕ} (Some j) (Some i) = sym q ∙ p in let s : j ≡ i = cc w in subst (λ (x : ℕ). among d (entry_at depending x).dependencies ≡ true) s h
 
       go : (o : Option ℕ) → place_of ds k ≡ o → among d (entry_at depending i).dependencies ≡ true
-      go none e = at (length ds) (place-new ds k t (some d) e) (ap (λ (x : Dependent). among d x.dependencies) (new-entry ds k t (some d) e) ∙ with-among [] d)
-      go (some j) e = at j (place_kept ds k t (some d) j e) (ap (λ (x : Dependent). among d x.dependencies) (there-entry ds k t (some d) j e) ∙ with-among (entry_at ds j).dependencies d)
+      go None e = at (length ds) (place-new ds k t (Some d) e) (ap (λ (x : Dependent). among d x.dependencies) (new-entry ds k t (Some d) e) ∙ with-among [] d)
+      go (Some j) e = at j (place_kept ds k t (Some d) j e) (ap (λ (x : Dependent). among d x.dependencies) (there-entry ds k t (Some d) j e) ∙ with-among (entry_at ds j).dependencies d)
 
   -- a dependency that the key has already changes nothing
-  pub dependency-once : (i : ℕ) → place_of ds k ≡ some i → among d (entry_at ds i).dependencies ≡ true → depending ≡ ds
+  pub dependency-once : (i : ℕ) → place_of ds k ≡ Some i → among d (entry_at ds i).dependencies ≡ true → depending ≡ ds
   unfolding with_dependency
-  dependency-once i e h = there-is ds k t (some d) i e ∙ ap (λ (x : Dependent). set ds i x) same ∙ ext_get_or nothing (set ds i (entry_at ds i)) ds (length-set ds i (entry_at ds i)) (λ j l. at j (ℕ_discrete j i))
+  dependency-once i e h = there-is ds k t (Some d) i e ∙ ap (λ (x : Dependent). set ds i x) same ∙ ext_get_or nothing (set ds i (entry_at ds i)) ds (length-set ds i (entry_at ds i)) (λ j l. at j (ℕ_discrete j i))
     where
-      same : more (entry_at ds i) (some d) ≡ entry_at ds i
+      same : more (entry_at ds i) (Some d) ≡ entry_at ds i
       same = rw h
 
       at : (j : ℕ) → Dec (j ≡ i) → entry_at (set ds i (entry_at ds i)) j ≡ entry_at ds j

@@ -1,14 +1,13 @@
 -- The answers: orderings against their bounds and the output, lists as they lie in their struct, what was gathered, and the checks of what is given.
-use Rattle.std.specs.Prelude.{if◌then◌else◌}
-use Prim.Native.Nat.{ℕ, zero, suc, ◌+◌, ◌-◌, ◌*◌, ◌<◌, ◌≤◌, ◌%◌}
+use Rattle.std.specs.Prelude.{if◌then◌else◌, None, Ok, Err}
+use Prim.Native.Nat.{ℕ, zero, suc, ◌+◌, ◌-◌, ◌*◌, ◌<◌, ◌≤◌}
 use mathlib.Core.Bool.{Bool, true, false, ◌||◌}
 use mathlib.Core.List.{List, [], ◌∷◌, ◌++◌, append-nil}
-use mathlib.Core.Option.{none}
 use mathlib.Core.Path.{◌≡◌, refl, sym, ap, ap₂, ◌∙◌, subst}
 use native.Mathlib.Nat.{zero-add, mul_comm}
 use native.Mathlib.Numerals.{add-one}
 use native.Mathlib.Omega.{arith}
-use borrow.Author.Tests.{eqb-true, eq-eqb, ne_eqb, ltb-true, ltb-false, lt-ltb, le-ltb, leb-true, leb-false, le-leb, lt-leb, not-true, not-false}
+use borrow.Author.Tests.{eqb-true, eq-eqb, ne_eqb, ltb-true, ltb-false, le-ltb, leb-true, leb-false, le-leb, lt-leb, not-true, not-false}
 use lib.Dec.{eqb, ltb, leb}
 use lib.ListN.{length, get_or, take, drop, set, replicate, length-append, get_or-append}
 use lib.Seq.{take_all, get_or-append-add}
@@ -31,7 +30,7 @@ use Rattle.dependencies.specs.Inner.{Held}
 use Rattle.dependencies.specs.declared.DependencyMap.{DependencyMap}
 use Rattle.dependencies.proofs.MapChecks.{number-lawful, number-arena}
 use Rattle.dependencies.proofs.MapCodec.{Sized, held-lawful}
-use Rattle.enumeration.specs.Walk.{Walk, prefix_orderings}
+use Rattle.enumeration.specs.Walk.{Walk, stopped, prefix_orderings}
 use Rattle.enumeration.specs.Bounds.{fitting}
 use Rattle.enumeration.specs.Inner.{Rows, Came}
 use Rattle.enumeration.specs.declared.Found.{Found}
@@ -43,37 +42,38 @@ use Rattle.products.specs.Generate.{once_each, contributing, all_orders, generat
 use Rattle.products.specs.Inner.{joined, start_of, length_of, lengths_of, list_of, lists_of, Laid, factorial, times_all, choices, counted}
 use Rattle.products.specs.declared.Shape.{Shape}
 use Rattle.products.specs.declared.Lists.{Lists}
-use Rattle.products.specs.declared.Counted.{Counted}
+use Rattle.arena.specs.declared.Refusal.{Refusal}
+use Rattle.arena.specs.declared.Refusal.TheVariants.{TooLarge, UnknownKey, OutputShort}
+use Rattle.arena.specs.Refusals.{refusal_number, refusal, outcome}
+use Rattle.arena.proofs.Refusals.{ok-not-err, ok-zero, err-refusal, Listed, listed-if}
+use Rattle.classes.proofs.Judging.{refusal-of}
+use Rattle.dependencies.proofs.MapCalls.{map_number-listed}
+use Rattle.dependency_orderings.proofs.Measures.{measured-fits, measured-not}
 use Rattle.products.proofs.ProductLaws.{generated-one, generated-length}
 use Rattle.products.proofs.ListLaws.{lists_length, lists_lengths}
 use Rattle.products.proofs.Choices.{lengths_count}
 use Rattle.dependency_orderings.specs.Output.{written_all}
-use Rattle.dependency_orderings.specs.Calls.{refused_with, writes, answered, walk_answer, prefix_number, prefix_answer, generate_number, gathered_answer, different, generate_answer}
-use Rattle.dependency_orderings.specs.Inner.{measured, Ready, one_list, up_to17, Shapes, Gathering, Gathers, GatheredBy, over_bound, KeysFit}
-use Rattle.dependency_orderings.specs.declared.Enumerated.{Enumerated}
+use Rattle.dependency_orderings.specs.Calls.{Answer, writes, answered, walk_answer, prefix_number, prefix_answer, generate_number, gathered_answer, different, generate_answer}
+use Rattle.dependency_orderings.specs.Inner.{measured, Ready, one_list, up_to17, Shapes, Gathering, GathersOn, Gathers, GatheredBy, over_bound, KeysFit}
 use Rattle.dependency_orderings.specs.declared.Gathered.{Gathered}
 
 -- Orderings against their bounds and the output
 
--- an answer and what it leaves in the output
-abbrev pub Answer : Type 0
-Answer = Enumerated × List ℕ
-
 -- no orderings: nothing is written
-answered-none : (out : List ℕ) → ◌≡◌ {A = Answer} (refused_with 0, out) (answered [] out)
+answered-none : (out : List ℕ) → ◌≡◌ {A = Answer} (Ok (record { count = 0; used = 0 }), out) (answered [] out)
 unfolding answered writes written_all fitting each
 answered-none out = rw (le-leb 0 (length out) (omega arith))
 
 module _ (os : List (List ℕ)) (out : List ℕ) where
   -- orderings over a bound
-  pub answered-over : fitting os ≡ false → ◌≡◌ {A = Answer} (refused_with 5, out) (answered os out)
+  pub answered-over : fitting os ≡ false → ◌≡◌ {A = Answer} (Err TooLarge, out) (answered os out)
   unfolding answered
   answered-over f = rw f
 
   -- orderings within the bounds
   module _ (f : fitting os ≡ true) where
     -- that the output is too short for
-    answered-short : length out < length (written_all os) → ◌≡◌ {A = Answer} (refused_with 8, out) (answered os out)
+    answered-short : length out < length (written_all os) → ◌≡◌ {A = Answer} (Err OutputShort, out) (answered os out)
     unfolding answered
     answered-short l = rw (f, lt-leb (length (written_all os)) (length out) l)
 
@@ -99,52 +99,31 @@ few-fitting os l h = and_both (le-leb (length os) 1024 l) h
 
 -- How many orderings lists give, and how many places they take
 
--- a number that is told where a test passes
-abbrev told : Bool → ℕ → Counted
-told b n = if b then record { fits = true; count = n } else record { fits = false; count = 0 }
-
--- the struct says whether it passed
-told-test : (b : Bool) (n : ℕ) (r : Counted) → r ≡ told b n → r.fits ≡ b
-told-test true n r q = ap (λ (x : Counted). x.fits) q
-told-test false n r q = ap (λ (x : Counted). x.fits) q
-
--- and where it did, the number
-told-number : (b : Bool) (n : ℕ) (r : Counted) → r ≡ told b n → r.fits ≡ true → r.count ≡ n
-told-number true n r q t = ap (λ (x : Counted). x.count) q
-told-number false n r q t = absurd (true_not_false t (ap (λ (x : Counted). x.fits) q))
-
 -- how many choices lists of some lengths give
-module _ (ns : List ℕ) (r : Counted) (q : r ≡ counted ns) where
+module _ (ns : List ℕ) where
   -- how many orders they have
   abbrev ways : ℕ
   ways = factorial (length ns) * times_all ns
 
-  -- where the number is told, at most 1,024
-  counted-few : r.fits ≡ true → ways ≤ 1024
+  counted-by : (b : Bool) → leb ways 1024 ≡ b → counted ns ≡ (if b then Ok (times_all ns) else Err TooLarge)
   unfolding counted
-  counted-few t = leb-true ways 1024 (sym (told-test (leb ways 1024) (times_all ns) r q) ∙ t)
+  counted-by b e = rw e
+
+  -- where the number is told, at most 1,024
+  counted_is : (n : ℕ) → Ok n ≡ counted ns → (ways ≤ 1024) × (n ≡ times_all ns)
+  counted_is n q = go (leb ways 1024) refl
+    where
+      go : (b : Bool) → leb ways 1024 ≡ b → (ways ≤ 1024) × (n ≡ times_all ns)
+      go true e = let p : Ok n ≡ Ok (times_all ns) = q ∙ counted-by true e in (leb-true ways 1024 e, cc)
+      go false e = absurd (ok-not-err (q ∙ counted-by false e))
 
   -- where it is not, more
-  counted-over : r.fits ≡ false → 1024 < ways
-  unfolding counted
-  counted-over t = leb-false ways 1024 (sym (told-test (leb ways 1024) (times_all ns) r q) ∙ t)
-
-  -- the number that is told
-  counted_is : r.fits ≡ true → r.count ≡ times_all ns
-  unfolding counted
-  counted_is t = told-number (leb ways 1024) (times_all ns) r q t
-
--- how many places orderings take
-module _ (os : List (List ℕ)) (r : Counted) (q : r ≡ measured os) where
-  -- where the number is told, none is too long; where it is not, one is
-  measured-test : r.fits ≡ all_short os
-  unfolding measured
-  measured-test = told-test (all_short os) (length (written_all os)) r q
-
-  -- the number that is told
-  measured-is : r.fits ≡ true → r.count ≡ length (written_all os)
-  unfolding measured
-  measured-is t = told-number (all_short os) (length (written_all os)) r q t
+  counted-over : (why : Refusal) → Err why ≡ counted ns → (1024 < ways) × (why ≡ TooLarge)
+  counted-over why q = go (leb ways 1024) refl
+    where
+      go : (b : Bool) → leb ways 1024 ≡ b → (1024 < ways) × (why ≡ TooLarge)
+      go true e = absurd (ok-not-err (sym (q ∙ counted-by true e)))
+      go false e = let p : Err why ≡ Err TooLarge = q ∙ counted-by false e in (leb-false ways 1024 e, cc)
 
 -- where there are lists, their orderings are those of the choices
 generated-some : (ls : List (List (List ℕ))) → 0 < length ls → generated ls ≡ all_orders (product ls)
@@ -158,16 +137,16 @@ generated-count [] l = absurd (omega arith)
 generated-count (x ∷ ls) l = generated-length x ls
 
 -- no lists have no orderings
-pub answer-none : (l : Lists) (out : List ℕ) → l.shape.size ≡ 0 → ◌≡◌ {A = Answer} (refused_with 0, out) (answered (generated (lists_of l)) out)
+pub answer-none : (l : Lists) (out : List ℕ) → l.shape.size ≡ 0 → ◌≡◌ {A = Answer} (Ok (record { count = 0; used = 0 }), out) (answered (generated (lists_of l)) out)
 unfolding generated
 answer-none l out z = go (lists_of l) (lists_length l ∙ z)
   where
-    go : (ls : List (List (List ℕ))) → length ls ≡ 0 → ◌≡◌ {A = Answer} (refused_with 0, out) (answered (generated ls) out)
+    go : (ls : List (List (List ℕ))) → length ls ≡ 0 → ◌≡◌ {A = Answer} (Ok (record { count = 0; used = 0 }), out) (answered (generated ls) out)
     go [] e = answered-none out
     go (x ∷ ls) e = absurd (omega arith)
 
 -- the answer with lists of which at least one is there, by the number of choices
-module _ (l : Lists) (v : Laid l) (z : l.shape.size ≡ 0 → ⊥) (r : Counted) (q : r ≡ counted (lengths_of l.shape)) where
+module _ (l : Lists) (v : Laid l) (z : l.shape.size ≡ 0 → ⊥) where
   -- at least one is there
   there : 0 < length (lists_of l)
   there = omega (arith, lists_length l)
@@ -187,71 +166,75 @@ module _ (l : Lists) (v : Laid l) (z : l.shape.size ≡ 0 → ⊥) (r : Counted)
       ∙ ap₂ {C = ℕ} (λ a b. times_all a * factorial b) (lists_lengths l) (lists_length l)
 
   -- too many
-  pub answer-many : r.fits ≡ false → (out : List ℕ) → ◌≡◌ {A = Answer} (refused_with 5, out) (answered (generated (lists_of l)) out)
-  answer-many f out =
-      let over = counted-over (lengths_of l.shape) r q f in
+  pub answer-many : (why : Refusal) → Err why ≡ counted (lengths_of l.shape) → (out : List ℕ) → ◌≡◌ {A = Answer} (Err why, out) (answered (generated (lists_of l)) out)
+  answer-many why q out =
+      let over = counted-over (lengths_of l.shape) why q in
       let same = ap (λ (n : ℕ). factorial n * times_all (lengths_of l.shape)) (lengths_count l.shape) in
-      answered-over (generated (lists_of l)) out (many-over (generated (lists_of l))
-      (omega (arith, over, same, all-count, mul_comm (factorial l.shape.size) (times_all (lengths_of l.shape)))))
+      ap {B = Answer} (λ (x : Refusal). (Err x, out)) over.1
+      ∙ answered-over (generated (lists_of l)) out (many-over (generated (lists_of l))
+      (omega (arith, over.0, same, all-count, mul_comm (factorial l.shape.size) (times_all (lengths_of l.shape)))))
 
   -- not too many
-  module _ (f : r.fits ≡ true) where
+  module _ (r : ℕ) (q : Ok r ≡ counted (lengths_of l.shape)) where
     -- their orders are at most 1,024
-    few-orders : factorial l.shape.size * r.count ≤ 1024
+    few-orders : factorial l.shape.size * r ≤ 1024
     few-orders =
-        let same = ap₂ {C = ℕ} (λ a b. factorial a * b) (lengths_count l.shape) (sym (counted_is (lengths_of l.shape) r q f)) in
-        omega (arith, counted-few (lengths_of l.shape) r q f, same)
+        let c = counted_is (lengths_of l.shape) r q in
+        let same = ap₂ {C = ℕ} (λ a b. factorial a * b) (lengths_count l.shape) (sym c.1) in
+        omega (arith, c.0, same)
 
     -- what the functions that measure and write ask
-    pub answer-ready : Ready l r.count
+    pub answer-ready : Ready l r
     answer-ready = record {
       laid = v;
       some = omega arith;
-      number = counted_is (lengths_of l.shape) r q f ∙ ap times_all (sym (lists_lengths l));
+      number = (counted_is (lengths_of l.shape) r q).1 ∙ ap times_all (sym (lists_lengths l));
       few = few-orders;
     }
 
     -- the count that is answered is small
-    pub count-few : (n : ℕ) → n ≡ factorial l.shape.size → r.count * n ≤ 1024
-    count-few n e = omega (arith, few-orders, mul_comm (factorial l.shape.size) r.count, ap (λ (k : ℕ). r.count * k) e)
+    pub count-few : (n : ℕ) → n ≡ factorial l.shape.size → r * n ≤ 1024
+    count-few n e = omega (arith, few-orders, mul_comm (factorial l.shape.size) r, ap (λ (k : ℕ). r * k) e)
 
     -- and it is how many orderings there are
-    count-is : (n : ℕ) → n ≡ factorial l.shape.size → r.count * n ≡ length (generated (lists_of l))
-    count-is n e = ap₂ {C = ℕ} (λ a b. a * b) (counted_is (lengths_of l.shape) r q f) e ∙ sym all-count
+    count-is : (n : ℕ) → n ≡ factorial l.shape.size → r * n ≡ length (generated (lists_of l))
+    count-is n e = ap₂ {C = ℕ} (λ a b. a * b) ((counted_is (lengths_of l.shape) r q).1) e ∙ sym all-count
 
     -- so there are at most 1,024
     all-few : length (generated (lists_of l)) ≤ 1024
     all-few = omega (arith, count-is (factorial l.shape.size) refl, count-few (factorial l.shape.size) refl)
 
     -- by how many places they take
-    module _ (p : Counted) (w : p ≡ measured all) (out : List ℕ) where
+    module _ (out : List ℕ) where
       -- one is too long
-      pub answer-long : p.fits ≡ false → ◌≡◌ {A = Answer} (refused_with 5, out) (answered (generated (lists_of l)) out)
-      answer-long g = answered-over (generated (lists_of l)) out (rw all-is (long-over all (sym (measured-test all p w) ∙ g)))
+      pub answer-long : (why : Refusal) → Err why ≡ measured all → ◌≡◌ {A = Answer} (Err why, out) (answered (generated (lists_of l)) out)
+      answer-long why w =
+          let n = measured-not all why w in
+          ap {B = Answer} (λ (x : Refusal). (Err x, out)) n.1 ∙ answered-over (generated (lists_of l)) out (rw all-is (long-over all n.0))
 
       -- none is
-      module _ (g : p.fits ≡ true) where
+      module _ (p : ℕ) (w : Ok p ≡ measured all) where
         -- they are within the bounds
         all-fitting : fitting all ≡ true
-        all-fitting = few-fitting all (omega (arith, all-few, ap (λ (x : List (List ℕ)). length x) all-is)) (sym (measured-test all p w) ∙ g)
+        all-fitting = few-fitting all (omega (arith, all-few, ap (λ (x : List (List ℕ)). length x) all-is)) (measured-fits all p w).short
 
         -- the output is too short
-        pub answer-short : length out < p.count → ◌≡◌ {A = Answer} (refused_with 8, out) (answered (generated (lists_of l)) out)
-        answer-short b = rw all-is (answered-short all out all-fitting (omega (arith, measured-is all p w g)))
+        pub answer-short : length out < p → ◌≡◌ {A = Answer} (Err OutputShort, out) (answered (generated (lists_of l)) out)
+        answer-short b = rw all-is (answered-short all out all-fitting (omega (arith, (measured-fits all p w).places)))
 
         -- it has room
-        module _ (b : p.count ≤ length out) where
+        module _ (b : p ≤ length out) where
           -- as the function that writes asks
           pub answer-room : (all_short all ≡ true) × (length (written_all all) ≤ length out)
-          answer-room = (sym (measured-test all p w) ∙ g, omega (arith, measured-is all p w g))
+          answer-room = let m = measured-fits all p w in (m.short, omega (arith, m.places))
 
           -- they are written
           pub answer-written : (n used : ℕ) (e : List ℕ) → n ≡ factorial l.shape.size → (used ≡ length (written_all all)) × (e ≡ written_all all ++ drop (length (written_all all)) out)
-              → ◌≡◌ {A = Answer} (record { number = 0; count = r.count * n; used = used }, e) (answered (generated (lists_of l)) out)
+              → ◌≡◌ {A = Answer} (Ok (record { count = r * n; used = used }), e) (answered (generated (lists_of l)) out)
           unfolding writes
           answer-written n used e a h =
-              let c : r.count * n ≡ length all = count-is n a ∙ ap (λ (x : List (List ℕ)). length x) all-is in
-              rw all-is ((λ t. (record { number = 0; count = c t; used = h.0 t }, h.1 t)) ∙ answered-written all out all-fitting answer-room.1)
+              let c : r * n ≡ length all = count-is n a ∙ ap (λ (x : List (List ℕ)). length x) all-is in
+              rw all-is ((λ t. (Ok (record { count = c t; used = h.0 t }), h.1 t)) ∙ answered-written all out all-fitting answer-room.1)
 
 -- Lists as they lie in their struct
 
@@ -401,24 +384,25 @@ module _ (f : Found) (os : List (List ℕ)) (rows : Rows f os) (fits : fitting o
   one-generated = one-gives.1
 
 -- what the walk of a key came to
-module _ (w : Walk) (k : ℕ) (f : Found) (c : Came w k [] f (λ u. Unit {0})) (out : List ℕ) where
+module _ (w : Walk) (out : List ℕ) where
   -- it stopped
-  pub walk-stopped : (k ≡ 0 → ⊥) → ◌≡◌ {A = Answer} (refused_with k, out) (walk_answer w out)
+  pub walk-stopped : (why : Refusal) → w ≡ stopped (refusal_number why) → ◌≡◌ {A = Answer} (Err why, out) (walk_answer w out)
   unfolding walk_answer
-  walk-stopped z = sym (ap (λ (x : Walk). walk_answer x out) (c.stops z))
+  walk-stopped why z = ap {B = Answer} (λ (x : Refusal). (Err x, out)) (sym (refusal-of why)) ∙ sym (ap (λ (x : Walk). walk_answer x out) z)
 
-  -- the struct holds its orderings
-  pub walk_rows : k ≡ 0 → (os : List (List ℕ)) × Rows f os
-  walk_rows z = let g = c.goes z in (g.0, g.3.0)
+  module _ (f : Found) (c : Came w [] f (λ u. Unit {0})) where
+    -- the struct holds its orderings
+    pub walk_rows : (os : List (List ℕ)) × Rows f os
+    walk_rows = (c.ps, c.rows)
 
-  -- the answer with them
-  pub walk-answered : k ≡ 0 → (a : Answer) → ((os : List (List ℕ)) → Rows f os → a ≡ answered os out) → a ≡ walk_answer w out
-  unfolding walk_answer
-  walk-answered z a h = let g = c.goes z in h g.0 g.3.0 ∙ sym (ap (λ (x : Walk). walk_answer x out) g.2)
+    -- the answer with them
+    pub walk-answered : (a : Answer) → ((os : List (List ℕ)) → Rows f os → a ≡ answered os out) → a ≡ walk_answer w out
+    unfolding walk_answer
+    walk-answered a h = h c.ps c.rows ∙ sym (ap (λ (x : Walk). walk_answer x out) c.is)
 
 -- the answer for a key that is not in the map
-pub nowhere-answered : (ds : List Dependent) (k : ℕ) (out : List ℕ) → place_of ds k ≡ none → ◌≡◌ {A = Answer} (refused_with 6, out) (walk_answer (prefix_orderings ds k) out)
-unfolding walk_answer
+pub nowhere-answered : (ds : List Dependent) (k : ℕ) (out : List ℕ) → place_of ds k ≡ None → ◌≡◌ {A = Answer} (Err UnknownKey, out) (walk_answer (prefix_orderings ds k) out)
+unfolding walk_answer refusal
 nowhere-answered ds k out e = sym (ap (λ (x : Walk). walk_answer x out) (prefix-missing ds k e))
 
 -- What was gathered
@@ -436,24 +420,6 @@ up-within n l = go (leb 17 n) refl l
     go : (b : Bool) → leb 17 n ≡ b → (if b then 17 else n) ≤ 16 → n ≤ 16
     go true e w = absurd (omega arith)
     go false e w = w
-
--- the tests of what was gathered, one after the other
-module _ (g : Gathered) where
-  -- more than 16 different keys
-  pub over-different : 16 < g.different → true ≡ over_bound g
-  unfolding over_bound
-  over-different l = rw (lt-ltb 16 g.different l)
-
-  module _ (l : g.different ≤ 16) where
-    -- more than 6 that contribute
-    pub over-many : g.many ≡ true → true ≡ over_bound g
-    unfolding over_bound
-    over-many e = rw (le-ltb 16 g.different l, e)
-
-    -- orderings over their bounds
-    pub over-found : g.many ≡ false → g.lists.found.over ≡ over_bound g
-    unfolding over_bound
-    over-found e = rw (le-ltb 16 g.different l, e)
 
 -- where an "or" fails, so does its first half
 or_left : (a b : Bool) → (a || b) ≡ false → a ≡ false
@@ -508,40 +474,41 @@ module _ (m : DependencyMap) (ks : List ℕ) (ls : List (List (List ℕ))) (g : 
       ∙ rw (h.is, le-leb (length ks) 16 p.0, p.1.0)
 
   -- what is over a bound is refused
-  gathered_refused : (out : List ℕ) → over_bound g ≡ true → ◌≡◌ {A = Answer} (refused_with 5, out) (gathered_answer (contributing (decode m) ks) (length ks) out)
+  gathered_refused : (out : List ℕ) → over_bound g ≡ true → ◌≡◌ {A = Answer} (Err TooLarge, out) (gathered_answer (contributing (decode m) ks) (length ks) out)
   unfolding gathered_answer
   gathered_refused out e = go (leb (length ks) 16) refl (leb (length ls) 6) refl
     where
-      go : (a : Bool) → leb (length ks) 16 ≡ a → (b : Bool) → leb (length ls) 6 ≡ b → ◌≡◌ {A = Answer} (refused_with 5, out) (gathered_answer (contributing (decode m) ks) (length ks) out)
+      go : (a : Bool) → leb (length ks) 16 ≡ a → (b : Bool) → leb (length ls) 6 ≡ b → ◌≡◌ {A = Answer} (Err TooLarge, out) (gathered_answer (contributing (decode m) ks) (length ks) out)
       go false p b q = rw (h.is, p)
       go true p false q = rw (h.is, p, q)
       go true p true q = rw (h.is, p, q) (answered-over (generated ls) out (gathered_over e p q))
 
 -- what was gathered of all given keys
-module _ (m : DependencyMap) (ks : List ℕ) (g : Gathered) (h : Gathers m ks g) (out : List ℕ) where
+module _ (m : DependencyMap) (ks : List ℕ) (out : List ℕ) where
   -- the answer that is due
   abbrev due : Answer
   due = gathered_answer (contributing (decode m) (once_each [] ks)) (length (once_each [] ks)) out
 
   -- a walk stopped
-  pub gathers-stopped : (g.number ≡ 0 → ⊥) → ◌≡◌ {A = Answer} (refused_with g.number, out) due
+  pub gathers-stopped : (why : Refusal) → Gathers m ks (Err why) → ◌≡◌ {A = Answer} (Err why, out) due
   unfolding gathered_answer
-  gathers-stopped z = rw (h.stops_at z)
+  gathers-stopped why h = rw h (ap {B = Answer} (λ (x : Refusal). (Err x, out)) (sym (refusal-of why)))
 
-  -- it is over a bound
-  pub gathers-over : g.number ≡ 0 → over_bound g ≡ true → ◌≡◌ {A = Answer} (refused_with 5, out) due
-  gathers-over z e = let w = h.goes z in gathered_refused m (once_each [] ks) w.0 g w.1 out e
+  module _ (g : Gathered) (h : GathersOn m ks g) where
+    -- it is over a bound
+    pub gathers-over : over_bound g ≡ true → ◌≡◌ {A = Answer} (Err TooLarge, out) due
+    gathers-over e = gathered_refused m (once_each [] ks) h.all-lists g h.gathering out e
 
-  -- it is not
-  pub gathers-done : g.number ≡ 0 → over_bound g ≡ false → answered (generated (lists_of g.lists)) out ≡ due
-  gathers-done z e = let w = h.goes z in gathered_done m (once_each [] ks) w.0 g w.1 out e
+    -- it is not
+    pub gathers-done : over_bound g ≡ false → answered (generated (lists_of g.lists)) out ≡ due
+    gathers-done e = gathered_done m (once_each [] ks) h.all-lists g h.gathering out e
 
 -- then the lists lie in their struct
-pub gathers-laid : (g : Gathered) → GatheredBy g → g.number ≡ 0 → over_bound g ≡ false → Laid g.lists
-gathers-laid g h z e =
-    let w = h.gathers.goes z in
-    let p = gathered_passes h.map (once_each [] h.keys) w.0 g w.1 e in
-    gathered_laid h.map (once_each [] h.keys) w.0 g w.1 p.1.1 p.1.0
+pub gathers-laid : (g : Gathered) → GatheredBy g → over_bound g ≡ false → Laid g.lists
+gathers-laid g h e =
+    let w = h.gathers in
+    let p = gathered_passes h.map (once_each [] h.keys) w.all-lists g w.gathering e in
+    gathered_laid h.map (once_each [] h.keys) w.all-lists g w.gathering p.1.1 p.1.0
 
 -- The checks of what is given
 
@@ -561,28 +528,6 @@ test_zero false n k z e = absurd (z e)
 
 -- a map and a key
 module _ (cells : List ℕ) (m : DependencyMap) (e options : ℕ) where
-  -- 12 for the options
-  pub prefix-options : 3 < options → 12 ≡ prefix_number cells m e options
-  unfolding prefix_number
-  prefix-options l = rw (lt-leb options 3 l)
-
-  module _ (o : options ≤ 3) where
-    -- 11 or 1 for the arena or the map
-    pub prefix-map : (k : ℕ) → k ≡ map_number cells m → (k ≡ 0 → ⊥) → k ≡ prefix_number cells m e options
-    unfolding prefix_number
-    prefix-map k q z = rw (le-leb options 3 o, sym q, ne_eqb k 0 z)
-
-    module _ (z : map_number cells m ≡ 0) where
-      -- 1 for the expression
-      pub prefix-unknown : count cells ≤ e → 1 ≡ prefix_number cells m e options
-      unfolding prefix_number
-      prefix-unknown l = rw (le-leb options 3 o, z, le-ltb e (count cells) l)
-
-      -- else 0
-      pub prefix-known : e < count cells → 0 ≡ prefix_number cells m e options
-      unfolding prefix_number
-      prefix-known l = rw (le-leb options 3 o, z, lt-ltb e (count cells) l)
-
   -- a map and a key that pass
   pub record PrefixPasses : Type 0 where
     pub known : options ≤ 3
@@ -598,9 +543,20 @@ module _ (cells : List ℕ) (m : DependencyMap) (e options : ℕ) where
       record { known = leb-true options 3 a.0; map = b.0; below = ltb-true e (count cells) b.1 }
 
   -- the call refuses with another number
-  pub prefix-refused : (k : ℕ) → k ≡ prefix_number cells m e options → (k ≡ 0 → ⊥) → (out : List ℕ) → ◌≡◌ {A = Answer} (refused_with k, out) (prefix_answer cells m e options out)
+  pub prefix-refused : (why : Refusal) → outcome (prefix_number cells m e options) ≡ Err why → (out : List ℕ) → ◌≡◌ {A = Answer} (Err why, out) (prefix_answer cells m e options out)
   unfolding prefix_answer
-  prefix-refused k q z out = rw (sym q, ne_eqb k 0 z)
+  prefix-refused why q out = let p = err-refusal (prefix_number cells m e options) why q in rw (p.0) (ap {B = Answer} (λ (x : Refusal). (Err x, out)) p.1)
+
+  -- a check that is done has number 0
+  pub prefix-zero : outcome (prefix_number cells m e options) ≡ Ok tt → prefix_number cells m e options ≡ 0
+  prefix-zero q = eqb-true (prefix_number cells m e options) 0 (ok-zero (prefix_number cells m e options) q)
+
+  -- its number stands in the table
+  pub prefix_number-listed : Listed (prefix_number cells m e options)
+  unfolding prefix_number outcome refusal
+  prefix_number-listed =
+      listed-if (leb options 3) (if eqb (map_number cells m) 0 then (if ltb e (count cells) then 0 else 1) else map_number cells m) 12
+      (listed-if (eqb (map_number cells m) 0) (if ltb e (count cells) then 0 else 1) (map_number cells m) (listed-if (ltb e (count cells)) 0 1 refl refl) (map_number-listed cells m)) refl
 
   -- and answers where it is 0
   pub prefix-answered : prefix_number cells m e options ≡ 0 → (out : List ℕ) → walk_answer (prefix_orderings (decode m) (e * 4 + options)) out ≡ prefix_answer cells m e options out
@@ -609,34 +565,6 @@ module _ (cells : List ℕ) (m : DependencyMap) (e options : ℕ) where
 
 -- a map and keys
 module _ (cells : List ℕ) (m : DependencyMap) (numbers : List ℕ) where
-  -- 12 for the options
-  pub generate_options : options_known numbers ≡ false → 12 ≡ generate_number cells m numbers
-  unfolding generate_number
-  generate_options f = rw f
-
-  module _ (o : options_known numbers ≡ true) where
-    -- 11 for a key that is cut
-    pub generate_cut : (length numbers % 2 ≡ 0 → ⊥) → 11 ≡ generate_number cells m numbers
-    unfolding generate_number
-    generate_cut z = rw (o, ne_eqb (length numbers % 2) 0 z)
-
-    module _ (p : length numbers % 2 ≡ 0) where
-      -- 11 or 1 for the arena or the map
-      pub generate_map : (k : ℕ) → k ≡ map_number cells m → (k ≡ 0 → ⊥) → k ≡ generate_number cells m numbers
-      unfolding generate_number
-      generate_map k q z = rw (o, p, sym q, ne_eqb k 0 z)
-
-      module _ (z : map_number cells m ≡ 0) where
-        -- 1 for an expression
-        pub generate_unknown : Below numbers (count cells) ≡ false → 1 ≡ generate_number cells m numbers
-        unfolding generate_number
-        generate_unknown f = rw (o, p, z, f)
-
-        -- else 0
-        pub generate_known : Below numbers (count cells) ≡ true → 0 ≡ generate_number cells m numbers
-        unfolding generate_number
-        generate_known f = rw (o, p, z, f)
-
   -- a map and keys that pass
   pub record GeneratePasses : Type 0 where
     pub known : options_known numbers ≡ true
@@ -654,9 +582,22 @@ module _ (cells : List ℕ) (m : DependencyMap) (numbers : List ℕ) where
       record { known = a.0; map = c.0; below = c.1 }
 
   -- the call refuses with another number
-  pub generate_refused : (k : ℕ) → k ≡ generate_number cells m numbers → (k ≡ 0 → ⊥) → (out : List ℕ) → ◌≡◌ {A = Answer} (refused_with k, out) (generate_answer cells m numbers out)
+  pub generate_refused : (why : Refusal) → outcome (generate_number cells m numbers) ≡ Err why → (out : List ℕ) → ◌≡◌ {A = Answer} (Err why, out) (generate_answer cells m numbers out)
   unfolding generate_answer
-  generate_refused k q z out = rw (sym q, ne_eqb k 0 z)
+  generate_refused why q out = let p = err-refusal (generate_number cells m numbers) why q in rw (p.0) (ap {B = Answer} (λ (x : Refusal). (Err x, out)) p.1)
+
+  -- a check that is done has number 0
+  pub generate_zero : outcome (generate_number cells m numbers) ≡ Ok tt → generate_number cells m numbers ≡ 0
+  generate_zero q = eqb-true (generate_number cells m numbers) 0 (ok-zero (generate_number cells m numbers) q)
+
+  -- its number stands in the table
+  pub generate_number-listed : Listed (generate_number cells m numbers)
+  unfolding generate_number outcome refusal
+  generate_number-listed =
+      let tail : ℕ = if eqb (map_number cells m) 0 then (if Below numbers (count cells) then 0 else 1) else map_number cells m in
+      listed-if (options_known numbers) (if none_cut numbers then tail else 11) 12
+      (listed-if (none_cut numbers) tail 11
+      (listed-if (eqb (map_number cells m) 0) (if Below numbers (count cells) then 0 else 1) (map_number cells m) (listed-if (Below numbers (count cells)) 0 1 refl refl) (map_number-listed cells m)) refl) refl
 
   -- and answers where it is 0
   pub generate_answered : generate_number cells m numbers ≡ 0 → (out : List ℕ) → gathered_answer (contributing (decode m) (different numbers)) (length (different numbers)) out ≡ generate_answer cells m numbers out

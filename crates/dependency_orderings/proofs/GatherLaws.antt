@@ -1,10 +1,9 @@
 -- What the walks of the given keys come to, key by key.
-use Rattle.std.specs.Prelude.{if◌then◌else◌}
+use Rattle.std.specs.Prelude.{if◌then◌else◌, None, Some, Ok, Err}
 use Prim.Native.Nat.{ℕ, ◌+◌, ◌/◌, ◌<◌, ◌≤◌}
 use mathlib.Core.Bool.{Bool, true, false, not, ◌||◌}
 use mathlib.Core.List.{List, [], ◌∷◌, ◌++◌, map, append-nil, append_assoc}
 use mathlib.Core.Logic.{⊎_elim}
-use mathlib.Core.Option.{none, some}
 use mathlib.Core.Path.{◌≡◌, refl, sym, ap, ◌∙◌, subst}
 use native.Mathlib.Decide.{ℕ_discrete, dec_lt}
 use native.Mathlib.Numerals.{add-one}
@@ -27,9 +26,11 @@ use Rattle.dependencies.specs.Layout.{decode}
 use Rattle.dependencies.specs.declared.DependencyMap.{DependencyMap}
 use Rattle.enumeration.specs.Walk.{Walk, found, stopped, over_start, prefix_orderings}
 use Rattle.enumeration.specs.Bounds.{fitting}
-use Rattle.enumeration.specs.Inner.{Room, Rows, Began}
+use Rattle.enumeration.specs.Inner.{Room, Rows, BeganOn, Began}
 use Rattle.enumeration.specs.declared.Found.{Found}
-use Rattle.enumeration.specs.declared.Prefixed.{Prefixed}
+use Rattle.arena.specs.declared.Refusal.{Refusal}
+use Rattle.arena.specs.declared.Refusal.TheVariants.{UnknownKey}
+use Rattle.arena.specs.Refusals.{refusal_number}
 use Rattle.enumeration.proofs.WalkLaws.{prefix-there, prefix-missing}
 use Rattle.enumeration.proofs.Keeps.{room-none, rows_none}
 use Rattle.products.specs.Generate.{once_each, Lists, lists, stops, with_list, contributing}
@@ -39,7 +40,7 @@ use Rattle.dependency_orderings.specs.Inner.{ungathered, counting, up_to17, end_
 use Rattle.dependency_orderings.specs.declared.Gathered.{Gathered}
 
 -- the key at the place of a key is that key
-key-there : (ds : List Dependent) (k i : ℕ) → place_of ds k ≡ some i → (entry_at ds i).key ≡ k
+key-there : (ds : List Dependent) (k i : ℕ) → place_of ds k ≡ Some i → (entry_at ds i).key ≡ k
 unfolding place_of
 key-there ds k i e = eqb-true (entry_at ds i).key k (first_some (λ (j : ℕ). eqb (entry_at ds j).key k) (length ds) i e).passes
 
@@ -119,7 +120,7 @@ module _ (m : List Dependent) where
 
   module _ (ks : List ℕ) (ls : List (List (List ℕ))) (k : ℕ) (e : contributing m ks ≡ lists ls) where
     -- the walk of one key more stops
-    stops-more : (n : ℕ) → prefix_orderings m k ≡ stopped n → contributing m (with_dependency ks (some k)) ≡ stops n
+    stops-more : (n : ℕ) → prefix_orderings m k ≡ stopped n → contributing m (with_dependency ks (Some k)) ≡ stops n
     unfolding with_dependency behind is_stop
     stops-more n p = go (among k ks) refl
       where
@@ -166,10 +167,10 @@ fitting-front os ps e =
 once-append : (ks es fs : List ℕ) → once_each ks (es ++ fs) ≡ once_each (once_each ks es) fs
 unfolding once_each
 once-append ks [] fs = refl
-once-append ks (e ∷ es) fs = once-append (with_dependency ks (some e)) es fs
+once-append ks (e ∷ es) fs = once-append (with_dependency ks (Some e)) es fs
 
 -- one key more
-once_more : (ks es : List ℕ) (e : ℕ) → once_each ks (es ++ (e ∷ [])) ≡ with_dependency (once_each ks es) (some e)
+once_more : (ks es : List ℕ) (e : ℕ) → once_each ks (es ++ (e ∷ [])) ≡ with_dependency (once_each ks es) (Some e)
 unfolding once_each
 once_more ks es e = once-append ks es (e ∷ [])
 
@@ -177,7 +178,7 @@ once_more ks es e = once-append ks es (e ∷ [])
 once-front : (ks es : List ℕ) → (rest : List ℕ) × (once_each ks es ≡ ks ++ rest)
 unfolding once_each with_dependency
 once-front ks [] = ([], sym (append-nil ks))
-once-front ks (e ∷ es) = go (among e ks) (once-front (with_dependency ks (some e)) es)
+once-front ks (e ∷ es) = go (among e ks) (once-front (with_dependency ks (Some e)) es)
   where
     go : (b : Bool) → ((rest : List ℕ) × (once_each (if b then ks else ks ++ (e ∷ [])) es ≡ (if b then ks else ks ++ (e ∷ [])) ++ rest)) → (rest : List ℕ) × (once_each (if b then ks else ks ++ (e ∷ [])) es ≡ ks ++ rest)
     go true r = r
@@ -222,15 +223,15 @@ among-other e xs ys q = same_test (among e (xs ++ ys)) (among e xs) (λ t. ⊎_e
 
 -- the places of a map tell which keys were walked
 abbrev Tells : List Dependent → List Bool → List ℕ → Type 0
-Tells ds ws ks = (k i : ℕ) → place_of ds k ≡ some i → get_or ws i false ≡ among k ks
+Tells ds ws ks = (k i : ℕ) → place_of ds k ≡ Some i → get_or ws i false ≡ among k ks
 
 -- with one key more
-tells_more : (ds : List Dependent) (ws : List Bool) (ks : List ℕ) (k i : ℕ) → place_of ds k ≡ some i → i < length ws → Tells ds ws ks → Tells ds (set ws i true) (ks ++ (k ∷ []))
+tells_more : (ds : List Dependent) (ws : List Bool) (ks : List ℕ) (k i : ℕ) → place_of ds k ≡ Some i → i < length ws → Tells ds ws ks → Tells ds (set ws i true) (ks ++ (k ∷ []))
 tells_more ds ws ks k i p l h d j q = go (ℕ_discrete j i)
   where
     apart : (j ≡ i → ⊥) → (b : Bool) → among d (k ∷ []) ≡ b → among d (k ∷ []) ≡ false
     apart n true e =
-        let same : some j ≡ some i = sym q ∙ ap (place_of ds) (sym (among_one d k e)) ∙ p in
+        let same : Some j ≡ Some i = sym q ∙ ap (place_of ds) (sym (among_one d k e)) ∙ p in
         absurd (n (cc))
     apart n false e = e
 
@@ -278,7 +279,7 @@ shapes-more s ls l n h b q = record {
 module _ (g : Gathered) (f : Found) where
   -- what is gathered with other lists
   abbrev pub keeping : Bool → Shape → Gathered
-  keeping many s = record { number = 0; different = g.different; walked = g.walked; many = many; lists = record { shape = s; found = f } }
+  keeping many s = record { different = g.different; walked = g.walked; many = many; lists = record { shape = s; found = f } }
 
   -- the lists with one more
   abbrev pub longer : Shape
@@ -328,11 +329,11 @@ module _ (g : Gathered) (f : Found) where
   standing-found st room = go fate
     where
       go : Fate → Standing (with_found g f)
-      go (nothing e) = subst Standing (sym e) (record { going = refl; room = room; wide = st.wide; long = st.long; few = st.few })
-      go (many e) = subst Standing (sym e) (record { going = refl; room = room; wide = st.wide; long = st.long; few = st.few })
+      go (nothing e) = subst Standing (sym e) (record { room = room; wide = st.wide; long = st.long; few = st.few })
+      go (many e) = subst Standing (sym e) (record { room = room; wide = st.wide; long = st.long; few = st.few })
       go (more l e) =
           subst Standing (sym e)
-          (record { going = refl; room = room; wide = st.wide; long = length-set g.lists.shape.ends g.lists.shape.size f.count ∙ st.long; few = omega arith })
+          (record { room = room; wide = st.wide; long = length-set g.lists.shape.ends g.lists.shape.size f.count ∙ st.long; few = omega arith })
 
   -- more than 6 contributed before
   still_many : g.many ≡ true → (with_found g f).many ≡ true
@@ -423,67 +424,61 @@ formed-found g f ls (o ∷ os) st rows h = record {
 -- there is room for more after a key is noted
 pub standing-key : (g : Gathered) (i : ℕ) → Standing g → Standing (with_key g i)
 unfolding with_key
-standing-key g i st = record { going = st.going; room = st.room; wide = length-set g.walked i true ∙ st.wide; long = st.long; few = st.few }
+standing-key g i st = record { room = st.room; wide = length-set g.walked i true ∙ st.wide; long = st.long; few = st.few }
 
 module _ (m : DependencyMap) (g : Gathered) (k : ℕ) (st : Standing g) where
   -- the walk of a key stops
-  pub steps-stop : (n : ℕ) (r : Gathered) → r.number ≡ n → (n ≡ 0 → ⊥) → ((ks : List ℕ) (ls : List (List (List ℕ))) → Gathering m ks ls g → prefix_orderings (decode m) k ≡ stopped n) → Steps m g k r
-  steps-stop n r e z h = record {
-    standing = λ q. absurd (z (sym e ∙ q));
-    stops_at = λ ks ls x w. stops-more (decode m) ks ls k x.is n (h ks ls x) ∙ ap stops (sym e);
-    goes = λ ks ls x q. absurd (z (sym e ∙ q));
-  }
+  steps-stop : (why : Refusal) → ((ks : List ℕ) (ls : List (List (List ℕ))) → Gathering m ks ls g → prefix_orderings (decode m) k ≡ stopped (refusal_number why)) → Steps m g k (Err why)
+  steps-stop why h ks ls x = stops-more (decode m) ks ls k x.is (refusal_number why) (h ks ls x)
 
   -- a key that is not in the map
-  pub steps-missing : (r : Gathered) → r.number ≡ 6 → place_of (decode m) k ≡ none → Steps m g k r
-  steps-missing r e p = steps-stop 6 r e (λ z. omega arith) (λ ks ls x. prefix-missing (decode m) k p)
+  pub steps-missing : place_of (decode m) k ≡ None → Steps m g k (Err UnknownKey)
+  steps-missing p = steps-stop UnknownKey (λ ks ls x. prefix-missing (decode m) k p)
 
-  module _ (i : ℕ) (p : place_of (decode m) k ≡ some i) where
+  module _ (i : ℕ) (p : place_of (decode m) k ≡ Some i) where
     -- a key that was walked
-    pub steps-walked : get_or g.walked i false ≡ true → Steps m g k g
+    pub steps-walked : get_or g.walked i false ≡ true → Steps m g k (Ok g)
     unfolding with_dependency
     steps-walked w = record {
-      standing = λ q. st;
-      stops_at = λ ks ls x n. absurd (n st.going);
-      goes = λ ks ls x q. (ls, subst (λ (b : Bool). Gathering m (if b then ks else ks ++ (k ∷ [])) ls g) (sym w ∙ x.walked k i p) x);
+      standing = st;
+      goes = λ ks ls x. (ls, subst (λ (b : Bool). Gathering m (if b then ks else ks ++ (k ∷ [])) ls g) (sym w ∙ x.walked k i p) x);
     }
 
-    module _ (x : Prefixed) (began : Began m i g.lists.found x) where
-      -- a key whose walk stops
-      pub steps_halt : (r : Gathered) → r.number ≡ x.number → (x.number ≡ 0 → ⊥) → Steps m g k r
-      steps_halt r e z = steps-stop x.number r e z (λ ks ls y. prefix-there (decode m) k i p ∙ (began.came (joined ls) y.rows).stops z)
+    -- a key whose walk stops
+    pub steps_halt : (why : Refusal) → Began m i g.lists.found (Err why) → Steps m g k (Err why)
+    steps_halt why began = steps-stop why (λ ks ls y. prefix-there (decode m) k i p ∙ began (joined ls) y.rows)
 
-      module _ (z : x.number ≡ 0) (new : get_or g.walked i false ≡ false) (b : i < 64) where
+    module _ (f : Found) (began : BeganOn m i g.lists.found f) where
+      module _ (new : get_or g.walked i false ≡ false) (b : i < 64) where
         -- what is gathered after a key whose walk is done
         next : Gathered
-        next = with_found (with_key g i) x.found
+        next = with_found (with_key g i) f
 
         -- it is that of one key more
         gathering-next : (ks : List ℕ) (ls : List (List (List ℕ))) → Gathering m ks ls g → (ps : List (List ℕ)) (s : List (ℕ × ℕ)) → over_start (decode m) (entry_at (decode m) i).dependencies [] ≡ found ps s
-            → Rows x.found (joined ls ++ ps) → Gathering m (ks ++ (k ∷ [])) (ls ++ listed ps) next
+            → Rows f (joined ls ++ ps) → Gathering m (ks ++ (k ∷ [])) (ls ++ listed ps) next
         unfolding next with_key
         gathering-next ks ls y ps s e rows = record {
           is = found-more (decode m) ks ls k y.is ps s (prefix-there (decode m) k i p ∙ e);
-          walked = by-fate (with_key g i) x.found (λ (r : Gathered). Tells (decode m) r.walked (ks ++ (k ∷ []))) (λ c t. tells_more (decode m) g.walked ks k i p (omega (arith, st.wide)) y.walked);
-          different = by-fate (with_key g i) x.found (λ (r : Gathered). r.different ≡ up_to17 (length (ks ++ (k ∷ [])))) (λ c t. ap counting y.different ∙ counting-up (length ks) ∙ ap up_to17 (sym (length-append ks (k ∷ []))));
-          rows = by-fate (with_key g i) x.found (λ (r : Gathered). Rows r.lists.found (joined (ls ++ listed ps))) (λ c t. subst (Rows x.found) (sym (joined-more ls ps)) rows);
+          walked = by-fate (with_key g i) f (λ (r : Gathered). Tells (decode m) r.walked (ks ++ (k ∷ []))) (λ c t. tells_more (decode m) g.walked ks k i p (omega (arith, st.wide)) y.walked);
+          different = by-fate (with_key g i) f (λ (r : Gathered). r.different ≡ up_to17 (length (ks ++ (k ∷ [])))) (λ c t. ap counting y.different ∙ counting-up (length ks) ∙ ap up_to17 (sym (length-append ks (k ∷ []))));
+          rows = by-fate (with_key g i) f (λ (r : Gathered). Rows r.lists.found (joined (ls ++ listed ps))) (λ c t. subst (Rows f) (sym (joined-more ls ps)) rows);
           many = formed.many;
           shapes = formed.shapes;
         }
           where
             formed : Formed next (ls ++ listed ps)
-            formed = formed-found (with_key g i) x.found ls ps (standing-key g i st) rows (record { many = y.many; shapes = y.shapes })
+            formed = formed-found (with_key g i) f ls ps (standing-key g i st) rows (record { many = y.many; shapes = y.shapes })
 
         -- a key whose walk is done
-        pub steps-found : Steps m g k (with_found (with_key g i) x.found)
+        pub steps-found : Steps m g k (Ok (with_found (with_key g i) f))
         unfolding next with_dependency
         steps-found = record {
-          standing = λ q. standing-found (with_key g i) x.found (standing-key g i st) began.room;
-          stops_at = λ ks ls y n. absurd (n (by-fate (with_key g i) x.found (λ (r : Gathered). r.number ≡ 0) (λ c t. refl)));
-          goes = λ ks ls y q.
-              let w = (began.came (joined ls) y.rows).goes z in (
-                ls ++ listed w.0,
-                subst (λ (c : Bool). Gathering m (if c then ks else ks ++ (k ∷ [])) (ls ++ listed w.0) next) (sym new ∙ y.walked k i p) (gathering-next ks ls y w.0 w.1 w.2 w.3.0),
+          standing = standing-found (with_key g i) f (standing-key g i st) began.room;
+          goes = λ ks ls y.
+              let w = began.came (joined ls) y.rows in (
+                ls ++ listed w.ps,
+                subst (λ (c : Bool). Gathering m (if c then ks else ks ++ (k ∷ [])) (ls ++ listed w.ps) next) (sym new ∙ y.walked k i p) (gathering-next ks ls y w.ps w.s w.is w.rows),
               );
         }
 
@@ -514,7 +509,7 @@ pub gone-none : (m : DependencyMap) (numbers : List ℕ) (g : Gathered) → g �
 unfolding contributing once_each joined among up_to17
 gone-none m numbers g e = rw e (record {
   below = omega arith;
-  standing = record { going = refl; room = room-none; wide = length-replicate 64 false; long = length-replicate {A = ℕ} 6 0; few = omega arith };
+  standing = record { room = room-none; wide = length-replicate 64 false; long = length-replicate {A = ℕ} 6 0; few = omega arith };
   all-lists = [];
   gathering = record {
     is = refl;
@@ -527,45 +522,41 @@ gone-none m numbers g e = rw e (record {
 })
 
 module _ (m : DependencyMap) (numbers : List ℕ) (g : Gathered) (k : ℕ) (h : Gone m numbers g k) where
-  module _ (r : Gathered) (l : k < length numbers / 2) (x : Steps m g (key_at numbers k) r) where
+  module _ (l : k < length numbers / 2) where
     -- the keys with the next
-    next-once : once_each [] (take (k + 1) (given numbers)) ≡ with_dependency (once_each [] (take k (given numbers))) (some (key_at numbers k))
+    next-once : once_each [] (take (k + 1) (given numbers)) ≡ with_dependency (once_each [] (take k (given numbers))) (Some (key_at numbers k))
     next-once =
         ap (λ (n : ℕ). once_each [] (take n (given numbers))) (add-one k)
         ∙ ap (once_each []) (take-suc (given numbers) k 0 (omega (arith, given-count numbers)))
         ∙ once_more [] (take k (given numbers)) (get_or (given numbers) k 0)
-        ∙ ap (λ (d : ℕ). with_dependency (once_each [] (take k (given numbers))) (some d)) (given-at numbers k l)
+        ∙ ap (λ (d : ℕ). with_dependency (once_each [] (take k (given numbers))) (Some d)) (given-at numbers k l)
 
     -- the next is walked
-    pub gone-next : r.number ≡ 0 → Gone m numbers r (k + 1)
-    gone-next z =
-        let y = x.goes (once_each [] (take k (given numbers))) h.all-lists h.gathering z in
+    pub gone-next : (d : ℕ) → d ≡ key_at numbers k → (r : Gathered) → Steps m g d (Ok r) → Gone m numbers r (k + 1)
+    gone-next d e r z =
+        let x = subst (λ (n : ℕ). Steps m g n (Ok r)) e z in
+        let y = x.goes (once_each [] (take k (given numbers))) h.all-lists h.gathering in
         record {
           below = omega arith;
-          standing = x.standing z;
+          standing = x.standing;
           all-lists = y.0;
           gathering = subst (λ (ks : List ℕ). Gathering m ks y.0 r) (sym next-once) y.1;
         }
 
     -- the next stops all
-    pub gone-stop : (r.number ≡ 0 → ⊥) → Gathers m (given numbers) r
-    gone-stop n =
+    pub gone-stop : (d : ℕ) → d ≡ key_at numbers k → (why : Refusal) → Steps m g d (Err why) → Gathers m (given numbers) (Err why)
+    gone-stop d e why y =
+        let x = subst (λ (n : ℕ). Steps m g n (Err why)) e y in
         let w = once-front (once_each [] (take (k + 1) (given numbers))) (drop (k + 1) (given numbers)) in
-        record {
-          standing = x.standing;
-          stops_at = λ n'.
-              ap (λ (ks : List ℕ). contributing (decode m) (once_each [] ks)) (sym (take-append-drop (k + 1) (given numbers)))
-              ∙ ap (contributing (decode m)) (once-append [] (take (k + 1) (given numbers)) (drop (k + 1) (given numbers)) ∙ w.1)
-              ∙ stops-append (decode m) (once_each [] (take (k + 1) (given numbers))) w.0 r.number
-              (ap (contributing (decode m)) next-once ∙ x.stops_at (once_each [] (take k (given numbers))) h.all-lists h.gathering n);
-          goes = λ z. absurd (n z);
-        }
+        ap (λ (ks : List ℕ). contributing (decode m) (once_each [] ks)) (sym (take-append-drop (k + 1) (given numbers)))
+        ∙ ap (contributing (decode m)) (once-append [] (take (k + 1) (given numbers)) (drop (k + 1) (given numbers)) ∙ w.1)
+        ∙ stops-append (decode m) (once_each [] (take (k + 1) (given numbers))) w.0 (refusal_number why)
+        (ap (contributing (decode m)) next-once ∙ x (once_each [] (take k (given numbers))) h.all-lists h.gathering)
 
   -- all are walked
-  pub gone-all : length numbers / 2 ≤ k → Gathers m (given numbers) g
+  pub gone-all : length numbers / 2 ≤ k → Gathers m (given numbers) (Ok g)
   gone-all l = record {
-    standing = λ z. h.standing;
-    stops_at = λ n. absurd (n h.standing.going);
-    goes = λ z.
-        (h.all-lists, subst (λ (ks : List ℕ). Gathering m (once_each [] ks) h.all-lists g) (take_all k (given numbers) (omega (arith, given-count numbers))) h.gathering);
+    standing = h.standing;
+    all-lists = h.all-lists;
+    gathering = subst (λ (ks : List ℕ). Gathering m (once_each [] ks) h.all-lists g) (take_all k (given numbers) (omega (arith, given-count numbers))) h.gathering;
   }

@@ -8,13 +8,15 @@ use native.Mathlib.Numerals.{add-one}
 use native.Mathlib.Omega.{arith}
 use lib.ListN.{length, get_or, take, drop, length-append, length-map, drop_of_length-le, get_or-map}
 use lib.Seq.{drop-cons}
-use Rattle.laws.proofs.Booleans.{true_not_false}
 use Rattle.laws.proofs.Table.{length-table, get_or-table, table_is}
 use Rattle.orderings.specs.Lists.{ordering_at}
 use Rattle.orderings.specs.Layout.{row, keys_of}
 use Rattle.orderings.specs.Inner.{ShortOrdering, extended_of, all_short}
 use Rattle.orderings.specs.declared.Ordering.{Ordering}
-use Rattle.orderings.specs.declared.Extended.{Extended}
+use Rattle.std.specs.Prelude.{Ok, Err}
+use Rattle.arena.specs.declared.Refusal.{Refusal}
+use Rattle.arena.specs.declared.Refusal.TheVariants.{TooLarge}
+use Rattle.arena.proofs.Refusals.{ok-not-err}
 use Rattle.orderings.proofs.Codec.{fill_after, keys-row}
 use Rattle.orderings.proofs.Extending.{fits-here, fitting, unfitting, short-size, row-short}
 use Rattle.orderings.proofs.Appending.{AllShort, short-test, test_short, short-more, long-test, long-append}
@@ -23,7 +25,6 @@ use Rattle.products.specs.Generate.{chained, in_all_orders, all_orders}
 use Rattle.products.specs.Inner.{start_of, length_of, list_of, lists_of, Laid, choice_row, choice_of, Chosen, factorial, times_all, choices}
 use Rattle.products.specs.declared.Lists.{Lists}
 use Rattle.products.specs.declared.Choice.{Choice}
-use Rattle.products.specs.declared.Counted.{Counted}
 use Rattle.products.proofs.OrderLaws.{factorial-some, orders-length}
 use Rattle.products.proofs.ProductLaws.{product-length, product_at, choice_length, factor_some}
 use Rattle.products.proofs.ListLaws.{lists_length, lists_at, list_length}
@@ -34,41 +35,37 @@ use Rattle.dependency_orderings.proofs.WrittenLaws.{written-length, written-appe
 
 -- Places, counted part by part
 
--- what a count answers
-abbrev pub told : Bool → ℕ → Counted
-told b n = record { fits = b; count = n }
-
--- what it says of the orderings
-pub record Fits (r : Counted) (os : List (List ℕ)) : Type 0 where
+-- what a count says of the orderings
+pub record Fits (n : ℕ) (os : List (List ℕ)) : Type 0 where
   pub short : all_short os ≡ true
-  pub places : r.count ≡ length (written_all os)
+  pub places : n ≡ length (written_all os)
 
 -- the answer where each has at most 16 keys
-measured-short : (os : List (List ℕ)) → all_short os ≡ true → measured os ≡ told true (length (written_all os))
+measured-short : (os : List (List ℕ)) → all_short os ≡ true → measured os ≡ Ok (length (written_all os))
 unfolding measured
 measured-short os e = rw e
 
 -- and where one has more
-measured-long : (os : List (List ℕ)) → all_short os ≡ false → measured os ≡ told false 0
+measured-long : (os : List (List ℕ)) → all_short os ≡ false → measured os ≡ Err TooLarge
 unfolding measured
 measured-long os e = rw e
 
-module _ (r : Counted) (os : List (List ℕ)) (q : r ≡ measured os) where
+module _ (os : List (List ℕ)) where
   -- where they fit, the answer is the number of their places
-  pub measured-fits : r.fits ≡ true → Fits r os
-  measured-fits t = go (all_short os) refl
+  pub measured-fits : (n : ℕ) → Ok n ≡ measured os → Fits n os
+  measured-fits n q = go (all_short os) refl
     where
-      go : (b : Bool) → all_short os ≡ b → Fits r os
-      go true e = record { short = e; places = ap (λ (x : Counted). x.count) (q ∙ measured-short os e) }
-      go false e = absurd (true_not_false t (ap (λ (x : Counted). x.fits) (q ∙ measured-long os e)))
+      go : (b : Bool) → all_short os ≡ b → Fits n os
+      go true e = let p : Ok n ≡ Ok (length (written_all os)) = q ∙ measured-short os e in record { short = e; places = cc }
+      go false e = absurd (ok-not-err (q ∙ measured-long os e))
 
   -- where they do not, one has more than 16 keys
-  measured-not : r.fits ≡ false → all_short os ≡ false
-  measured-not t = go (all_short os) refl
+  pub measured-not : (why : Refusal) → Err why ≡ measured os → (all_short os ≡ false) × (why ≡ TooLarge)
+  measured-not why q = go (all_short os) refl
     where
-      go : (b : Bool) → all_short os ≡ b → all_short os ≡ false
-      go true e = absurd (true_not_false (ap (λ (x : Counted). x.fits) (q ∙ measured-short os e)) t)
-      go false e = e
+      go : (b : Bool) → all_short os ≡ b → (all_short os ≡ false) × (why ≡ TooLarge)
+      go true e = absurd (ok-not-err (sym (q ∙ measured-short os e)))
+      go false e = let p : Err why ≡ Err TooLarge = q ∙ measured-long os e in (e, cc)
 
 -- the orderings before some are counted, and all hang on those that are left
 pub record Measuring (all left : List (List ℕ)) (total : ℕ) : Type 0 where
@@ -81,28 +78,28 @@ module _ (all : List (List ℕ)) where
   measuring_begins = record { short = refl; places = omega arith }
 
   -- one part more
-  module _ (now part left : List (List ℕ)) (total : ℕ) (x : Measuring all now total) (s : now ≡ part ++ left) (r : Counted) (q : r ≡ measured part) where
+  module _ (now part left : List (List ℕ)) (total : ℕ) (x : Measuring all now total) (s : now ≡ part ++ left) where
     -- the loop goes on
-    pub measuring_on : r.fits ≡ true → Measuring all left (total + r.count)
-    measuring_on t =
-        let f = measured-fits r part q t in
+    pub measuring_on : (n : ℕ) → Ok n ≡ measured part → Measuring all left (total + n)
+    measuring_on n q =
+        let f = measured-fits part n q in
         record {
           short = x.short ∙ ap all_short s ∙ short-after part left f.short;
           places = omega (arith, f.places, x.places, ap (λ (w : List ℕ). length w) (ap written_all s ∙ written-append part left), length-append (written_all part) (written_all left));
         }
 
     -- the loop stops where one has more than 16 keys
-    pub measuring_stops : r.fits ≡ false → r ≡ measured all
-    measuring_stops t =
-        let e = measured-not r part q t in
-        q ∙ measured-long part e ∙ sym (measured-long all (x.short ∙ ap all_short s ∙ long-append part left e))
+    pub measuring_stops : (why : Refusal) → Err why ≡ measured part → Err why ≡ measured all
+    measuring_stops why q =
+        let e = measured-not part why q in
+        ap Err e.1 ∙ sym (measured-long all (x.short ∙ ap all_short s ∙ long-append part left e.0))
 
   -- the loop ends
-  pub measuring_ends : (left : List (List ℕ)) (total : ℕ) → Measuring all left total → left ≡ [] → told true total ≡ measured all
+  pub measuring_ends : (left : List (List ℕ)) (total : ℕ) → Measuring all left total → left ≡ [] → Ok total ≡ measured all
   unfolding written_all
   measuring_ends left total x e =
       let n : total ≡ length (written_all all) = omega (arith, x.places, ap (λ (os : List (List ℕ)). length (written_all os)) e) in
-      ap (told true) n ∙ sym (measured-short all (x.short ∙ ap all_short e ∙ short-test [] (λ i l. absurd (omega arith))))
+      ap Ok n ∙ sym (measured-short all (x.short ∙ ap all_short e ∙ short-test [] (λ i l. absurd (omega arith))))
 
 -- One ordering, as it comes
 
@@ -110,41 +107,38 @@ module _ (all : List (List ℕ)) where
 short-one : (o : List ℕ) → length o ≤ 16 → all_short (o ∷ []) ≡ true
 short-one o b = short-test (o ∷ []) (short-more [] o (λ i l. absurd (omega arith)) b)
 
-module _ (e : Extended) (o : List ℕ) (q : e ≡ extended_of o) where
-  -- where it has at most 16 keys, its struct is there
-  one-is : length o ≤ 16 → e.ordering ≡ row o
-  one-is l = ap (λ (x : Extended). x.ordering) (q ∙ fits-here o l)
+module _ (e : Ordering) (o : List ℕ) (q : Ok e ≡ extended_of o) where
+  -- an ordering that is there has at most 16 keys
+  one-few : length o ≤ 16
+  one-few = (fitting o e q).few
+
+  -- its struct is there
+  one-is : e ≡ row o
+  one-is = (fitting o e q).is
 
   -- and it is one of at most 16 keys
-  one_struct : length o ≤ 16 → ShortOrdering e.ordering
-  one_struct l = subst ShortOrdering (sym (one-is l)) (row-short o l)
+  one_struct : ShortOrdering e
+  one_struct = subst ShortOrdering (sym one-is) (row-short o one-few)
 
-  -- where it is told to fit, it has at most 16
-  one-few : e.fits ≡ true → length o ≤ 16
-  one-few t = (fitting e o q t).few
-
-  -- and so has its struct
-  pub one_size : e.fits ≡ true → e.ordering.size ≤ 16
-  one_size t = (one_struct (one-few t)).short
+  pub one_size : e.size ≤ 16
+  one_size = one_struct.short
 
   -- it takes so many places
-  one-places : length o ≤ 16 → 1 + 2 * e.ordering.size ≡ length (written_all (o ∷ []))
+  one-places : 1 + 2 * e.size ≡ length (written_all (o ∷ []))
   unfolding row
-  one-places l = omega (arith, ap (λ (r : Ordering). r.size) (one-is l), written-length o, ap (λ (w : List ℕ). length w) (written_one o))
+  one-places = omega (arith, ap (λ (r : Ordering). r.size) one-is, written-length o, ap (λ (w : List ℕ). length w) (written_one o))
 
   -- what is written of its struct is what is written of it
-  one-new : length o ≤ 16 → (new rest : List ℕ) → new ≡ written (keys_of e.ordering) ++ rest → new ≡ written_all (o ∷ []) ++ rest
-  one-new l new rest p = p ∙ ap (λ (w : List ℕ). w ++ rest) (ap written (ap keys_of (one-is l) ∙ keys-row o) ∙ sym (written_one o))
+  one-new : (new rest : List ℕ) → new ≡ written (keys_of e) ++ rest → new ≡ written_all (o ∷ []) ++ rest
+  one-new new rest p = p ∙ ap (λ (w : List ℕ). w ++ rest) (ap written (ap keys_of one-is ∙ keys-row o) ∙ sym (written_one o))
 
-  -- where it fits, that is its measure
-  one-fits : e.fits ≡ true → told true (1 + 2 * e.ordering.size) ≡ measured (o ∷ [])
-  one-fits t =
-      let l = one-few t in
-      ap (told true) (one-places l) ∙ sym (measured-short (o ∷ []) (short-one o l))
+  -- that is its measure
+  one-fits : Ok (1 + 2 * e.size) ≡ measured (o ∷ [])
+  one-fits = ap Ok one-places ∙ sym (measured-short (o ∷ []) (short-one o one-few))
 
-  -- where it does not, its measure is that it is too long
-  one-not : e.fits ≡ false → told false 0 ≡ measured (o ∷ [])
-  one-not t = sym (measured-long (o ∷ []) (long-test (o ∷ []) 0 (omega arith) (unfitting e o q t)))
+-- the measure of one that is not there is that it is too long
+one-not : (why : Refusal) (o : List ℕ) → Err why ≡ extended_of o → Err why ≡ measured (o ∷ [])
+one-not why o q = let u = unfitting o why q in ap Err u.1 ∙ sym (measured-long (o ∷ []) (long-test (o ∷ []) 0 (omega arith) u.0))
 
 -- A choice in all orders
 
@@ -161,58 +155,49 @@ left-next : (os : List (List ℕ)) (k : ℕ) → k < length os → drop k os ≡
 left-next os k l = drop-cons os k [] l ∙ ap (λ (i : ℕ). ordering_at os k ∷ drop i os) (sym (add-one k))
 
 -- the order with a number, as it comes from a choice
-module _ (c : Choice) (k : ℕ) (b : k < factorial c.size) (e : Extended) (q : e ≡ extended_of (ordering_at (in_all_orders (choice_of c)) k)) where
+module _ (c : Choice) (k : ℕ) (b : k < factorial c.size) where
+  abbrev all : List (List ℕ)
+  all = in_all_orders (choice_of c)
+
   -- it is one of the choice in all orders
-  order_in : k < length (in_all_orders (choice_of c))
+  order_in : k < length all
   order_in = omega (arith, in_all_length c)
 
   -- while the choice is measured
-  module _ (total : ℕ) (x : Measuring (in_all_orders (choice_of c)) (drop k (in_all_orders (choice_of c))) total) where
+  module _ (total : ℕ) (x : Measuring all (drop k all) total) where
     -- where it fits, its places are counted
-    pub choice_on : e.fits ≡ true → Measuring (in_all_orders (choice_of c)) (drop (k + 1) (in_all_orders (choice_of c))) (total + (1 + 2 * e.ordering.size))
-    choice_on t =
-        let os : List (List ℕ) = in_all_orders (choice_of c) in
-        let o : List ℕ = ordering_at os k in
-        measuring_on os (drop k os) (o ∷ []) (drop (k + 1) os) total x (left-next os k order_in) (told true (1 + 2 * e.ordering.size)) (one-fits e o q t) refl
+    pub choice_on : (e : Ordering) → Ok e ≡ extended_of (ordering_at all k) → Measuring all (drop (k + 1) all) (total + (1 + 2 * e.size))
+    choice_on e q = measuring_on all (drop k all) (ordering_at all k ∷ []) (drop (k + 1) all) total x (left-next all k order_in) (1 + 2 * e.size) (one-fits e (ordering_at all k) q)
 
     -- where it does not, the choice is too long
-    pub choice_stops : e.fits ≡ false → told false 0 ≡ measured (in_all_orders (choice_of c))
-    choice_stops t =
-        let os : List (List ℕ) = in_all_orders (choice_of c) in
-        let o : List ℕ = ordering_at os k in
-        measuring_stops os (drop k os) (o ∷ []) (drop (k + 1) os) total x (left-next os k order_in) (told false 0) (one-not e o q t) refl
+    pub choice_stops : (why : Refusal) → Err why ≡ extended_of (ordering_at all k) → Err why ≡ measured all
+    choice_stops why q = measuring_stops all (drop k all) (ordering_at all k ∷ []) (drop (k + 1) all) total x (left-next all k order_in) why (one-not why (ordering_at all k) q)
 
   -- while the choice is written
-  module _
-      (first : List ℕ) (room : length (written_all (in_all_orders (choice_of c))) ≤ length first) (out : List ℕ) (at : ℕ)
-      (x : WritingOrders (in_all_orders (choice_of c)) (drop k (in_all_orders (choice_of c))) first out at) where
+  module _ (first : List ℕ) (room : length (written_all all) ≤ length first) (out : List ℕ) (at : ℕ) (x : WritingOrders all (drop k all) first out at) where
     -- it has at most 16 keys
-    order_few : length (ordering_at (in_all_orders (choice_of c)) k) ≤ 16
-    order_few =
-        let os : List (List ℕ) = in_all_orders (choice_of c) in
-        let o : List ℕ = ordering_at os k in
-        test_short (o ∷ []) (part-short os first room (drop k os) out at x (o ∷ []) (drop (k + 1) os) (left-next os k order_in)) 0 (omega arith)
+    order_few : length (ordering_at all k) ≤ 16
+    order_few = test_short (ordering_at all k ∷ []) (part-short all first room (drop k all) out at x (ordering_at all k ∷ []) (drop (k + 1) all) (left-next all k order_in)) 0 (omega arith)
 
-    -- and so has its struct
-    pub order_short : ShortOrdering e.ordering
-    order_short = one_struct e (ordering_at (in_all_orders (choice_of c)) k) q order_few
+    -- so it is there
+    pub order-there : extended_of (ordering_at all k) ≡ Ok (row (ordering_at all k))
+    order-there = fits-here (ordering_at all k) order_few
 
-    -- the rest of the output has room for it
-    pub order_room : 1 + 2 * e.ordering.size ≤ length (take (length out - at) (drop at out))
-    order_room =
-        let os : List (List ℕ) = in_all_orders (choice_of c) in
-        let o : List ℕ = ordering_at os k in
-        omega (arith, one-places e o q order_few, part_room os first room (drop k os) out at x (o ∷ []) (drop (k + 1) os) (left-next os k order_in))
+    module _ (e : Ordering) (q : Ok e ≡ extended_of (ordering_at all k)) where
+      -- and its struct has at most 16 keys
+      pub order_short : ShortOrdering e
+      order_short = one_struct e (ordering_at all k) q
 
-    -- it is written
-    pub order_on : (new : List ℕ) → new ≡ written (keys_of e.ordering) ++ drop (1 + 2 * e.ordering.size) (take (length out - at) (drop at out))
-        → WritingOrders (in_all_orders (choice_of c)) (drop (k + 1) (in_all_orders (choice_of c))) first (take at out ++ (new ++ drop (length out - at) (drop at out))) (at + (1 + 2 * e.ordering.size))
-    order_on new p =
-        let os : List (List ℕ) = in_all_orders (choice_of c) in
-        let o : List ℕ = ordering_at os k in
-        let n : ℕ = 1 + 2 * e.ordering.size in
-        out-on os first room (drop k os) out at x (o ∷ []) (drop (k + 1) os) (left-next os k order_in) new n (one-places e o q order_few)
-        (one-new e o q order_few new (drop n (take (length out - at) (drop at out))) p)
+      -- the rest of the output has room for it
+      pub order_room : 1 + 2 * e.size ≤ length (take (length out - at) (drop at out))
+      order_room = omega (arith, one-places e (ordering_at all k) q, part_room all first room (drop k all) out at x (ordering_at all k ∷ []) (drop (k + 1) all) (left-next all k order_in))
+
+      -- it is written
+      pub order_on : (new : List ℕ) → new ≡ written (keys_of e) ++ drop (1 + 2 * e.size) (take (length out - at) (drop at out))
+          → WritingOrders all (drop (k + 1) all) first (take at out ++ (new ++ drop (length out - at) (drop at out))) (at + (1 + 2 * e.size))
+      order_on new p =
+          out-on all first room (drop k all) out at x (ordering_at all k ∷ []) (drop (k + 1) all) (left-next all k order_in) new (1 + 2 * e.size) (one-places e (ordering_at all k) q)
+          (one-new e (ordering_at all k) q new (drop (1 + 2 * e.size) (take (length out - at) (drop at out))) p)
 
 -- the orders of a choice end
 pub orders-done : (c : Choice) (k : ℕ) → factorial c.size ≤ k → drop k (in_all_orders (choice_of c)) ≡ []

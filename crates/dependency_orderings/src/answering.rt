@@ -8,12 +8,12 @@ ghost use Rattle.enumeration.specs.Walk.{over_start, prefix_orderings};
 ghost use Rattle.enumeration.specs.Inner.{Room, Rows};
 ghost use Rattle.products.specs.Generate.{once_each, contributing, generated};
 ghost use Rattle.products.specs.Inner.{lists_of, Laid};
-ghost use Rattle.dependency_orderings.specs.Calls.{refused_with, answered, walk_answer, gathered_answer};
-ghost use Rattle.dependency_orderings.specs.Inner.{one_list, over_bound, Gathers, GatheredBy};
+ghost use Rattle.dependency_orderings.specs.Calls.{answered, walk_answer, gathered_answer};
+ghost use Rattle.dependency_orderings.specs.Inner.{one_list, over_bound, GathersOn, GatheredBy};
 
 use crate::writing::{measure_all, write_all};
 use crate::{Enumerated, Gathered};
-use classes::Place;
+use arena::Refusal;
 use dependencies::DependencyMap;
 use dependencies::inserting::find_key;
 use enumeration::Found;
@@ -22,44 +22,25 @@ use products::choosing::count_choices;
 use products::ordering::factorial;
 use products::{Lists, Shape};
 
-// A refusal: its number, and nothing written.
-pub fn refused(number: u32) -> Enumerated
-    ensures { result ≡ refused_with number }
-{
-    Enumerated {
-        number: number,
-        count: 0,
-        used: 0,
-    }
-}
-
 // Answers with the orderings of some lists: 5, 8, or they are written.
-fn answer(l: Lists, out: &mut [u16]) -> Enumerated
+fn answer(l: Lists, out: &mut [u16]) -> Result<Enumerated, Refusal>
     requires { Laid l }
     ensures { (result, out.new) ≡ answered (generated (lists_of l)) out.old }
 {
     let shape = l.shape;
     if shape.size == 0 {
-        return refused(0);
+        return Ok(Enumerated { count: 0, used: 0 });
     }
-    let choices = count_choices(shape);
-    if !choices.fits {
-        return refused(5);
-    }
-    let n = choices.count;
-    let places = measure_all(l, n);
-    if !places.fits {
-        return refused(5);
-    }
-    if out.len() < places.count {
-        return refused(8);
+    let n = count_choices(shape)?;
+    let places = measure_all(l, n)?;
+    if out.len() < places {
+        return Err(Refusal::OutputShort);
     }
     let used = write_all(out, l, n);
-    Enumerated {
-        number: 0,
+    Ok(Enumerated {
         count: n * factorial(shape.size),
-        used: used,
-    }
+        used,
+    })
 }
 
 // The orderings that were found as lists: one list, or none where nothing was found.
@@ -69,54 +50,45 @@ fn one_list(found: Found) -> Lists
     let mut ends = [0; 6];
     if found.count == 0 {
         return Lists {
-            shape: Shape {
-                size: 0,
-                ends: ends,
-            },
-            found: found,
+            shape: Shape { size: 0, ends },
+            found,
         };
     }
     ends[0] = found.count;
     Lists {
-        shape: Shape {
-            size: 1,
-            ends: ends,
-        },
-        found: found,
+        shape: Shape { size: 1, ends },
+        found,
     }
 }
 
 // Answers with the orderings that were found.
-fn answer_found(found: Found, out: &mut [u16]) -> Enumerated
+fn answer_found(found: Found, out: &mut [u16]) -> Result<Enumerated, Refusal>
     requires { Room found × ((os : List (List ℕ)) × Rows found os) }
     ensures { (os : List (List ℕ)) → Rows found os → (result, out.new) ≡ answered os out.old }
 {
     if found.over {
-        return refused(5);
+        return Err(Refusal::TooLarge);
     }
     answer(one_list(found), out)
 }
 
 // Answers with the prefix orderings of the key at a place.
-fn answer_place(m: DependencyMap, place: usize, out: &mut [u16]) -> Enumerated
+fn answer_place(m: DependencyMap, place: usize, out: &mut [u16]) -> Result<Enumerated, Refusal>
     requires { Held m × (place < m.count) }
     ensures { (result, out.new) ≡ walk_answer (over_start (decode m) (entry_at (decode m) place).dependencies []) out.old }
 {
-    let next = prefixes_at(m, place, nothing_found());
-    if next.number != 0 {
-        return refused(next.number);
-    }
-    answer_found(next.found, out)
+    let found = prefixes_at(m, place, nothing_found())?;
+    answer_found(found, out)
 }
 
 // Answers with the prefix orderings of a key: 6 where it is not in the map.
-pub fn answer_prefixes(m: DependencyMap, key: u16, out: &mut [u16]) -> Enumerated
+pub fn answer_prefixes(m: DependencyMap, key: u16, out: &mut [u16]) -> Result<Enumerated, Refusal>
     requires { Held m }
     ensures { (result, out.new) ≡ walk_answer (prefix_orderings (decode m) key) out.old }
 {
     match find_key(m, key) {
-        Place::At(i) => answer_place(m, i, out),
-        Place::Nowhere => refused(6),
+        Some(i) => answer_place(m, i, out),
+        None => Err(Refusal::UnknownKey),
     }
 }
 
@@ -125,27 +97,16 @@ pub fn answer_prefixes(m: DependencyMap, key: u16, out: &mut [u16]) -> Enumerate
 fn over_bound(g: Gathered) -> bool
     ensures { result ≡ over_bound g }
 {
-    if 16 < g.different {
-        return true;
-    }
-    if g.many {
-        return true;
-    }
-    let lists = g.lists;
-    let found = lists.found;
-    found.over
+    16 < g.different || g.many || g.lists.found.over
 }
 
 // Answers with the orderings of what was gathered.
-pub fn answer_gathered(g: Gathered, out: &mut [u16]) -> Enumerated
+pub fn answer_gathered(g: Gathered, out: &mut [u16]) -> Result<Enumerated, Refusal>
     requires { GatheredBy g }
-    ensures { (m : MapOf) (ks : List ℕ) → Gathers m ks g → (result, out.new) ≡ gathered_answer (contributing (decode m) (once_each [] ks)) (length (once_each [] ks)) out.old }
+    ensures { (m : MapOf) (ks : List ℕ) → GathersOn m ks g → (result, out.new) ≡ gathered_answer (contributing (decode m) (once_each [] ks)) (length (once_each [] ks)) out.old }
 {
-    if g.number != 0 {
-        return refused(g.number);
-    }
     if over_bound(g) {
-        return refused(5);
+        return Err(Refusal::TooLarge);
     }
     answer(g.lists, out)
 }

@@ -1,47 +1,48 @@
 // The checks of what an enumeration is lent and given: 12, 11, 1.
 ghost use Rattle.std.specs.Prelude.{◌≡◌};
+ghost use Rattle.arena.specs.Refusals.{outcome};
 ghost use Rattle.dependency_orderings.specs.Calls.{prefix_number, generate_number};
 
+use arena::Refusal;
 use arena::cells::{node_count, wide};
 use dependencies::DependencyMap;
 use dependencies::checking::check_map;
 use sort_keys::keys::{exprs_below, options_known};
 
 // The check of a map and a key.
-#[tactic(auto, unfolding(crate::specs::Calls::prefix_number))]
-pub fn prefix_number(cells: &[u32; 11265], m: DependencyMap, expr: u32, options: u32) -> u32
-    ensures { result ≡ prefix_number cells.now m expr options }
+#[tactic(auto, unfolding(crate::specs::Calls::prefix_number, arena::specs::Refusals::outcome, arena::specs::Refusals::refusal))]
+pub fn prefix_number(
+    cells: &[u32; 11265],
+    m: DependencyMap,
+    expr: u32,
+    options: u32,
+) -> Result<(), Refusal>
+    ensures { result ≡ outcome (prefix_number cells.now m expr options) }
 {
     if 3 < options {
-        return 12;
+        return Err(Refusal::BadNumber);
     }
-    let number = check_map(cells, m);
-    if number != 0 {
-        return number;
-    }
+    check_map(cells, m)?;
     if node_count(cells) <= wide(expr) {
-        return 1;
+        return Err(Refusal::UnknownExpression);
     }
-    0
+    Ok(())
 }
 
 // The check of a map and keys.
-#[tactic(auto, using(crate::proofs::AnswerLaws::generate_cut))]
-pub fn generate_number(cells: &[u32; 11265], m: DependencyMap, keys: &[u32]) -> u32
-    ensures { result ≡ generate_number cells.now m keys.now }
+#[tactic(auto, unfolding(crate::specs::Calls::generate_number, arena::specs::Refusals::outcome, arena::specs::Refusals::refusal))]
+pub fn generate_number(cells: &[u32; 11265], m: DependencyMap, keys: &[u32]) -> Result<(), Refusal>
+    ensures { result ≡ outcome (generate_number cells.now m keys.now) }
 {
     if !options_known(keys) {
-        return 12;
+        return Err(Refusal::BadNumber);
     }
     if keys.len() % 2 != 0 {
-        return 11;
+        return Err(Refusal::BadState);
     }
-    let number = check_map(cells, m);
-    if number != 0 {
-        return number;
-    }
+    check_map(cells, m)?;
     if !exprs_below(keys, node_count(cells)) {
-        return 1;
+        return Err(Refusal::UnknownExpression);
     }
-    0
+    Ok(())
 }

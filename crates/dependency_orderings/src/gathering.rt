@@ -1,6 +1,6 @@
 // The walks of the keys that are given: each different one once, in order of arrival.
 ghost use Rattle.std.specs.Prelude.{map, ◌≡◌, ℕ, ◌<◌, ◌/◌, length};
-ghost use Rattle.std.proofs.Math.Option.{some};
+ghost use Rattle.std.specs.Prelude.{Some};
 ghost use Rattle.sort_keys.specs.Layout.{keys_of, packed as packed_key};
 ghost use Rattle.dependencies.specs.Map.{place_of};
 ghost use Rattle.dependencies.specs.Layout.{decode};
@@ -8,7 +8,7 @@ ghost use Rattle.dependencies.specs.Inner.{Held};
 ghost use Rattle.dependency_orderings.specs.Inner.{no_lists, with_found, with_key, counting, ungathered, Standing, Gathers, Steps, KeysFit, key_at};
 
 use crate::Gathered;
-use classes::Place;
+use arena::Refusal;
 use dependencies::DependencyMap;
 use dependencies::inserting::{find_key, packed};
 use enumeration::Found;
@@ -34,7 +34,6 @@ fn nothing_gathered() -> Gathered
     ensures { result ≡ ungathered }
 {
     Gathered {
-        number: 0,
         different: 0,
         walked: [false; 64],
         many: false,
@@ -43,13 +42,11 @@ fn nothing_gathered() -> Gathered
 }
 
 // One more of the different keys; 17 stands for more than 16.
+#[tactic(auto, unfolding(crate::specs::Inner::counting))]
 fn count_key(n: usize) -> usize
     ensures { result ≡ counting n }
 {
-    if 17 <= n {
-        return 17;
-    }
-    n + 1
+    if 17 <= n { 17 } else { n + 1 }
 }
 
 // What is gathered with the orderings after one more walk: a list more where some were found.
@@ -63,41 +60,29 @@ fn add_found(g: Gathered, found: Found) -> Gathered
     let walked = g.walked;
     if found.count == start_of(shape, n) {
         return Gathered {
-            number: 0,
             different: g.different,
-            walked: walked,
+            walked,
             many: g.many,
-            lists: Lists {
-                shape: shape,
-                found: found,
-            },
+            lists: Lists { shape, found },
         };
     }
     if 6 <= n {
         return Gathered {
-            number: 0,
             different: g.different,
-            walked: walked,
+            walked,
             many: true,
-            lists: Lists {
-                shape: shape,
-                found: found,
-            },
+            lists: Lists { shape, found },
         };
     }
     let mut ends = shape.ends;
     ends[n] = found.count;
     Gathered {
-        number: 0,
         different: g.different,
-        walked: walked,
+        walked,
         many: g.many,
         lists: Lists {
-            shape: Shape {
-                size: n + 1,
-                ends: ends,
-            },
-            found: found,
+            shape: Shape { size: n + 1, ends },
+            found,
         },
     }
 }
@@ -113,39 +98,26 @@ fn note_key(g: Gathered, place: usize) -> Gathered
     more
 }
 
-// The walk stopped with a number.
-fn stopped_with(g: Gathered, number: u32) -> Gathered
-    ensures { result ≡ record { number = number; different = g.different; walked = g.walked; many = g.many; lists = g.lists } }
-{
-    let mut next = g;
-    next.number = number;
-    next
-}
-
 // What is gathered after the key at a place of the map; a key that was walked adds nothing.
-fn add_place(m: DependencyMap, g: Gathered, place: usize) -> Gathered
+fn add_place(m: DependencyMap, g: Gathered, place: usize) -> Result<Gathered, Refusal>
     requires { (Held m × (place < m.count)) × Standing g }
-    ensures { (k : ℕ) → place_of (decode m) k ≡ some place → Steps m g k result }
+    ensures { (k : ℕ) → place_of (decode m) k ≡ Some place → Steps m g k result }
 {
     if g.walked[place] {
-        return g;
+        return Ok(g);
     }
-    let lists = g.lists;
-    let next = prefixes_at(m, place, lists.found);
-    if next.number != 0 {
-        return stopped_with(g, next.number);
-    }
-    add_found(note_key(g, place), next.found)
+    let found = prefixes_at(m, place, g.lists.found)?;
+    Ok(add_found(note_key(g, place), found))
 }
 
 // What is gathered after a key: 6 where it is not in the map.
-fn add_key(m: DependencyMap, g: Gathered, key: u16) -> Gathered
+fn add_key(m: DependencyMap, g: Gathered, key: u16) -> Result<Gathered, Refusal>
     requires { Held m × Standing g }
     ensures { Steps m g key result }
 {
     match find_key(m, key) {
-        Place::At(i) => add_place(m, g, i),
-        Place::Nowhere => stopped_with(g, 6),
+        Some(i) => add_place(m, g, i),
+        None => Err(Refusal::UnknownKey),
     }
 }
 
@@ -157,20 +129,14 @@ fn key_at(keys: &[u32], k: usize) -> u16
     packed(keys[2 * k], keys[2 * k + 1])
 }
 
-// The walks of the given keys, until one stops.
-pub fn gather(m: DependencyMap, keys: &[u32]) -> Gathered
+// The walks of the given keys, until one stops. Refusals: 6, 7.
+pub fn gather(m: DependencyMap, keys: &[u32]) -> Result<Gathered, Refusal>
     requires { Held m × KeysFit keys.now }
     ensures { Gathers m (map packed_key (keys_of keys.now)) result }
 {
-    let n = keys.len() / 2;
     let mut g = nothing_gathered();
-    let mut k = 0;
-    while k < n {
-        g = add_key(m, g, key_at(keys, k));
-        if g.number != 0 {
-            return g;
-        }
-        k += 1;
+    for k in 0..keys.len() / 2 {
+        g = add_key(m, g, key_at(keys, k))?;
     }
-    g
+    Ok(g)
 }

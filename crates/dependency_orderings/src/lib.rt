@@ -14,27 +14,26 @@ pub mod writing;
 ghost use Rattle.std.specs.Prelude.{◌≡◌};
 ghost use Rattle.dependency_orderings.specs.Calls.{prefix_answer, generate_answer};
 
-use answering::{answer_gathered, answer_prefixes, refused};
+use answering::{answer_gathered, answer_prefixes};
+use arena::Refusal;
 use checking::{generate_number, prefix_number};
 use dependencies::DependencyMap;
 use dependencies::inserting::packed;
 use gathering::gather;
 use products::Lists;
 
-// What an enumeration answers: the refusal's number or 0, how many orderings were written, and how many places of the
-// output they take; beside a refusal none.
-#[derive(Clone, Copy)]
+// What an enumeration answers: how many orderings were written, and how many places of the output they take.
+#[derive(Clone, Copy, Debug, PartialEq, Eq)]
 pub struct Enumerated {
-    pub number: u32,
     pub count: usize,
     pub used: usize,
 }
 
-// What the walks of the given keys came to: 0, or 6 or 7 where one stopped; how many different keys there were, 17 for
-// more; the places of the map that were walked; whether more than 6 contributed; and their lists.
+// What the walks of the given keys came to: how many different keys there were, 17 for more; the places of the map that
+// were walked; whether more than 6 contributed; and their lists.
+// Flat arrays with counts: the project works in fixed memory, without a heap.
 #[derive(Clone, Copy)]
 pub struct Gathered {
-    pub number: u32,
     pub different: usize,
     pub walked: [bool; 64],
     pub many: bool,
@@ -48,13 +47,10 @@ pub fn construct_prefix_orderings(
     expr: u32,
     options: u32,
     out: &mut [u16],
-) -> Enumerated
+) -> Result<Enumerated, Refusal>
     ensures { (result, out.new) ≡ prefix_answer cells.now map expr options out.old }
 {
-    let number = prefix_number(cells, map, expr, options);
-    if number != 0 {
-        return refused(number);
-    }
+    prefix_number(cells, map, expr, options)?;
     answer_prefixes(map, packed(expr, options), out)
 }
 
@@ -65,12 +61,9 @@ pub fn generate_dependency_orderings(
     map: DependencyMap,
     keys: &[u32],
     out: &mut [u16],
-) -> Enumerated
+) -> Result<Enumerated, Refusal>
     ensures { (result, out.new) ≡ generate_answer cells.now map keys.now out.old }
 {
-    let number = generate_number(cells, map, keys);
-    if number != 0 {
-        return refused(number);
-    }
-    answer_gathered(gather(map, keys), out)
+    generate_number(cells, map, keys)?;
+    answer_gathered(gather(map, keys)?, out)
 }

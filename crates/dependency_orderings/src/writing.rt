@@ -1,6 +1,6 @@
 // Orderings in the output: first how many places they take, then their numbers, each ordering directly after the one
 // before it.
-ghost use Rattle.std.specs.Prelude.{true, ◌++◌, ◌≡◌, ◌≤◌, ◌<◌, ◌+◌, ◌*◌, length, drop};
+ghost use Rattle.std.specs.Prelude.{true, ◌++◌, ◌≡◌, ◌≤◌, ◌<◌, ◌+◌, ◌*◌, length, drop, IfOk};
 ghost use Rattle.orderings.specs.Layout.{keys_of};
 ghost use Rattle.orderings.specs.Inner.{ShortOrdering, all_short};
 ghost use Rattle.products.specs.Orders.{product};
@@ -9,10 +9,11 @@ ghost use Rattle.products.specs.Inner.{choice_of, Chosen, lists_of};
 ghost use Rattle.dependency_orderings.specs.Output.{written, written_all};
 ghost use Rattle.dependency_orderings.specs.Inner.{measured, Ready};
 
+use arena::Refusal;
 use orderings::Ordering;
 use products::choosing::choice_at;
 use products::ordering::{factorial, ordering_at};
-use products::{Choice, Counted, Lists};
+use products::{Choice, Lists};
 
 // A number of keys, as a place of the output.
 fn narrow(n: usize) -> u16
@@ -29,60 +30,37 @@ fn write_ordering(out: &mut [u16], o: Ordering)
 {
     let n = o.size;
     out[0] = narrow(n);
-    let mut k = 0;
-    while k < n {
+    for k in 0..n {
         let key = o.keys[k];
         out[2 * k + 1] = key / 4;
         out[2 * k + 2] = key % 4;
-        k += 1;
     }
 }
 
 // How many places the orderings of a choice take, in all orders, or that one has more than 16 keys.
-fn measure_choice(c: Choice) -> Counted
+fn measure_choice(c: Choice) -> Result<usize, Refusal>
     requires { Chosen c }
-    ensures { (result ≡ measured (in_all_orders (choice_of c))) × (result.count ≤ 23760) }
+    ensures { (result ≡ measured (in_all_orders (choice_of c))) × IfOk result (λ n. n ≤ 23760) }
 {
     let orders = factorial(c.size);
     let mut total = 0;
-    let mut k = 0;
-    while k < orders {
-        let next = ordering_at(c, k);
-        if !next.fits {
-            return Counted {
-                fits: false,
-                count: 0,
-            };
-        }
-        let o = next.ordering;
+    for k in 0..orders {
+        let o = ordering_at(c, k)?;
         total += 1 + 2 * o.size;
-        k += 1;
     }
-    Counted {
-        fits: true,
-        count: total,
-    }
+    Ok(total)
 }
 
 // How many places the orderings of n choices take, or that one has more than 16 keys.
-pub fn measure_all(l: Lists, n: usize) -> Counted
+pub fn measure_all(l: Lists, n: usize) -> Result<usize, Refusal>
     requires { Ready l n }
     ensures { result ≡ measured (all_orders (product (lists_of l))) }
 {
     let mut total = 0;
-    let mut k = 0;
-    while k < n {
-        let next = measure_choice(choice_at(l, k));
-        if !next.fits {
-            return next;
-        }
-        total += next.count;
-        k += 1;
+    for k in 0..n {
+        total += measure_choice(choice_at(l, k))?;
     }
-    Counted {
-        fits: true,
-        count: total,
-    }
+    Ok(total)
 }
 
 // Writes a choice in all orders at the beginning of what is lent, and answers how many places were written.
@@ -92,13 +70,10 @@ fn write_choice(out: &mut [u16], c: Choice) -> usize
 {
     let n = factorial(c.size);
     let mut at = 0;
-    let mut number = 0;
-    while number < n {
-        let next = ordering_at(c, number);
-        let o = next.ordering;
+    for number in 0..n {
+        let o = ordering_at(c, number).unwrap();
         write_ordering(&mut out[at..], o);
         at += 1 + 2 * o.size;
-        number += 1;
     }
     at
 }
@@ -109,11 +84,9 @@ pub fn write_all(out: &mut [u16], l: Lists, n: usize) -> usize
     ensures { (result ≡ length (written_all (all_orders (product (lists_of l))))) × (out.new ≡ written_all (all_orders (product (lists_of l))) ++ drop (length (written_all (all_orders (product (lists_of l))))) out.old) }
 {
     let mut at = 0;
-    let mut k = 0;
-    while k < n {
+    for k in 0..n {
         let used = write_choice(&mut out[at..], choice_at(l, k));
         at += used;
-        k += 1;
     }
     at
 }

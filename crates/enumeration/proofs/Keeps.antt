@@ -15,13 +15,13 @@ use Rattle.orderings.specs.Lists.{ordering_at}
 use Rattle.orderings.specs.Layout.{row}
 use Rattle.orderings.specs.Inner.{extended_of, all_short}
 use Rattle.orderings.specs.declared.Ordering.{Ordering}
-use Rattle.orderings.specs.declared.Extended.{Extended}
+use Rattle.std.specs.Prelude.{Option, None, Some, Result, Ok, Err}
+use Rattle.arena.specs.declared.Refusal.{Refusal}
 use Rattle.orderings.proofs.Appending.{AllShort, short-test, test_short, long-test, short-more}
 use Rattle.orderings.proofs.Extending.{fitting as row-fitting, unfitting}
 use Rattle.enumeration.specs.Bounds.{fitting}
 use Rattle.enumeration.specs.Inner.{Room, Rows, Emits, kept, none_found}
 use Rattle.enumeration.specs.declared.Found.{Found}
-use Rattle.enumeration.specs.declared.Turned.{Turned}
 
 -- no orderings have room
 pub room-none : Room none_found
@@ -76,51 +76,26 @@ long-over os o l =
     and_fails_right (leb (length (os ++ (o ∷ []))) 1024) (all_short (os ++ (o ∷ [])))
     (long-test (os ++ (o ∷ [])) (length os) (omega (arith, length-append os (o ∷ []))) (omega (arith, here)))
 
--- what is kept: nothing more without an ordering
-pub kept-none : (f : Found) (o : Extended) → kept f false o ≡ f
+-- what is kept: an ordering for which there is room
+kept_more : (f : Found) (o : Ordering) → f.count < 1024 → kept f (Some (Ok o)) ≡ record { over = f.over; count = f.count + 1; rows = set f.rows f.count o }
 unfolding kept
-kept-none f o = refl
-
--- an ordering for which there is room
-pub kept_more : (f : Found) (o : Extended) → f.count < 1024 → o.fits ≡ true
-    → kept f true o ≡ record { over = f.over; count = f.count + 1; rows = set f.rows f.count o.ordering }
-unfolding kept
-kept_more f o l e = rw (lt-ltb f.count 1024 l, e)
+kept_more f o l = rw (lt-ltb f.count 1024 l)
 
 -- an ordering after 1,024
-pub kept-many : (f : Found) (o : Extended) → 1024 ≤ f.count → kept f true o ≡ record { over = true; count = f.count; rows = f.rows }
+kept-many : (f : Found) (o : Ordering) → 1024 ≤ f.count → kept f (Some (Ok o)) ≡ record { over = true; count = f.count; rows = f.rows }
 unfolding kept
 kept-many f o l = rw (le-ltb f.count 1024 l)
 
--- an ordering of over 16 keys
-pub kept-long : (f : Found) (o : Extended) → o.fits ≡ false → kept f true o ≡ record { over = true; count = f.count; rows = f.rows }
-unfolding kept
-kept-long f o e = rw (and_fails_right (ltb f.count 1024) o.fits e)
-
--- the three ways in which an ordering is kept or not
-data Fate (f : Found) (o : Extended) : Type 0 where
-  more : f.count < 1024 → o.fits ≡ true → Fate f o
-  many : 1024 ≤ f.count → Fate f o
-  long : o.fits ≡ false → Fate f o
-
--- one of them is there
-fate : (f : Found) (o : Extended) → Fate f o
-fate f o = go (ltb f.count 1024) refl o.fits refl
-  where
-    go : (a : Bool) → ltb f.count 1024 ≡ a → (b : Bool) → o.fits ≡ b → Fate f o
-    go false p b q = many (ltb-false f.count 1024 p)
-    go true p true q = more (ltb-true f.count 1024 p) q
-    go true p false q = long q
-
 -- one more, if there is one, keeps the room
-pub room-kept : (f : Found) (leaf : Bool) (o : Extended) → Room f → Room (kept f leaf o)
-room-kept f false o r = subst Room (sym (kept-none f o)) r
-room-kept f true o r = go (fate f o)
+pub room-kept : (f : Found) (leaf : Option (Result Ordering Refusal)) → Room f → Room (kept f leaf)
+unfolding kept
+room-kept f None r = r
+room-kept f (Some (Err why)) r = record { few = r.few; long = r.long }
+room-kept f (Some (Ok o)) r = go (ltb f.count 1024) refl
   where
-    go : Fate f o → Room (kept f true o)
-    go (more l e) = subst Room (sym (kept_more f o l e)) (record { few = omega arith; long = length-set f.rows f.count o.ordering ∙ r.long })
-    go (many l) = subst Room (sym (kept-many f o l)) (record { few = r.few; long = r.long })
-    go (long e) = subst Room (sym (kept-long f o e)) (record { few = r.few; long = r.long })
+    go : (b : Bool) → ltb f.count 1024 ≡ b → Room (kept f (Some (Ok o)))
+    go true e = let l = ltb-true f.count 1024 e in subst Room (sym (kept_more f o l)) (record { few = omega arith; long = length-set f.rows f.count o ∙ r.long })
+    go false e = subst Room (sym (kept-many f o (ltb-false f.count 1024 e))) (record { few = r.few; long = r.long })
 
 -- orderings that pass the bounds, as their struct says
 rows-over : (f : Found) (os : List (List ℕ)) → f.over ≡ true → fitting os ≡ false → Rows f os
@@ -152,25 +127,27 @@ module _ (f : Found) (os : List (List ℕ)) (o : List ℕ) (room : Room f) (rows
           get_or-set_other f.rows f.count i (row o) (row []) e ∙ rows.rows p i b ∙ sym (ap row (get_or-append os (o ∷ []) [] i b))
 
 -- one ordering more
-rows-one : (f : Found) (e : Extended) (os : List (List ℕ)) (o : List ℕ) → Room f → Rows f os → e ≡ extended_of o → Rows (kept f true e) (os ++ (o ∷ []))
-rows-one f e os o room rows q = go (fate f e) (fitting os) refl
+rows-one : (f : Found) (r : Result Ordering Refusal) (os : List (List ℕ)) (o : List ℕ) → Room f → Rows f os → r ≡ extended_of o → Rows (kept f (Some r)) (os ++ (o ∷ []))
+unfolding kept
+rows-one f (Err why) os o room rows q = rows-over (kept f (Some (Err why))) (os ++ (o ∷ [])) refl (long-over os o (unfitting o why q).0)
+rows-one f (Ok x) os o room rows q = go (ltb f.count 1024) refl (fitting os) refl
   where
-    go : Fate f e → (b : Bool) → fitting os ≡ b → Rows (kept f true e) (os ++ (o ∷ []))
-    go (more l t) true p =
-        let w = row-fitting e o q t in
-        subst (λ (g : Found). Rows g (os ++ (o ∷ []))) (sym (kept_more f e l t))
+    go : (a : Bool) → ltb f.count 1024 ≡ a → (b : Bool) → fitting os ≡ b → Rows (kept f (Some (Ok x))) (os ++ (o ∷ []))
+    go true e true p =
+        let w = row-fitting o x q in
+        let l = ltb-true f.count 1024 e in
+        subst (λ (g : Found). Rows g (os ++ (o ∷ []))) (sym (kept_more f x l))
         (subst (λ (r : Ordering). Rows (record { over = f.over; count = f.count + 1; rows = set f.rows f.count r }) (os ++ (o ∷ []))) (sym w.is) (rows_more f os o room rows p l w.few))
-    go (more l t) false p = rows-over (kept f true e) (os ++ (o ∷ [])) (ap (λ (g : Found). g.over) (kept_more f e l t) ∙ rows.over ∙ ap not p) (over-more os o p)
-    go (many l) true p = rows-over (kept f true e) (os ++ (o ∷ [])) (ap (λ (g : Found). g.over) (kept-many f e l)) (many-over os o (omega (arith, rows.count p)))
-    go (many l) false p = rows-over (kept f true e) (os ++ (o ∷ [])) (ap (λ (g : Found). g.over) (kept-many f e l)) (over-more os o p)
-    go (long t) b p = rows-over (kept f true e) (os ++ (o ∷ [])) (ap (λ (g : Found). g.over) (kept-long f e t)) (long-over os o (unfitting e o q t))
+    go true e false p =
+        rows-over (kept f (Some (Ok x))) (os ++ (o ∷ [])) (ap (λ (g : Found). g.over) (kept_more f x (ltb-true f.count 1024 e)) ∙ rows.over ∙ ap not p) (over-more os o p)
+    go false e true p =
+        let l = ltb-false f.count 1024 e in
+        rows-over (kept f (Some (Ok x))) (os ++ (o ∷ [])) (ap (λ (g : Found). g.over) (kept-many f x l)) (many-over os o (omega (arith, rows.count p)))
+    go false e false p =
+        rows-over (kept f (Some (Ok x))) (os ++ (o ∷ [])) (ap (λ (g : Found). g.over) (kept-many f x (ltb-false f.count 1024 e))) (over-more os o p)
 
 -- what a turn found stands behind what was there
-pub rows-kept : (f : Found) (t : Turned) (os ps : List (List ℕ)) → Room f → Rows f os → Emits t ps → Rows (kept f t.leaf t.row) (os ++ ps)
-rows-kept f t os ps room rows emits = go t.leaf refl
-  where
-    go : (b : Bool) → t.leaf ≡ b → Rows (kept f t.leaf t.row) (os ++ ps)
-    go false e = rw (e, kept-none f t.row, emits.nothing e, append-nil os) rows
-    go true e =
-        let w = emits.one e in
-        rw (e, w.1) (rows-one f t.row os w.0 room rows w.2)
+pub rows-kept : (f : Found) (leaf : Option (Result Ordering Refusal)) (os ps : List (List ℕ)) → Room f → Rows f os → Emits leaf ps → Rows (kept f leaf) (os ++ ps)
+unfolding kept
+rows-kept f None os ps room rows emits = rw (emits.nothing refl, append-nil os) rows
+rows-kept f (Some r) os ps room rows emits = let w = emits.one r refl in rw (w.1) (rows-one f r os w.0 room rows w.2)

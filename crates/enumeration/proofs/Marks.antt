@@ -1,5 +1,6 @@
 -- The account of pairs: what a mark says, and how many places are left without one.
-use Rattle.std.specs.Prelude.{if◌then◌else◌}
+use Rattle.std.specs.Prelude.{if◌then◌else◌, Option, None, Some, unwrap_or}
+use Rattle.std.specs.Option.{MatchOption}
 use Prim.Native.Nat.{ℕ, zero, suc, ◌+◌, ◌*◌, ◌<◌, ◌≤◌}
 use mathlib.Core.Bool.{Bool, true, false, ◌&&◌, ◌||◌}
 use mathlib.Core.List.{List, [], ◌∷◌, ◌++◌}
@@ -72,33 +73,12 @@ pub marked-read : (m : DependencyMap) (e : DependencyEnumerator) (t d i : ℕ) (
     → r ≡ marked_node (get_or m.list i no_place) (get_or e.seen i no_marks) t d → r ≡ marked_node (place_in m i) (seen_at e i) t d
 marked-read m e t d i r y z l q = q ∙ ap₂ (λ a b. marked_node a b t d) (read_is m y i l) (seen_read e z i l)
 
--- A search for a place without a mark
-
--- the places from one on and below k are marked
-pub record Passed (s : Seen) (from k : ℕ) : Type 0 where
-  pub low : from ≤ k
-  pub at : (j : ℕ) → from ≤ j → j < k → get_or s.told j false ≡ true
-
-module _ (s : Seen) (from : ℕ) where
-  -- none yet
-  pub passed_none : Passed s from from
-  passed_none = record { low = omega arith; at = λ j a b. absurd (omega arith) }
-
-  -- one more
-  pub passed-more : (k : ℕ) → Passed s from k → get_or s.told k false ≡ true → Passed s from (k + 1)
-  passed-more k p e = record { low = omega (arith, p.low); at = λ j a b. go j a b (ℕ_discrete j k) }
-    where
-      go : (j : ℕ) → from ≤ j → j < k + 1 → Dec (j ≡ k) → get_or s.told j false ≡ true
-      go j a b (yes q) = rw q e
-      go j a b (no q) = p.at j a (omega arith)
-
-  -- one that is not marked is the answer
-  pub opened-at : (size k : ℕ) → k ≤ size → Passed s from k → get_or s.told k false ≡ false → Opened s from size k
-  opened-at size k l p e = record { low = p.low; high = l; before = p.at; here = λ b. e }
-
-  -- at the end there is none
-  pub opened-none : (size k : ℕ) → k ≤ size → size ≤ k → Passed s from k → Opened s from size k
-  opened-none size k l r p = record { low = p.low; high = l; before = p.at; here = λ b. absurd (omega arith) }
+-- A search for a place without a mark: what the search answers, or the number of dependencies where it finds none
+pub opened-first : (s : Seen) (from size : ℕ) (o : Option ℕ) → from ≤ size
+    → MatchOption o ((k : ℕ) → from ≤ k → k < size → get_or s.told k false ≡ true) (λ i. (from ≤ i) × (i < size) × (get_or s.told i false ≡ false) × ((k : ℕ) → from ≤ k → k < i → get_or s.told k false ≡ true))
+    → Opened s from size (unwrap_or o size)
+opened-first s from size None l h = record { low = l; high = omega arith; before = h; here = λ b. absurd (omega arith) }
+opened-first s from size (Some i) l h = record { low = h.0; high = omega arith; before = h.3; here = λ b. h.2 }
 
 -- How many places are left
 

@@ -2,22 +2,23 @@
 use Prim.Native.Nat.{ℕ, suc, ◌+◌, ◌-◌, ◌<◌, ◌≤◌}
 use mathlib.Core.Bool.{true, false}
 use mathlib.Core.List.{List, [], ◌∷◌, ◌++◌, map}
-use mathlib.Core.Option.{Option, none, some}
+use Rattle.std.specs.Prelude.{Option, None, Some, Result, Ok, Err}
 use mathlib.Core.Path.{◌≡◌, refl, sym, ap, ◌∙◌, subst}
 use native.Mathlib.Decide.{ℕ_discrete}
 use native.Mathlib.Omega.{arith}
 use borrow.Author.Tests.{eq-eqb}
 use lib.ListN.{length, get_or, drop, set, replicate, length-append, length-replicate, length-set, length-map, drop_of_length-le}
 use lib.Seq.{get_or-set_same, get_or-set_other}
-use Rattle.laws.proofs.Booleans.{true_not_false, and_both}
+use Rattle.laws.proofs.Booleans.{and_both}
 use Rattle.laws.proofs.Table.{get_or-table}
 use Rattle.orderings.specs.Ordering.{has_expr, pushed, extended}
 use Rattle.orderings.specs.Layout.{row, keys_of}
 use Rattle.orderings.specs.Inner.{ShortOrdering, extended_of}
 use Rattle.orderings.specs.declared.Ordering.{Ordering}
-use Rattle.orderings.specs.declared.Extended.{Extended}
+use Rattle.arena.specs.declared.Refusal.{Refusal}
+use Rattle.arena.specs.declared.Refusal.TheVariants.{UnknownKey, NoTarget}
 use Rattle.orderings.proofs.Codec.{keys-row, get_d_any}
-use Rattle.orderings.proofs.Extending.{extended-grows, short-size, row-short, answer, fits-here, fits_not, fitting, unfitting}
+use Rattle.orderings.proofs.Extending.{extended-grows, short-size, row-short, fits-here, fits_not, fitting, unfitting}
 use Rattle.dependencies.specs.Map.{Dependent, entry_at, place_of}
 use Rattle.dependencies.specs.Layout.{row as row_of, entry_of, unused, encode, decode, place_in}
 use Rattle.dependencies.specs.Inner.{Held}
@@ -25,8 +26,8 @@ use Rattle.dependencies.specs.declared.DependencyNode.{DependencyNode}
 use Rattle.dependencies.specs.declared.DependencyMap.{DependencyMap}
 use Rattle.dependencies.proofs.MapChecks.{no_place, read_is}
 use Rattle.dependencies.proofs.MapCodec.{length-decode, place-decode, size_is}
-use Rattle.enumeration.specs.Walk.{Walk, found, stopped, is_seen, over_dependencies, at_target, at_entry, at_place}
-use Rattle.enumeration.specs.Inner.{seen_at, told, frame_at, unmarked, hits, marked, deeper, left, Opened, Framed, Walking, Told, frame_of, frames_of, up_all, before, resume, upward, way_of, walk_from, Emits, Turns, Sound, Visited, Entered, Went}
+use Rattle.enumeration.specs.Walk.{Walk, found, is_seen, over_dependencies, at_target, at_entry, at_place}
+use Rattle.enumeration.specs.Inner.{seen_at, told, frame_at, unmarked, hits, marked, deeper, left, Opened, Framed, Walking, Told, frame_of, frames_of, up_all, before, resume, upward, way_of, walk_from, Emits, Goes, Visited, Entered, Went}
 use Rattle.enumeration.specs.declared.Frame.{Frame}
 use Rattle.enumeration.specs.declared.Seen.{Seen}
 use Rattle.enumeration.specs.declared.DependencyEnumerator.{DependencyEnumerator}
@@ -83,28 +84,35 @@ pub record Climbing (m : DependencyMap) (e : DependencyEnumerator) (t i : ℕ) (
 
 module _ (m : DependencyMap) (e : DependencyEnumerator) (t : ℕ) where
   -- it begins with the target alone
-  pub climbing_begins : (o : Ordering) (x : Extended) → o ≡ row [] → x ≡ extended_of (pushed (keys_of o) t) → Climbing m e t e.depth x.ordering
-  unfolding pushed has_expr
-  climbing_begins o x p q =
-      let one : pushed (keys_of o) t ≡ t ∷ [] = ap (λ (r : Ordering). pushed (keys_of r) t) p ∙ ap (λ (z : List ℕ). pushed z t) (keys-row []) in
-      let is : x.ordering ≡ row (t ∷ []) = ap (λ (y : Extended). y.ordering) (q ∙ ap extended_of one ∙ fits-here (t ∷ []) (omega arith)) in
-      record {
-        below = omega arith;
-        short = subst ShortOrdering (sym is) (row-short (t ∷ []) (omega arith));
-        goes = ap (up_all (frames_of m e e.depth)) (sym (ap keys_of is ∙ keys-row (t ∷ [])));
-      }
+  module _ (o : Ordering) (p : o ≡ row []) where
+    one : pushed (keys_of o) t ≡ t ∷ []
+    unfolding pushed has_expr
+    one = ap (λ (r : Ordering). pushed (keys_of r) t) p ∙ ap (λ (z : List ℕ). pushed z t) (keys-row [])
+
+    pub climbing_begins : (x : Ordering) → Ok x ≡ extended_of (pushed (keys_of o) t) → Climbing m e t e.depth x
+    climbing_begins x q =
+        let is : x ≡ row (t ∷ []) = (fitting (t ∷ []) x (q ∙ ap extended_of one)).is in
+        record {
+          below = omega arith;
+          short = subst ShortOrdering (sym is) (row-short (t ∷ []) (omega arith));
+          goes = ap (up_all (frames_of m e e.depth)) (sym (ap keys_of is ∙ keys-row (t ∷ [])));
+        }
+
+    -- for which there is room
+    pub climbing-room : (A : Type 0) (x : Refusal) → Err x ≡ extended_of (pushed (keys_of o) t) → A
+    climbing-room A x q = let u = (unfitting (t ∷ []) x (q ∙ ap extended_of one)).0 in absurd (omega arith)
 
   module _ (i : ℕ) (out : Ordering) (c : Climbing m e t i out) where
-    module _ (l : 0 < i) (x : Extended) (key : ℕ) (s : (place_in m (frame_at e (i - 1)).place).target ≡ key) (q : x ≡ extended_of (pushed (keys_of out) key)) where
+    module _ (l : 0 < i) (key : ℕ) (s : (place_in m (frame_at e (i - 1)).place).target ≡ key) where
       -- the lowest key of the way down is pushed
       climbed : up_all (frames_of m e e.depth) (t ∷ []) ≡ up_all (frames_of m e (i - 1)) (pushed (keys_of out) key)
       unfolding up_all
       climbed = c.goes ∙ ap (λ (fs : List (ℕ × List ℕ)). up_all fs (keys_of out)) (frames_last m e i l) ∙ ap (λ (z : ℕ). up_all (frames_of m e (i - 1)) (pushed (keys_of out) z)) s
 
       -- one key more
-      pub climbing_on : x.fits ≡ true → Climbing m e t (i - 1) x.ordering
-      climbing_on f =
-          let p = fitting x (pushed (keys_of out) key) q f in
+      pub climbing_on : (x : Ordering) → Ok x ≡ extended_of (pushed (keys_of out) key) → Climbing m e t (i - 1) x
+      climbing_on x q =
+          let p = fitting (pushed (keys_of out) key) x q in
           record {
             below = omega (arith, c.below);
             short = subst ShortOrdering (sym p.is) (row-short (pushed (keys_of out) key) p.few);
@@ -112,34 +120,22 @@ module _ (m : DependencyMap) (e : DependencyEnumerator) (t : ℕ) where
           }
 
       -- over 16 keys, and more keys don't make it fewer
-      pub climbing_stops : x.fits ≡ false → x ≡ extended_of (up_all (frames_of m e e.depth) (t ∷ []))
-      climbing_stops f =
+      pub climbing_stops : (x : Refusal) → Err x ≡ extended_of (pushed (keys_of out) key) → Err x ≡ extended_of (up_all (frames_of m e e.depth) (t ∷ []))
+      climbing_stops x q =
           let ps : List ℕ = pushed (keys_of out) key in
-          let a = unfitting x ps q f in
+          let a = unfitting ps x q in
           let b = ap (λ (z : List ℕ). length z) climbed in
-          q ∙ fits_not ps a ∙ sym (fits_not (up_all (frames_of m e e.depth) (t ∷ [])) (omega (arith, up-grows (frames_of m e (i - 1)) ps)))
+          ap Err a.1 ∙ sym (fits_not (up_all (frames_of m e e.depth) (t ∷ [])) (omega (arith, a.0, up-grows (frames_of m e (i - 1)) ps)))
 
     -- the top is reached
-    pub climbing_ends : i ≤ 0 → answer true out ≡ extended_of (up_all (frames_of m e e.depth) (t ∷ []))
+    pub climbing_ends : i ≤ 0 → Ok out ≡ extended_of (up_all (frames_of m e e.depth) (t ∷ []))
     unfolding frames_of up_all
     climbing_ends l =
         let z : i ≡ 0 = omega arith in
         sym (ap extended_of (c.goes ∙ ap (λ (n : ℕ). up_all (frames_of m e n) (keys_of out)) z)
-        ∙ fits-here (keys_of out) (short-size out c.short) ∙ ap (answer true) c.short.coded)
+        ∙ fits-here (keys_of out) (short-size out c.short) ∙ ap Ok c.short.coded)
 
--- A turn that finds nothing
-
--- a turn with a number and no ordering
-abbrev pub turned : ℕ → DependencyEnumerator → Turned
-turned n e = record { number = n; leaf = false; row = extended_of []; walk = e }
-
--- as the code makes it
-pub turned-is : (n : ℕ) (e : DependencyEnumerator) (o : Ordering) → o ≡ row [] → ◌≡◌ {A = Turned} (record { number = n; leaf = false; row = answer true o; walk = e }) (turned n e)
-turned-is n e o p = ap (λ (x : Extended). record { number = n; leaf = false; row = x; walk = e }) (ap (answer true) p ∙ sym (fits-here [] (omega arith)))
-
--- an account without its way down
-abbrev pub ended_of : DependencyEnumerator → DependencyEnumerator
-ended_of e = record { depth = 0; frames = e.frames; seen = e.seen }
+-- What a turn finds
 
 -- the places that are left are those of the marks
 pub left-seen : (e f : DependencyEnumerator) → e.seen ≡ f.seen → left e ≡ left f
@@ -151,48 +147,25 @@ pub told-seen : (m : DependencyMap) (e f : DependencyEnumerator) (s : List (ℕ 
 unfolding told
 told-seen m e f s p t = record { is = λ i k a b c. ap (λ (x : List Seen). get_or (get_or x i unmarked).told k false) p ∙ t.is i k a b c }
 
--- a walk that stops is sound
-sound-stop : (m : DependencyMap) (e : DependencyEnumerator) (n : ℕ) → Walking m e → Sound m (turned n (ended_of e))
-sound-stop m e n w =
-    record {
-      walking =
-          record {
-            map = w.map;
-            room = omega (arith, left-seen (ended_of e) e refl, w.room);
-            long = w.long;
-            wide = w.wide;
-            framed = λ i l. absurd (omega arith);
-          };
-      ended = λ z. (refl, refl);
-    }
-
--- a turn of number 0 is sound with its account
-sound-on : (m : DependencyMap) (t : Turned) → t.number ≡ 0 → Walking m t.walk → Sound m t
-sound-on m t z w = record { walking = w; ended = λ f. absurd (f z) }
-
--- a walk that is stopped is one that a stop begins
-turns-stop : (m : DependencyMap) (w : Walk) (t : Turned) (n : ℕ) → t.number ≡ n → (n ≡ 0 → ⊥) → w ≡ stopped n → Turns m w t
-turns-stop m w t n p z q = record { stops = λ f. q ∙ ap {B = Walk} stopped (sym p); goes = λ y. absurd (z (sym p ∙ y)) }
-
 -- nothing is found by a turn without an ordering
-emits_none : (t : Turned) → t.leaf ≡ false → Emits t []
-emits_none t p = record { nothing = λ q. refl; one = λ q. absurd (true_not_false q p) }
+emits_none : Emits None []
+emits_none = record { nothing = λ q. refl; one = λ r q. cc }
 
 -- one ordering is found by a turn with one
-emits_one : (t : Turned) (o : List ℕ) → t.leaf ≡ true → t.row ≡ extended_of o → Emits t (o ∷ [])
-emits_one t o p q = record { nothing = λ f. absurd (true_not_false p f); one = λ g. (o, refl, q) }
+emits_one : (r : Result Ordering Refusal) (o : List ℕ) → r ≡ extended_of o → Emits (Some r) (o ∷ [])
+emits_one r o p = record { nothing = λ q. cc; one = λ x g. (o, refl, let e : r ≡ x = cc in sym e ∙ p) }
 
--- a turn that finds nothing leaves all of the walk
-turns-none : (m : DependencyMap) (w : Walk) (t : Turned) (s : List (ℕ × ℕ)) → t.number ≡ 0 → t.leaf ≡ false → Told m t.walk s → w ≡ resume (walk_from m) (way_of m t.walk) s → Turns m w t
-turns-none m w t s z l say q =
-    record {
-      stops = λ f. absurd (f z);
-      goes = λ y. ([], emits_none t l, (s, say, q ∙ sym (before-none (resume (walk_from m) (way_of m t.walk) s))));
-    }
+-- a turn that goes on with an account and finds nothing
+abbrev on : DependencyEnumerator → Turned
+on e = record { leaf = None; walk = e }
+
+-- it leaves all of the walk
+turns-none : (m : DependencyMap) (w : Walk) (e : DependencyEnumerator) (s : List (ℕ × ℕ)) → Told m e s → w ≡ resume (walk_from m) (way_of m e) s → Goes m w (on e)
+turns-none m w e s say q = record { os = []; emits = emits_none; s = s; say = say; is = q ∙ sym (before-none (resume (walk_from m) (way_of m e) s)) }
 
 -- a turn that finds one leaves the rest
-turns-one : (m : DependencyMap) (w : Walk) (t : Turned) (o : List ℕ) (s : List (ℕ × ℕ)) → t.number ≡ 0 → t.leaf ≡ true → t.row ≡ extended_of o → Told m t.walk s → w ≡ before (o ∷ []) (resume (walk_from m) (way_of m t.walk) s) → Turns m w t
-turns-one m w t o s z l r say q = record { stops = λ f. absurd (f z); goes = λ y. (o ∷ [], emits_one t o l r, (s, say, q)) }
+turns-one : (m : DependencyMap) (w : Walk) (e : DependencyEnumerator) (r : Result Ordering Refusal) (o : List ℕ) (s : List (ℕ × ℕ)) → r ≡ extended_of o → Told m e s → w ≡ before (o ∷ []) (resume (walk_from m) (way_of m e) s) → Goes m w (record { leaf = Some r; walk = e })
+turns-one m w e r o s p say q = record { os = o ∷ []; emits = emits_one r o p; s = s; say = say; is = q }
 
 -- Frames
 
@@ -207,24 +180,24 @@ first_of i = record { place = i; next = 0 }
 -- A place of the map
 
 -- the target of an entry with one
-target-there : (r : DependencyNode) → r.projected ≡ true → (entry_of r).target ≡ some r.target
+target-there : (r : DependencyNode) → r.projected ≡ true → (entry_of r).target ≡ Some r.target
 unfolding entry_of
 target-there r p = rw p
 
 -- and of an entry without one
-target_none : (r : DependencyNode) → r.projected ≡ false → (entry_of r).target ≡ none
+target_none : (r : DependencyNode) → r.projected ≡ false → (entry_of r).target ≡ None
 unfolding entry_of
 target_none r p = rw p
 
 module _ (at : ℕ → List (ℕ × ℕ) → Walk) (t : ℕ) (s : List (ℕ × ℕ)) where
   -- the walk at an entry with a target and no dependencies
-  leaf_entry : (o : Option ℕ) (ds : List ℕ) → o ≡ some t → length ds ≡ 0 → at_entry at o ds s ≡ found ((t ∷ []) ∷ []) s
+  leaf_entry : (o : Option ℕ) (ds : List ℕ) → o ≡ Some t → length ds ≡ 0 → at_entry at o ds s ≡ found ((t ∷ []) ∷ []) s
   unfolding at_entry at_target
   leaf_entry o [] p q = rw p
   leaf_entry o (d ∷ ds) p q = absurd (omega arith)
 
   -- and with dependencies
-  open-entry : (o : Option ℕ) (ds : List ℕ) → o ≡ some t → (length ds ≡ 0 → ⊥) → at_entry at o ds s ≡ over_dependencies at t ds s
+  open-entry : (o : Option ℕ) (ds : List ℕ) → o ≡ Some t → (length ds ≡ 0 → ⊥) → at_entry at o ds s ≡ over_dependencies at t ds s
   unfolding at_entry at_target
   open-entry o [] p q = absurd (q refl)
   open-entry o (d ∷ ds) p q = rw p
@@ -242,11 +215,11 @@ module _ (m : DependencyMap) (i : ℕ) (l : i < m.count) where
       ∙ get_or-table (λ (j : ℕ). get_or (place_in m i).dependencies j 0) (place_in m i).size k 0 b
 
   -- its target, where the struct has one
-  entry-target : (place_in m i).projected ≡ true → (entry_at (decode m) i).target ≡ some (place_in m i).target
+  entry-target : (place_in m i).projected ≡ true → (entry_at (decode m) i).target ≡ Some (place_in m i).target
   entry-target p = ap (λ (d : Dependent). d.target) (place-decode m i l) ∙ target-there (place_in m i) p
 
   -- none, where it has none
-  entry-bare : (place_in m i).projected ≡ false → (entry_at (decode m) i).target ≡ none
+  entry-bare : (place_in m i).projected ≡ false → (entry_at (decode m) i).target ≡ None
   entry-bare p = ap (λ (d : Dependent). d.target) (place-decode m i l) ∙ target_none (place_in m i) p
 
   module _ (e : DependencyEnumerator) (w : Walking m e) where
@@ -255,31 +228,22 @@ module _ (m : DependencyMap) (i : ℕ) (l : i < m.count) where
     At s = at_entry (walk_from m) (entry_at (decode m) i).target (entry_at (decode m) i).dependencies s
 
     -- without a target the walk stops with 7
-    pub visited_bare : (place_in m i).projected ≡ false → Visited m e i (turned 7 (ended_of e))
+    pub visited_bare : (place_in m i).projected ≡ false → Visited m e i (Err NoTarget)
     unfolding at_entry
-    visited_bare p =
-        record {
-          sound = sound-stop m e 7 w;
-          seen = refl;
-          deep = omega arith;
-          turns = λ s say. turns-stop m (upward (walk_from m) (way_of m e) (At s)) (turned 7 (ended_of e)) 7 refl (λ z. omega arith) (whole s);
-        }
-      where
-        whole : (s : List (ℕ × ℕ)) → upward (walk_from m) (way_of m e) (At s) ≡ stopped 7
-        whole s =
-            ap (λ (o : Option ℕ). upward (walk_from m) (way_of m e) (at_entry (walk_from m) o (entry_at (decode m) i).dependencies s)) (entry-bare p)
-            ∙ upward-stopped (walk_from m) (way_of m e) 7
+    visited_bare p s say =
+        ap (λ (o : Option ℕ). upward (walk_from m) (way_of m e) (at_entry (walk_from m) o (entry_at (decode m) i).dependencies s)) (entry-bare p)
+        ∙ upward-stopped (walk_from m) (way_of m e) 7
 
     -- with a target and nothing that it depends on there is an ordering
-    pub visited_leaf : (x : Extended) → (place_in m i).projected ≡ true → (place_in m i).size ≡ 0 → x ≡ extended_of (up_all (way_of m e) ((place_in m i).target ∷ []))
-        → Visited m e i (record { number = 0; leaf = true; row = x; walk = e })
+    pub visited_leaf : (x : Result Ordering Refusal) → (place_in m i).projected ≡ true → (place_in m i).size ≡ 0 → x ≡ extended_of (up_all (way_of m e) ((place_in m i).target ∷ []))
+        → Visited m e i (Ok (record { leaf = Some x; walk = e }))
     visited_leaf x p z q =
         record {
-          sound = sound-on m (record { number = 0; leaf = true; row = x; walk = e }) refl w;
+          walking = w;
           seen = refl;
           deep = omega arith;
-          turns = λ s say.
-              turns-one m (upward (walk_from m) (way_of m e) (At s)) (record { number = 0; leaf = true; row = x; walk = e }) (up_all (way_of m e) ((place_in m i).target ∷ [])) s refl refl q say
+          goes = λ s say.
+              turns-one m (upward (walk_from m) (way_of m e) (At s)) e x (up_all (way_of m e) ((place_in m i).target ∷ [])) s q say
               (ap (upward (walk_from m) (way_of m e)) (leaf_entry (walk_from m) (place_in m i).target s (entry_at (decode m) i).target (entry_at (decode m) i).dependencies (entry-target p) (entry-size ∙ z))
               ∙ upward-one (walk_from m) (way_of m e) ((place_in m i).target ∷ []) s);
         }
@@ -303,14 +267,14 @@ module _ (m : DependencyMap) (i : ℕ) (l : i < m.count) where
         at j u (no q) = subst (Framed m) (sym (get_or-set_other e.frames e.depth j (first_of i) no_frame q)) (w.framed j (omega arith))
 
     -- with dependencies the walk goes one key down
-    pub visited_open : e.depth + left e ≤ 1024 → (place_in m i).projected ≡ true → ((place_in m i).size ≡ 0 → ⊥) → Visited m e i (turned 0 (deeper e i))
+    pub visited_open : e.depth + left e ≤ 1024 → (place_in m i).projected ≡ true → ((place_in m i).size ≡ 0 → ⊥) → Visited m e i (Ok (on (deeper e i)))
     unfolding deeper
     visited_open b p z =
         record {
-          sound = sound-on m (turned 0 (deeper e i)) refl (walking-deeper b p);
+          walking = walking-deeper b p;
           seen = refl;
           deep = omega arith;
-          turns = λ s say. turns-none m (upward (walk_from m) (way_of m e) (At s)) (turned 0 (deeper e i)) s refl refl (told-seen m e (deeper e i) s refl say) (whole s);
+          goes = λ s say. turns-none m (upward (walk_from m) (way_of m e) (At s)) (deeper e i) s (told-seen m e (deeper e i) s refl say) (whole s);
         }
       where
         whole : (s : List (ℕ × ℕ)) → upward (walk_from m) (way_of m e) (At s) ≡ resume (walk_from m) (frames_of m (deeper e i) (e.depth + 1)) s
@@ -329,28 +293,21 @@ from_place m e k o s p =
 
 module _ (m : DependencyMap) (e : DependencyEnumerator) (k : ℕ) where
   -- a key that is in the map: its place is visited
-  pub entered_there : (i : ℕ) (t : Turned) → place_of (decode m) k ≡ some i → Visited m e i t → Entered m e k t
+  pub entered_there : (i : ℕ) (r : Result Turned Refusal) → place_of (decode m) k ≡ Some i → Visited m e i r → Entered m e k r
   unfolding at_place
-  entered_there i t p v =
+  entered_there i (Ok t) p v =
       record {
-        sound = v.sound;
+        walking = v.walking;
         seen = v.seen;
         deep = v.deep;
-        turns = λ s say. subst (λ (w : Walk). Turns m w t) (sym (from_place m e k (some i) s p)) (v.turns s say);
+        goes = λ s say. subst (λ (w : Walk). Goes m w t) (sym (from_place m e k (Some i) s p)) (v.goes s say);
       }
+  entered_there i (Err why) p v = λ s say. from_place m e k (Some i) s p ∙ v s say
 
   -- a key that is not: the walk stops with 6
-  pub entered_nowhere : Walking m e → place_of (decode m) k ≡ none → Entered m e k (turned 6 (ended_of e))
+  pub entered_nowhere : place_of (decode m) k ≡ None → Entered m e k (Err UnknownKey)
   unfolding at_place
-  entered_nowhere w p =
-      record {
-        sound = sound-stop m e 6 w;
-        seen = refl;
-        deep = omega arith;
-        turns = λ s say.
-            turns-stop m (upward (walk_from m) (way_of m e) (walk_from m k s)) (turned 6 (ended_of e)) 6 refl (λ z. omega arith)
-            (from_place m e k none s p ∙ upward-stopped (walk_from m) (way_of m e) 6);
-      }
+  entered_nowhere p s say = from_place m e k None s p ∙ upward-stopped (walk_from m) (way_of m e) 6
 
 -- The lowest key of the way down
 
@@ -413,12 +370,12 @@ module _ (m : DependencyMap) (e : DependencyEnumerator) (w : Walking m e) (up : 
     next_frame = record { place = top.place; next = k + 1 }
 
     -- all were: the walk leaves the key
-    pub went_up : top_node.size ≤ k → Went m e (turned 0 (shorter e))
+    pub went_up : top_node.size ≤ k → Went m e (Ok (on (shorter e)))
     went_up l =
         record {
-          sound = sound-on m (turned 0 (shorter e)) refl walking;
+          walking = walking;
           less = omega (arith, left-seen (shorter e) e refl);
-          turns = λ s say. turns-none m (resume (walk_from m) (way_of m e) s) (turned 0 (shorter e)) s refl refl (told-seen m e (shorter e) s refl say) (whole s say);
+          goes = λ s say. turns-none m (resume (walk_from m) (way_of m e) s) (shorter e) s (told-seen m e (shorter e) s refl say) (whole s say);
         }
       where
         walking : Walking m (shorter e)
@@ -513,17 +470,21 @@ module _ (m : DependencyMap) (e : DependencyEnumerator) (w : Walking m e) (up : 
           ∙ ap (λ (x : ℕ). upward (walk_from m) ((top_node.target, drop (k + 1) top_dependencies) ∷ frames_of m e (e.depth - 1)) (walk_from m x (s ++ ((top_node.target, x) ∷ [])))) d
           ∙ ap (λ (fs : List (ℕ × List ℕ)). upward (walk_from m) fs (walk_from m next_key (s ++ ((top_node.target, next_key) ∷ [])))) (sym way_next)
 
-      -- so a turn that comes to the dependency is a turn of the walk
-      went_on : (t : Turned) → Entered m next_walk next_key t → Went m e t
+      -- the account says so with the pair more
+      told_then : (s : List (ℕ × ℕ)) → Told m e s → Told m next_walk (s ++ ((top_node.target, next_key) ∷ []))
       unfolding marked
-      went_on t v =
+      told_then s say = told-seen m (marked m e top_node.target next_key) next_walk (s ++ ((top_node.target, next_key) ∷ [])) refl (told-marked m e top_node.target next_key s w.map say)
+
+      -- so a turn that comes to the dependency is a turn of the walk
+      went_on : (r : Result Turned Refusal) → Entered m next_walk next_key r → Went m e r
+      unfolding marked
+      went_on (Ok t) v =
           record {
-            sound = v.sound;
+            walking = v.walking;
             less = omega (arith, left-seen t.walk next_walk v.seen, fewer, v.deep);
-            turns = λ s say.
-                subst (λ (x : Walk). Turns m x t) (sym (unfolded s say))
-                (v.turns (s ++ ((top_node.target, next_key) ∷ [])) (told-seen m (marked m e top_node.target next_key) next_walk (s ++ ((top_node.target, next_key) ∷ [])) refl (told-marked m e top_node.target next_key s w.map say)));
+            goes = λ s say. subst (λ (x : Walk). Goes m x t) (sym (unfolded s say)) (v.goes (s ++ ((top_node.target, next_key) ∷ [])) (told_then s say));
           }
+      went_on (Err why) v = λ s say. unfolded s say ∙ v (s ++ ((top_node.target, next_key) ∷ [])) (told_then s say)
 
       module _ (r : DependencyNode) (q : r ≡ top_node) (x : DependencyEnumerator) (p : x ≡ marked m e r.target (get_or r.dependencies k 0)) where
         -- the account as the code makes it, from the entry and the marked account that it has
@@ -541,7 +502,7 @@ module _ (m : DependencyMap) (e : DependencyEnumerator) (w : Walking m e) (up : 
         read-asks = subst (λ (y : DependencyEnumerator). Walking m y × (y.depth + left y ≤ 1024)) (sym same-walk) next-asks
 
         -- and a turn that comes to the dependency from it is a turn of the walk
-        pub went-read : (t : Turned) → Entered m read_walk (get_or r.dependencies k 0) t → Went m e t
+        pub went-read : (t : Result Turned Refusal) → Entered m read_walk (get_or r.dependencies k 0) t → Went m e t
         went-read t v =
             went_on t
             (subst (λ (d : ℕ). Entered m next_walk d t) (ap (λ (n : DependencyNode). get_or n.dependencies k 0) q)

@@ -1,10 +1,9 @@
 -- The walk from a key doesn't depend on the count of pairs that bounds it: each pair is expanded once, so the count is never used up.
-use Rattle.std.specs.Prelude.{if◌then◌else◌}
+use Rattle.std.specs.Prelude.{if◌then◌else◌, Option, None, Some}
 use Prim.Native.Nat.{ℕ, zero, suc, ◌+◌, ◌<◌, ◌≤◌}
 use mathlib.Core.Bool.{Bool, true, false, ◌&&◌, ◌||◌, or-true}
 use mathlib.Core.List.{List, [], ◌∷◌, ◌++◌, map}
 use mathlib.Core.Logic.{◌⊎◌, inl, inr}
-use mathlib.Core.Option.{Option, none, some}
 use mathlib.Core.Path.{◌≡◌, refl, sym, ap, ◌∙◌, subst}
 use native.Mathlib.Omega.{arith}
 use borrow.Author.Tests.{eq-eqb}
@@ -22,8 +21,8 @@ unseen_of t (d ∷ ds) s = (if is_seen t d s then 0 else 1) + unseen_of t ds s
 
 -- how many pairs of an entry were not expanded; without a target it has none
 unfoldable pub unseen_at : Option ℕ → List ℕ → List (ℕ × ℕ) → ℕ
-unseen_at none ds s = 0
-unseen_at (some t) ds s = unseen_of t ds s
+unseen_at None ds s = 0
+unseen_at (Some t) ds s = unseen_of t ds s
 
 -- how many pairs of a map were not expanded
 unfoldable pub unseen : List Dependent → List (ℕ × ℕ) → ℕ
@@ -63,8 +62,8 @@ unseen_of-few t (d ∷ ds) s = go (is_seen t d s) (unseen_of-few t ds s)
 -- so it is at an entry
 unseen_at-few : (o : Option ℕ) (ds : List ℕ) (s : List (ℕ × ℕ)) → unseen_at o ds s ≤ length ds
 unfolding unseen_at
-unseen_at-few none ds s = omega arith
-unseen_at-few (some t) ds s = unseen_of-few t ds s
+unseen_at-few None ds s = omega arith
+unseen_at-few (Some t) ds s = unseen_of-few t ds s
 
 -- no more pairs are unseen than the map has
 pub unseen-few : (m : List Dependent) (s : List (ℕ × ℕ)) → unseen m s ≤ pairs m
@@ -93,8 +92,8 @@ module _ (s u : List (ℕ × ℕ)) (g : Grows s u) where
   -- no more pairs of an entry are unseen
   unseen_at-less : (o : Option ℕ) (ds : List ℕ) → unseen_at o ds u ≤ unseen_at o ds s
   unfolding unseen_at
-  unseen_at-less none ds = omega arith
-  unseen_at-less (some t) ds = unseen_of-less t ds
+  unseen_at-less None ds = omega arith
+  unseen_at-less (Some t) ds = unseen_of-less t ds
 
   -- no more pairs of a map are unseen
   pub unseen-less : (m : List Dependent) → unseen m u ≤ unseen m s
@@ -112,7 +111,7 @@ module _ (s u : List (ℕ × ℕ)) (g : Grows s u) where
     unseen_of_falls (x ∷ ds) (suc j) l e = omega (arith, one_less t x, unseen_of_falls ds j (omega arith) e)
 
     -- where it stands in a map, fewer pairs of the map are unseen
-    pub unseen_falls : (m : List Dependent) (i j : ℕ) → (entry_at m i).target ≡ some t → j < length (entry_at m i).dependencies → get_or (entry_at m i).dependencies j 0 ≡ d → unseen m u < unseen m s
+    pub unseen_falls : (m : List Dependent) (i j : ℕ) → (entry_at m i).target ≡ Some t → j < length (entry_at m i).dependencies → get_or (entry_at m i).dependencies j 0 ≡ d → unseen m u < unseen m s
     unfolding unseen unseen_at
     unseen_falls [] i j o l e = absurd (omega arith)
     unseen_falls (x ∷ m) zero j o l e = rw o (omega (arith, unseen_of_falls x.dependencies j l e, unseen-less m))
@@ -143,7 +142,7 @@ settled-from g (stops j e) = stops j e
 record Stands (m : List Dependent) (t d : ℕ) : Type 0 where
   place : ℕ
   among : ℕ
-  target : (entry_at m place).target ≡ some t
+  target : (entry_at m place).target ≡ Some t
   inside : among < length (entry_at m place).dependencies
   is : get_or (entry_at m place).dependencies among 0 ≡ d
 
@@ -180,14 +179,14 @@ module _ (m : List Dependent) (n : ℕ) (a b : ℕ → List (ℕ × ℕ) → Wal
   -- at an entry of the map
   settled-entry : (i : ℕ) (o : Option ℕ) (s : List (ℕ × ℕ)) → unseen m s ≤ n → (entry_at m i).target ≡ o → Settled s (at_entry a o (entry_at m i).dependencies s) (at_entry b o (entry_at m i).dependencies s)
   unfolding at_entry
-  settled-entry i none s l e = stops 7 (inr refl)
-  settled-entry i (some t) s l e = settled-target t (entry_at m i).dependencies s l (λ j h. record { place = i; among = j; target = e; inside = h; is = refl })
+  settled-entry i None s l e = stops 7 (inr refl)
+  settled-entry i (Some t) s l e = settled-target t (entry_at m i).dependencies s l (λ j h. record { place = i; among = j; target = e; inside = h; is = refl })
 
   -- at a place of the map
   settled-place : (o : Option ℕ) (s : List (ℕ × ℕ)) → unseen m s ≤ n → Settled s (at_place a m o s) (at_place b m o s)
   unfolding at_place
-  settled-place none s l = stops 6 (inl refl)
-  settled-place (some i) s l = settled-entry i (entry_at m i).target s l refl
+  settled-place None s l = stops 6 (inl refl)
+  settled-place (Some i) s l = settled-entry i (entry_at m i).target s l refl
 
 -- a count that is greater than the number of unseen pairs, and the next count, give one walk
 settled : (n : ℕ) (m : List Dependent) (k : ℕ) (s : List (ℕ × ℕ)) → unseen m s < n → Settled s (constructed n m k s) (constructed (suc n) m k s)
@@ -234,11 +233,11 @@ account-grows m k s os u t d e = go (walk-settled m k s) e
     go (stops i p) q h = absurd (let z : ◌≡◌ {A = ℕ} 0 1 = cc in omega arith)
 
 -- the prefix orderings of a key that is in the map: the walks from its dependencies
-pub prefix-there : (m : List Dependent) (k i : ℕ) → place_of m k ≡ some i → prefix_orderings m k ≡ over_start m (entry_at m i).dependencies []
+pub prefix-there : (m : List Dependent) (k i : ℕ) → place_of m k ≡ Some i → prefix_orderings m k ≡ over_start m (entry_at m i).dependencies []
 unfolding prefix_orderings
 prefix-there m k i e = rw e
 
 -- a key that is not in the map is 6
-pub prefix-missing : (m : List Dependent) (k : ℕ) → place_of m k ≡ none → prefix_orderings m k ≡ stopped 6
+pub prefix-missing : (m : List Dependent) (k : ℕ) → place_of m k ≡ None → prefix_orderings m k ≡ stopped 6
 unfolding prefix_orderings
 prefix-missing m k e = rw e

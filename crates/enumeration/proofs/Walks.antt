@@ -2,7 +2,6 @@
 use Prim.Native.Nat.{ℕ, ◌+◌, ◌<◌, ◌≤◌}
 use mathlib.Core.List.{List, [], ◌++◌, append-nil, append_assoc}
 use mathlib.Core.Path.{◌≡◌, refl, sym, ap, ◌∙◌, subst}
-use native.Mathlib.Decide.{ℕ_discrete}
 use native.Mathlib.Numerals.{add-one}
 use native.Mathlib.Omega.{arith}
 use lib.ListN.{length, get_or, drop, drop_of_length-le}
@@ -14,8 +13,11 @@ use Rattle.dependencies.specs.declared.DependencyNode.{DependencyNode}
 use Rattle.dependencies.specs.declared.DependencyMap.{DependencyMap}
 use Rattle.dependencies.proofs.MapChecks.{no_place}
 use Rattle.enumeration.specs.Walk.{Walk, found, stopped, go_on, construct_orderings, over_start}
-use Rattle.enumeration.specs.Inner.{fresh, Walking, Told, frames_of, before, resume, upward, way_of, walk_from, Turns, Entered, Went, Room, kept, Rows, Came, Walked, Began}
+use Rattle.enumeration.specs.Inner.{fresh, Walking, Told, frames_of, before, resume, upward, way_of, walk_from, Goes, CameOn, Stops, WentOn, Room, kept, Rows, Came, WalkedOn, Walked, Began}
 use Rattle.enumeration.specs.declared.DependencyEnumerator.{DependencyEnumerator}
+use Rattle.std.specs.Prelude.{Ok, Err}
+use Rattle.arena.specs.declared.Refusal.{Refusal}
+use Rattle.arena.specs.Refusals.{refusal_number}
 use Rattle.enumeration.specs.declared.Turned.{Turned}
 use Rattle.enumeration.specs.declared.Found.{Found}
 use Rattle.enumeration.specs.declared.Constructed.{Constructed}
@@ -62,42 +64,38 @@ module _ (m : DependencyMap) (w : Walk) (os : List (List ℕ)) (way : Dependency
 
 -- Turn by turn
 
--- how far a walk w came: it stopped with a number, or the way down is left of it
-pub record Far (m : DependencyMap) (w : Walk) (os : List (List ℕ)) (number : ℕ) (way : DependencyEnumerator) (rows : Found) : Type 0 where
-  pub stops : (number ≡ 0 → ⊥) → w ≡ stopped number
-  pub goes : number ≡ 0 → Partly m w os way rows (resume (walk_from m) (way_of m way))
-
--- the loop came from its first turn, with number₀, way₀ and rows₀, to a later one: as far as a walk came then, so far it came now
-pub record Goes (m : DependencyMap) (number₀ : ℕ) (way₀ : DependencyEnumerator) (rows₀ : Found) (number : ℕ) (way : DependencyEnumerator) (rows : Found) : Type 0 where
+-- the loop came from its first turn, with way₀ and rows₀, to a later one: a walk that was done in part then, is so now
+pub record Looped (m : DependencyMap) (way₀ : DependencyEnumerator) (rows₀ : Found) (way : DependencyEnumerator) (rows : Found) : Type 0 where
   pub walking : Walking m way
   pub room : Room rows
-  pub ended : (number ≡ 0 → ⊥) → way.depth ≡ 0
-  pub far : (w : Walk) (os : List (List ℕ)) → Far m w os number₀ way₀ rows₀ → Far m w os number way rows
+  pub far : (w : Walk) (os : List (List ℕ)) → Partly m w os way₀ rows₀ (resume (walk_from m) (way_of m way₀)) → Partly m w os way rows (resume (walk_from m) (way_of m way))
 
 -- a turn brings a walk further
-far-turn : (m : DependencyMap) (w : Walk) (os : List (List ℕ)) (way : DependencyEnumerator) (rows : Found) (rest : List (ℕ × ℕ) → Walk) (p : Partly m w os way rows rest) (t : Turned) → Room rows → Turns m (rest p.u) t
-    → Far m w os t.number t.walk (kept rows t.leaf t.row)
-far-turn m w os way rows rest p t room x = record {
-  stops = λ n. partly_stops m w os way rows rest p t.number (x.stops n);
-  goes = λ z.
-      let y = x.goes z in
-      partly_on m w os way rows rest p t.walk (kept rows t.leaf t.row) (resume (walk_from m) (way_of m t.walk)) y.0 y.2.0 y.2.2 (rows-kept rows t (os ++ p.ps) y.0 room p.hold y.1) y.2.1;
-}
+far-turn : (m : DependencyMap) (w : Walk) (os : List (List ℕ)) (way : DependencyEnumerator) (rows : Found) (rest : List (ℕ × ℕ) → Walk) (p : Partly m w os way rows rest) (t : Turned) → Room rows → Goes m (rest p.u) t
+    → Partly m w os t.walk (kept rows t.leaf) (resume (walk_from m) (way_of m t.walk))
+far-turn m w os way rows rest p t room x =
+    partly_on m w os way rows rest p t.walk (kept rows t.leaf) (resume (walk_from m) (way_of m t.walk)) x.os x.s x.is (rows-kept rows t.leaf (os ++ p.ps) x.os room p.hold x.emits) x.say
 
--- the first turn of a walk, from a key
-module _ (m : DependencyMap) (e : DependencyEnumerator) (f : Found) (k : ℕ) (t : Turned) (room : Room f) (x : Entered m e k t) where
-  -- the loop begins with it
-  pub goes_first : Goes m t.number t.walk (kept f t.leaf t.row) t.number t.walk (kept f t.leaf t.row)
-  goes_first = record { walking = x.sound.walking; room = room-kept f t.leaf t.row room; ended = λ n. (x.sound.ended n).0; far = λ w os y. y }
+-- the walk from a key, where the way down has none
+module _ (m : DependencyMap) (e : DependencyEnumerator) (f : Found) (k : ℕ) (top : e.depth ≡ 0) where
+  start-is : (s : List (ℕ × ℕ)) → upward (walk_from m) (way_of m e) (walk_from m k s) ≡ walk_from m k s
+  unfolding frames_of
+  start-is s = rw top (upward-start (walk_from m) (walk_from m k s))
 
-  -- the walk from the key came as far as this turn
-  far-first : e.depth ≡ 0 → (s : List (ℕ × ℕ)) (os : List (List ℕ)) → Told m e s → Rows f os → Far m (walk_from m k s) os t.number t.walk (kept f t.leaf t.row)
-  unfolding frames_of partly_none
-  far-first top s os say hold =
-      far-turn m (walk_from m k s) os e f (walk_from m k) (partly_none m os e f (walk_from m k) s hold say) t room (subst (λ (v : Walk). Turns m v t) start (x.turns s say))
-    where
-      start : upward (walk_from m) (way_of m e) (walk_from m k s) ≡ walk_from m k s
-      start = rw top (upward-start (walk_from m) (walk_from m k s))
+  -- its first turn stops it
+  pub first-stops : (why : Refusal) → Stops m e (λ s. upward (walk_from m) (way_of m e) (walk_from m k s)) why → Walked m e f k (Err why)
+  first-stops why x s os say hold = sym (start-is s) ∙ x s say
+
+  -- or it came as far as this turn
+  module _ (t : Turned) (room : Room f) (x : CameOn m e (λ s. upward (walk_from m) (way_of m e) (walk_from m k s)) t) where
+    far-first : (s : List (ℕ × ℕ)) (os : List (List ℕ)) → Told m e s → Rows f os → Partly m (walk_from m k s) os t.walk (kept f t.leaf) (resume (walk_from m) (way_of m t.walk))
+    unfolding partly_none
+    far-first s os say hold =
+        far-turn m (walk_from m k s) os e f (walk_from m k) (partly_none m os e f (walk_from m k) s hold say) t room (subst (λ (v : Walk). Goes m v t) (start-is s) (x.goes s say))
+
+-- the loop begins with the first turn
+pub goes_first : (m : DependencyMap) (e : DependencyEnumerator) (f : Found) (k : ℕ) (t : Turned) → Room f → CameOn m e (λ s. upward (walk_from m) (way_of m e) (walk_from m k s)) t → Looped m t.walk (kept f t.leaf) t.walk (kept f t.leaf)
+goes_first m e f k t room x = record { walking = x.walking; room = room-kept f t.leaf room; far = λ w os y. y }
 
 -- nothing is left where the way down has no key
 resume-top : (m : DependencyMap) (way : DependencyEnumerator) (u : List (ℕ × ℕ)) → way.depth ≡ 0 → resume (walk_from m) (way_of m way) u ≡ found [] u
@@ -105,46 +103,44 @@ unfolding resume frames_of
 resume-top m way u top = rw top
 
 -- the loop over turns
-module _ (m : DependencyMap) (number₀ : ℕ) (way₀ : DependencyEnumerator) (rows₀ : Found) (number : ℕ) (way : DependencyEnumerator) (rows : Found) (g : Goes m number₀ way₀ rows₀ number way rows) where
-  -- a walk with a way down has not stopped
-  not_stopped : 0 < way.depth → number ≡ 0
-  not_stopped deep = at (ℕ_discrete number 0)
-    where
-      at : Dec (number ≡ 0) → number ≡ 0
-      at (yes e) = e
-      at (no n) = absurd (omega (arith, g.ended n))
-
+module _ (m : DependencyMap) (way₀ : DependencyEnumerator) (rows₀ : Found) (way : DependencyEnumerator) (rows : Found) (g : Looped m way₀ rows₀ way rows) where
   -- one turn more
-  pub goes-next : (t : Turned) → 0 < way.depth → Went m way t → Goes m number₀ way₀ rows₀ t.number t.walk (kept rows t.leaf t.row)
-  goes-next t deep x = record {
-    walking = x.sound.walking;
-    room = room-kept rows t.leaf t.row g.room;
-    ended = λ n. (x.sound.ended n).0;
+  pub goes-next : (t : Turned) → WentOn m way t → Looped m way₀ rows₀ t.walk (kept rows t.leaf)
+  goes-next t x = record {
+    walking = x.walking;
+    room = room-kept rows t.leaf g.room;
     far = λ w os y.
-        let p = (g.far w os y).goes (not_stopped deep) in
-        far-turn m w os way rows (resume (walk_from m) (way_of m way)) p t g.room (x.turns p.u p.say);
+        let p = g.far w os y in
+        far-turn m w os way rows (resume (walk_from m) (way_of m way)) p t g.room (x.goes p.u p.say);
   }
+
+  -- a turn that stops the walk
+  turn-stops : (why : Refusal) → Stops m way (λ s. resume (walk_from m) (way_of m way) s) why → (w : Walk) (os : List (List ℕ)) → Partly m w os way₀ rows₀ (resume (walk_from m) (way_of m way₀)) → w ≡ stopped (refusal_number why)
+  turn-stops why x w os y = let p = g.far w os y in partly_stops m w os way rows (resume (walk_from m) (way_of m way)) p (refusal_number why) (x p.u p.say)
 
   -- after the last turn
-  far-last : way.depth ≡ 0 → (w : Walk) (os : List (List ℕ)) → Far m w os number₀ way₀ rows₀ → Came w number os rows (λ u. Told m way u)
-  far-last top w os y = record {
-    stops = (g.far w os y).stops;
-    goes = λ z.
-        let p = (g.far w os y).goes z in
-        (p.ps, p.u, partly_done m w os way rows (resume (walk_from m) (way_of m way)) p (resume-top m way p.u top), (p.hold, p.say));
-  }
+  far-last : way.depth ≡ 0 → (w : Walk) (os : List (List ℕ)) → Partly m w os way₀ rows₀ (resume (walk_from m) (way_of m way₀)) → Came w os rows (λ u. Told m way u)
+  far-last top w os y =
+      let p = g.far w os y in
+      record { ps = p.ps; s = p.u; is = partly_done m w os way rows (resume (walk_from m) (way_of m way)) p (resume-top m way p.u top); rows = p.hold; holds = p.say }
 
 -- what the walk from a key comes to, after the first turn and the loop
-pub walked_all : (m : DependencyMap) (e : DependencyEnumerator) (f : Found) (k : ℕ) (t : Turned) (rows₀ : Found) (number : ℕ) (way : DependencyEnumerator) (rows : Found) → e.depth ≡ 0 → Room f → Entered m e k t → rows₀ ≡ kept f t.leaf t.row
-    → Goes m t.number t.walk rows₀ number way rows → way.depth ≡ 0 → Walked m e f k (record { number = number; walk = way; found = rows })
-walked_all m e f k t rows₀ number way rows begin room x is g top = record {
-  walking = g.walking;
-  ended = top;
-  room = g.room;
-  came = λ s os say hold.
-      far-last m t.number t.walk rows₀ number way rows g top (walk_from m k s) os
-      (subst (Far m (walk_from m k s) os t.number t.walk) (sym is) (far-first m e f k t room x begin s os say hold));
-}
+module _ (m : DependencyMap) (e : DependencyEnumerator) (f : Found) (k : ℕ) (t : Turned) (rows₀ : Found) (way : DependencyEnumerator) (rows : Found) (begin : e.depth ≡ 0) (room : Room f) (x : CameOn m e (λ s. upward (walk_from m) (way_of m e) (walk_from m k s)) t) (is : rows₀ ≡ kept f t.leaf) (g : Looped m t.walk rows₀ way rows) where
+  then-far : (s : List (ℕ × ℕ)) (os : List (List ℕ)) → Told m e s → Rows f os → Partly m (walk_from m k s) os t.walk rows₀ (resume (walk_from m) (way_of m t.walk))
+  then-far s os say hold = subst (λ (y : Found). Partly m (walk_from m k s) os t.walk y (resume (walk_from m) (way_of m t.walk))) (sym is) (far-first m e f k begin t room x s os say hold)
+
+  -- a turn stopped it
+  pub walked-stops : (why : Refusal) → Stops m way (λ s. resume (walk_from m) (way_of m way) s) why → Walked m e f k (Err why)
+  walked-stops why y s os say hold = turn-stops m t.walk rows₀ way rows g why y (walk_from m k s) os (then-far s os say hold)
+
+  -- all turns are done
+  pub walked_all : way.depth ≡ 0 → Walked m e f k (Ok (record { walk = way; found = rows }))
+  walked_all top = record {
+    walking = g.walking;
+    ended = top;
+    room = g.room;
+    came = λ s os say hold. far-last m t.walk rows₀ way rows g top (walk_from m k s) os (then-far s os say hold);
+  }
 
 -- Dependency by dependency
 
@@ -202,47 +198,38 @@ module _ (m : DependencyMap) (i : ℕ) (node : DependencyNode) (inside : i < m.c
       ∙ ap (λ (r : DependencyNode). get_or r.dependencies k 0) (sym is)
 
   module _ (f : Found) (walk : DependencyEnumerator) (rows : Found) (k : ℕ) (g : Starts m i f walk rows k) where
-    module _ (r : Constructed) (l : k < node.size) (x : Walked m walk rows (get_or node.dependencies k 0) r) where
-      -- the walk from the next dependency
-      next-came : (s : List (ℕ × ℕ)) (os : List (List ℕ)) → Told m walk s → Rows rows os → Came (walk_from m (get_or (keys_at m i) k 0) s) r.number os r.found (λ u. Told m r.walk u)
-      next-came s os say hold = rw (key-read k l) (x.came s os say hold)
-
-      -- it is done
-      pub starts-next : r.number ≡ 0 → Starts m i f r.walk r.found (k + 1)
-      starts-next z = record {
+    module _ (l : k < node.size) where
+      -- the walk from the next dependency is done
+      pub starts-next : (r : Constructed) → WalkedOn m walk rows (get_or node.dependencies k 0) r → Starts m i f r.walk r.found (k + 1)
+      starts-next r x = record {
         walking = x.walking;
         top = x.ended;
         room = x.room;
         goes = λ os hold.
             let p = g.goes os hold in
-            let y = (next-came p.u (os ++ p.ps) p.say p.hold).goes z in
-            partly_on m (over_start (decode m) (keys_at m i) []) os walk rows (over_start (decode m) (drop k (keys_at m i))) p r.walk r.found (over_start (decode m) (drop (k + 1) (keys_at m i))) y.0 y.1
-            (start-on (decode m) (keys_at m i) p.u k y.0 y.1 (omega (arith, size-read)) y.2) y.3.0 y.3.1;
+            let y : Came (walk_from m (get_or (keys_at m i) k 0) p.u) (os ++ p.ps) r.found (λ u. Told m r.walk u) = rw (key-read k l) (x.came p.u (os ++ p.ps) p.say p.hold) in
+            partly_on m (over_start (decode m) (keys_at m i) []) os walk rows (over_start (decode m) (drop k (keys_at m i))) p r.walk r.found (over_start (decode m) (drop (k + 1) (keys_at m i))) y.ps y.s
+            (start-on (decode m) (keys_at m i) p.u k y.ps y.s (omega (arith, size-read)) y.is) y.rows y.holds;
       }
 
       -- it stops all
-      pub starts-stop : (r.number ≡ 0 → ⊥) → Began m i f (record { number = r.number; found = r.found })
-      starts-stop n = record {
-        room = x.room;
-        came = λ os hold.
-            let p = g.goes os hold in
-            record {
-              stops = λ n'.
-                  partly_stops m (over_start (decode m) (keys_at m i) []) os walk rows (over_start (decode m) (drop k (keys_at m i))) p r.number
-                  (start-stops (decode m) (keys_at m i) p.u k r.number (omega (arith, size-read)) ((next-came p.u (os ++ p.ps) p.say p.hold).stops n));
-              goes = λ z. absurd (n z);
-            };
-      }
+      pub starts-stop : (why : Refusal) → Walked m walk rows (get_or node.dependencies k 0) (Err why) → Began m i f (Err why)
+      starts-stop why x os hold =
+          let p = g.goes os hold in
+          partly_stops m (over_start (decode m) (keys_at m i) []) os walk rows (over_start (decode m) (drop k (keys_at m i))) p (refusal_number why)
+          (start-stops (decode m) (keys_at m i) p.u k (refusal_number why) (omega (arith, size-read)) (rw (key-read k l) (x p.u (os ++ p.ps) p.say p.hold)))
 
     -- all are done
-    pub starts-last : node.size ≤ k → Began m i f (record { number = 0; found = rows })
+    pub starts-last : node.size ≤ k → Began m i f (Ok rows)
     starts-last l = record {
       room = g.room;
       came = λ os hold.
           let p = g.goes os hold in
           record {
-            stops = λ n. absurd (n refl);
-            goes = λ z.
-                (p.ps, p.u, partly_done m (over_start (decode m) (keys_at m i) []) os walk rows (over_start (decode m) (drop k (keys_at m i))) p (start-ends (decode m) (keys_at m i) p.u k (omega (arith, size-read))), (p.hold, tt));
+            ps = p.ps;
+            s = p.u;
+            is = partly_done m (over_start (decode m) (keys_at m i) []) os walk rows (over_start (decode m) (drop k (keys_at m i))) p (start-ends (decode m) (keys_at m i) p.u k (omega (arith, size-read)));
+            rows = p.hold;
+            holds = tt;
           };
     }

@@ -1,11 +1,13 @@
 -- What the inner functions ask and promise each other, here and in the crates above. The public contracts cite nothing of this file.
-use Rattle.std.specs.Prelude.{ℕ, zero, suc, ◌+◌, ◌*◌, ◌<◌, ◌≤◌, Bool, true, false, not, ◌&&◌, ◌||◌, List, [], ◌∷◌, ◌++◌, map, ◌≡◌, eqb, ltb, length, get_or, drop, set, replicate, if◌then◌else◌}
+use Rattle.std.specs.Prelude.{ℕ, zero, suc, ◌+◌, ◌*◌, ◌<◌, ◌≤◌, Bool, true, false, not, ◌&&◌, ◌||◌, List, [], ◌∷◌, ◌++◌, map, ◌≡◌, eqb, ltb, length, get_or, drop, set, replicate, if◌then◌else◌, Option, None, Some, Result, Ok, Err}
 use Rattle.laws.specs.Lists.{table}
 use Rattle.orderings.specs.Ordering.{pushed}
 use Rattle.orderings.specs.Lists.{ordering_at}
 use Rattle.orderings.specs.Layout.{row}
 use Rattle.orderings.specs.Inner.{extended_of}
-use Rattle.orderings.specs.declared.Extended.{Extended}
+use Rattle.orderings.specs.declared.Ordering.{Ordering}
+use Rattle.arena.specs.declared.Refusal.{Refusal}
+use Rattle.arena.specs.Refusals.{refusal_number}
 use Rattle.dependencies.specs.Map.{entry_at}
 use Rattle.dependencies.specs.Layout.{decode, place_in}
 use Rattle.dependencies.specs.Inner.{Held}
@@ -19,7 +21,6 @@ use Rattle.enumeration.specs.declared.DependencyEnumerator.{DependencyEnumerator
 use Rattle.enumeration.specs.declared.Turned.{Turned}
 use Rattle.enumeration.specs.declared.Found.{Found}
 use Rattle.enumeration.specs.declared.Constructed.{Constructed}
-use Rattle.enumeration.specs.declared.Prefixed.{Prefixed}
 
 -- The account of pairs
 
@@ -138,39 +139,52 @@ walk_from m = construct_orderings (decode m)
 -- Turns
 
 -- the orderings that a turn found
-pub record Emits (t : Turned) (os : List (List ℕ)) : Type 0 where
-  pub nothing : t.leaf ≡ false → os ≡ []
-  pub one : t.leaf ≡ true → (o : List ℕ) × (os ≡ o ∷ []) × (t.row ≡ extended_of o)
+pub record Emits (leaf : Option (Result Ordering Refusal)) (os : List (List ℕ)) : Type 0 where
+  pub nothing : leaf ≡ None → os ≡ []
+  pub one : (r : Result Ordering Refusal) → leaf ≡ Some r → (o : List ℕ) × (os ≡ o ∷ []) × (r ≡ extended_of o)
 
--- a turn begins a walk w: it stops it, or what it found comes before what is left
-pub record Turns (m : DependencyMap) (w : Walk) (t : Turned) : Type 0 where
-  pub stops : (t.number ≡ 0 → ⊥) → w ≡ stopped t.number
-  pub goes : t.number ≡ 0 → (os : List (List ℕ)) × Emits t os × ((s : List (ℕ × ℕ)) × Told m t.walk s × (w ≡ before os (resume (walk_from m) (way_of m t.walk) s)))
+-- a turn begins a walk w: what it found comes before what is left
+pub record Goes (m : DependencyMap) (w : Walk) (t : Turned) : Type 0 where
+  pub os : List (List ℕ)
+  pub emits : Emits t.leaf os
+  pub s : List (ℕ × ℕ)
+  pub say : Told m t.walk s
+  pub is : w ≡ before os (resume (walk_from m) (way_of m t.walk) s)
 
--- a stopped walk has no way down
-pub record Sound (m : DependencyMap) (t : Turned) : Type 0 where
+-- what coming to a place or a key comes to, where it does not stop the walk; w is the walk by each account of pairs
+pub record CameOn (m : DependencyMap) (e : DependencyEnumerator) (w : List (ℕ × ℕ) → Walk) (t : Turned) : Type 0 where
   pub walking : Walking m t.walk
-  pub ended : (t.number ≡ 0 → ⊥) → (t.walk.depth ≡ 0) × (t.leaf ≡ false)
+  pub seen : t.walk.seen ≡ e.seen
+  pub deep : t.walk.depth ≤ e.depth + 1
+  pub goes : (s : List (ℕ × ℕ)) → Told m e s → Goes m (w s) t
+
+-- a walk is stopped by a refusal
+abbrev pub Stops : DependencyMap → DependencyEnumerator → (List (ℕ × ℕ) → Walk) → Refusal → Type 0
+Stops m e w why = (s : List (ℕ × ℕ)) → Told m e s → w s ≡ stopped (refusal_number why)
+
+-- it is stopped, or it goes on
+abbrev pub Comes : DependencyMap → DependencyEnumerator → (List (ℕ × ℕ) → Walk) → Result Turned Refusal → Type 0
+Comes m e w (Ok t) = CameOn m e w t
+Comes m e w (Err why) = Stops m e w why
 
 -- what visiting a place comes to
-pub record Visited (m : DependencyMap) (e : DependencyEnumerator) (i : ℕ) (t : Turned) : Type 0 where
-  pub sound : Sound m t
-  pub seen : t.walk.seen ≡ e.seen
-  pub deep : t.walk.depth ≤ e.depth + 1
-  pub turns : (s : List (ℕ × ℕ)) → Told m e s → Turns m (upward (walk_from m) (way_of m e) (at_entry (walk_from m) (entry_at (decode m) i).target (entry_at (decode m) i).dependencies s)) t
+abbrev pub Visited : DependencyMap → DependencyEnumerator → ℕ → Result Turned Refusal → Type 0
+Visited m e i r = Comes m e (λ s. upward (walk_from m) (way_of m e) (at_entry (walk_from m) (entry_at (decode m) i).target (entry_at (decode m) i).dependencies s)) r
 
 -- what coming to a key comes to
-pub record Entered (m : DependencyMap) (e : DependencyEnumerator) (k : ℕ) (t : Turned) : Type 0 where
-  pub sound : Sound m t
-  pub seen : t.walk.seen ≡ e.seen
-  pub deep : t.walk.depth ≤ e.depth + 1
-  pub turns : (s : List (ℕ × ℕ)) → Told m e s → Turns m (upward (walk_from m) (way_of m e) (walk_from m k s)) t
+abbrev pub Entered : DependencyMap → DependencyEnumerator → ℕ → Result Turned Refusal → Type 0
+Entered m e k r = Comes m e (λ s. upward (walk_from m) (way_of m e) (walk_from m k s)) r
+
+-- what one turn comes to, where it does not stop the walk
+pub record WentOn (m : DependencyMap) (e : DependencyEnumerator) (t : Turned) : Type 0 where
+  pub walking : Walking m t.walk
+  pub less : 2 * left t.walk + t.walk.depth < 2 * left e + e.depth
+  pub goes : (s : List (ℕ × ℕ)) → Told m e s → Goes m (resume (walk_from m) (way_of m e) s) t
 
 -- what one turn comes to
-pub record Went (m : DependencyMap) (e : DependencyEnumerator) (t : Turned) : Type 0 where
-  pub sound : Sound m t
-  pub less : 2 * left t.walk + t.walk.depth < 2 * left e + e.depth
-  pub turns : (s : List (ℕ × ℕ)) → Told m e s → Turns m (resume (walk_from m) (way_of m e) s) t
+abbrev pub Went : DependencyMap → DependencyEnumerator → Result Turned Refusal → Type 0
+Went m e (Ok t) = WentOn m e t
+Went m e (Err why) = Stops m e (λ s. resume (walk_from m) (way_of m e) s) why
 
 -- Orderings that are found
 
@@ -184,11 +198,12 @@ pub record Room (f : Found) : Type 0 where
   pub long : length f.rows ≡ 1024
 
 -- the orderings with one more, if there is one
-unfoldable pub kept : Found → Bool → Extended → Found
-kept f leaf o =
-    if not leaf then f
-    else if ltb f.count 1024 && o.fits then record { over = f.over; count = f.count + 1; rows = set f.rows f.count o.ordering }
+unfoldable pub kept : Found → Option (Result Ordering Refusal) → Found
+kept f None = f
+kept f (Some (Ok o)) =
+    if ltb f.count 1024 then record { over = f.over; count = f.count + 1; rows = set f.rows f.count o }
     else record { over = true; count = f.count; rows = f.rows }
+kept f (Some (Err why)) = record { over = true; count = f.count; rows = f.rows }
 
 -- the struct holds some orderings, or says that they pass the bounds
 pub record Rows (f : Found) (os : List (List ℕ)) : Type 0 where
@@ -196,19 +211,32 @@ pub record Rows (f : Found) (os : List (List ℕ)) : Type 0 where
   pub count : fitting os ≡ true → f.count ≡ length os
   pub rows : fitting os ≡ true → (i : ℕ) → i < length os → get_or f.rows i (row []) ≡ row (ordering_at os i)
 
--- a walk w came to a number; where it is 0, its orderings stand behind those before
-pub record Came (w : Walk) (number : ℕ) (os : List (List ℕ)) (f : Found) (P : List (ℕ × ℕ) → Type 0) : Type 0 where
-  pub stops : (number ≡ 0 → ⊥) → w ≡ stopped number
-  pub goes : number ≡ 0 → (ps : List (List ℕ)) × (s : List (ℕ × ℕ)) × (w ≡ found ps s) × (Rows f (os ++ ps) × P s)
+-- a walk w came to its end: its orderings stand behind those before
+pub record Came (w : Walk) (os : List (List ℕ)) (f : Found) (P : List (ℕ × ℕ) → Type 0) : Type 0 where
+  pub ps : List (List ℕ)
+  pub s : List (ℕ × ℕ)
+  pub is : w ≡ found ps s
+  pub rows : Rows f (os ++ ps)
+  pub holds : P s
 
--- what the walk from a key comes to
-pub record Walked (m : DependencyMap) (e : DependencyEnumerator) (f : Found) (k : ℕ) (r : Constructed) : Type 0 where
+-- what the walk from a key comes to, where it does not stop
+pub record WalkedOn (m : DependencyMap) (e : DependencyEnumerator) (f : Found) (k : ℕ) (r : Constructed) : Type 0 where
   pub walking : Walking m r.walk
   pub ended : r.walk.depth ≡ 0
   pub room : Room r.found
-  pub came : (s : List (ℕ × ℕ)) (os : List (List ℕ)) → Told m e s → Rows f os → Came (walk_from m k s) r.number os r.found (λ u. Told m r.walk u)
+  pub came : (s : List (ℕ × ℕ)) (os : List (List ℕ)) → Told m e s → Rows f os → Came (walk_from m k s) os r.found (λ u. Told m r.walk u)
+
+-- what the walk from a key comes to
+abbrev pub Walked : DependencyMap → DependencyEnumerator → Found → ℕ → Result Constructed Refusal → Type 0
+Walked m e f k (Ok r) = WalkedOn m e f k r
+Walked m e f k (Err why) = (s : List (ℕ × ℕ)) (os : List (List ℕ)) → Told m e s → Rows f os → walk_from m k s ≡ stopped (refusal_number why)
+
+-- what the walks from a key's dependencies come to, where none stops
+pub record BeganOn (m : DependencyMap) (i : ℕ) (f g : Found) : Type 0 where
+  pub room : Room g
+  pub came : (os : List (List ℕ)) → Rows f os → Came (over_start (decode m) (entry_at (decode m) i).dependencies []) os g (λ u. Unit {0})
 
 -- what the walks from a key's dependencies come to
-pub record Began (m : DependencyMap) (i : ℕ) (f : Found) (r : Prefixed) : Type 0 where
-  pub room : Room r.found
-  pub came : (os : List (List ℕ)) → Rows f os → Came (over_start (decode m) (entry_at (decode m) i).dependencies []) r.number os r.found (λ u. Unit {0})
+abbrev pub Began : DependencyMap → ℕ → Found → Result Found Refusal → Type 0
+Began m i f (Ok g) = BeganOn m i f g
+Began m i f (Err why) = (os : List (List ℕ)) → Rows f os → over_start (decode m) (entry_at (decode m) i).dependencies [] ≡ stopped (refusal_number why)

@@ -1,6 +1,5 @@
 -- The walk over a dependency map: which orderings lead to a key, each pair of target and dependency expanded once.
-use Rattle.std.specs.Prelude.{ℕ, zero, suc, ◌+◌, Bool, false, ◌&&◌, ◌||◌, List, [], ◌∷◌, ◌++◌, map, eqb, length, if◌then◌else◌}
-use Rattle.std.proofs.Math.Option.{Option, none, some}
+use Rattle.std.specs.Prelude.{ℕ, zero, suc, ◌+◌, Bool, false, ◌&&◌, ◌||◌, List, [], ◌∷◌, ◌++◌, map, eqb, length, if◌then◌else◌, Option, None, Some}
 use Rattle.orderings.specs.Ordering.{pushed}
 use Rattle.dependencies.specs.Map.{Dependent, entry_at, place_of}
 
@@ -33,13 +32,13 @@ at_target at t (d ∷ ds) seen = over_dependencies at t (d ∷ ds) seen
 
 -- at an entry: 7 where it has no target
 unfoldable pub at_entry : (ℕ → List (ℕ × ℕ) → Walk) → Option ℕ → List ℕ → List (ℕ × ℕ) → Walk
-at_entry at none ds seen = stopped 7
-at_entry at (some t) ds seen = at_target at t ds seen
+at_entry at None ds seen = stopped 7
+at_entry at (Some t) ds seen = at_target at t ds seen
 
 -- at a place of the map: 6 where the key has none
 unfoldable pub at_place : (ℕ → List (ℕ × ℕ) → Walk) → List Dependent → Option ℕ → List (ℕ × ℕ) → Walk
-at_place at m none seen = stopped 6
-at_place at m (some i) seen = at_entry at (entry_at m i).target (entry_at m i).dependencies seen
+at_place at m None seen = stopped 6
+at_place at m (Some i) seen = at_entry at (entry_at m i).target (entry_at m i).dependencies seen
 
 -- the walk from a key, through at most n pairs one below the other. Each pair is expanded once, so a map with fewer pairs never uses n up: every larger n gives the same (proofs/WalkLaws.antt, never-left and walk-from)
 unfoldable pub constructed : ℕ → List Dependent → ℕ → List (ℕ × ℕ) → Walk
@@ -65,5 +64,5 @@ unfoldable pub prefix_orderings : List Dependent → ℕ → Walk
 prefix_orderings m k = start_at (place_of m k)
   where
     start_at : Option ℕ → Walk
-    start_at none = stopped 6
-    start_at (some i) = over_start m (entry_at m i).dependencies []
+    start_at None = stopped 6
+    start_at (Some i) = over_start m (entry_at m i).dependencies []

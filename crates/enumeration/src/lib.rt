@@ -8,7 +8,8 @@ pub mod marking;
 pub mod prefixes;
 pub mod walking;
 
-use orderings::{Extended, Ordering};
+use arena::Refusal;
+use orderings::Ordering;
 
 // A key on the way down: its place in the map, and which of its dependencies is next.
 #[derive(Clone, Copy)]
@@ -18,6 +19,7 @@ pub struct Frame {
 }
 
 // Which dependencies of a key were expanded, with its target.
+// Flat arrays with counts: the project works in fixed memory, without a heap.
 #[derive(Clone, Copy)]
 pub struct Seen {
     pub told: [bool; 16],
@@ -25,6 +27,7 @@ pub struct Seen {
 
 // The account of a walk: how many keys the way down has, these keys from the first on, and which pairs of target and
 // dependency were expanded.
+// Flat arrays with counts: the project works in fixed memory, without a heap.
 #[derive(Clone, Copy)]
 pub struct DependencyEnumerator {
     pub depth: usize,
@@ -32,18 +35,18 @@ pub struct DependencyEnumerator {
     pub seen: [Seen; 64],
 }
 
-// What a turn of the walk came to: 0, or 6 or 7 where it stops; whether an ordering was found, and that ordering; and the
-// account after it.
+// What a turn of the walk came to: the ordering that was found, if one was, or that it has over 16 keys; and the account
+// after it. A turn that stops the walk is refused with 6 or 7.
 #[derive(Clone, Copy)]
 pub struct Turned {
-    pub number: u32,
-    pub leaf: bool,
-    pub row: Extended,
+    pub leaf: Option<Result<Ordering, Refusal>>,
     pub walk: DependencyEnumerator,
 }
 
 // The orderings that were found: whether they pass the bounds (over 1,024, or one of over 16 keys), and else how many
 // there are, and these.
+// `over` stays a flag in place of a refusal: the walk goes on, since 6 and 7 come before 5, and these places with it.
+// Flat arrays with counts: the project works in fixed memory, without a heap.
 #[derive(Clone, Copy)]
 pub struct Found {
     pub over: bool,
@@ -51,17 +54,9 @@ pub struct Found {
     pub rows: [Ordering; 1024],
 }
 
-// What the walk from a key came to: 0, or 6 or 7 where it stopped, the account and the orderings after it.
+// What the walk from a key came to: the account and the orderings after it. A walk that stopped is refused with 6 or 7.
 #[derive(Clone, Copy)]
 pub struct Constructed {
-    pub number: u32,
     pub walk: DependencyEnumerator,
-    pub found: Found,
-}
-
-// What the walks from a key's dependencies came to: 0, or 6 or 7 where one stopped, and the orderings after them.
-#[derive(Clone, Copy)]
-pub struct Prefixed {
-    pub number: u32,
     pub found: Found,
 }

@@ -17,17 +17,12 @@ pub fn new_enumerator() -> DependencyEnumerator
 }
 
 // Dependency k of an entry and the entry's target are a given pair.
+#[tactic(auto, unfolding(crate::specs::Inner::hits))]
 fn is_pair(node: DependencyNode, k: usize, target: u16, dependency: u16) -> bool
     requires { k < 16 }
     ensures { result ≡ hits node k target dependency }
 {
-    if !node.projected {
-        return false;
-    }
-    if node.target != target {
-        return false;
-    }
-    node.dependencies[k] == dependency
+    node.projected && node.target == target && node.dependencies[k] == dependency
 }
 
 // Dependency k of an entry is marked after a pair is.
@@ -35,10 +30,7 @@ fn told_after(node: DependencyNode, seen: Seen, k: usize, target: u16, dependenc
     requires { k < 16 }
     ensures { result ≡ (get_or seen.told k false || hits node k target dependency) }
 {
-    if seen.told[k] {
-        return true;
-    }
-    is_pair(node, k, target, dependency)
+    seen.told[k] || is_pair(node, k, target, dependency)
 }
 
 // The marks of an entry after a pair is marked.
@@ -46,10 +38,8 @@ fn mark_node(node: DependencyNode, seen: Seen, target: u16, dependency: u16) -> 
     ensures { result ≡ marked_node node seen target dependency }
 {
     let mut out = Seen { told: [false; 16] };
-    let mut k = 0;
-    while k < 16 {
+    for k in 0..16 {
         out.told[k] = told_after(node, seen, k, target, dependency);
-        k += 1;
     }
     out
 }
@@ -64,15 +54,13 @@ pub fn mark(
     ensures { result ≡ marked m walk target dependency }
 {
     let mut seen = [Seen { told: [false; 16] }; 64];
-    let mut i = 0;
-    while i < 64 {
+    for i in 0..64 {
         seen[i] = mark_node(m.list[i], walk.seen[i], target, dependency);
-        i += 1;
     }
     DependencyEnumerator {
         depth: walk.depth,
         frames: walk.frames,
-        seen: seen,
+        seen,
     }
 }
 
@@ -81,12 +69,5 @@ pub fn next_open(seen: Seen, from: usize, size: usize) -> usize
     requires { (from ≤ size) × (size ≤ 16) }
     ensures { Opened seen from size result }
 {
-    let mut k = from;
-    while k < size {
-        if !seen.told[k] {
-            return k;
-        }
-        k += 1;
-    }
-    k
+    (from..size).find(|k| !seen.told[*k]).unwrap_or(size)
 }

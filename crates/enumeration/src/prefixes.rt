@@ -3,9 +3,10 @@ ghost use Rattle.std.specs.Prelude.{◌≡◌, ◌<◌};
 ghost use Rattle.dependencies.specs.Inner.{Held};
 ghost use Rattle.enumeration.specs.Inner.{Room, none_found, Began};
 
+use crate::Found;
 use crate::marking::new_enumerator;
 use crate::walking::construct_orderings;
-use crate::{Found, Prefixed};
+use arena::Refusal;
 use dependencies::DependencyMap;
 use orderings::making::nothing;
 
@@ -20,30 +21,18 @@ pub fn nothing_found() -> Found
     }
 }
 
-// The prefix orderings of the key at a place, behind those that were found before them.
-pub fn prefixes_at(m: DependencyMap, place: usize, found: Found) -> Prefixed
+// The prefix orderings of the key at a place, behind those that were found before them. Refusals: 6, 7.
+pub fn prefixes_at(m: DependencyMap, place: usize, found: Found) -> Result<Found, Refusal>
     requires { (Held m × (place < m.count)) × Room found }
     ensures { Began m place found result }
 {
     let node = m.list[place];
-    let size = node.size;
     let mut walk = new_enumerator();
     let mut rows = found;
-    let mut k = 0;
-    while k < size {
-        let next = construct_orderings(m, walk, rows, node.dependencies[k]);
-        rows = next.found;
-        if next.number != 0 {
-            return Prefixed {
-                number: next.number,
-                found: rows,
-            };
-        }
+    for k in 0..node.size {
+        let next = construct_orderings(m, walk, rows, node.dependencies[k])?;
         walk = next.walk;
-        k += 1;
+        rows = next.found;
     }
-    Prefixed {
-        number: 0,
-        found: rows,
-    }
+    Ok(rows)
 }

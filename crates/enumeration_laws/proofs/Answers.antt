@@ -1,13 +1,13 @@
 -- Theorems on what the two calls answer and leave in the output: what is written, what stays, what a refusal is, which keys an answer has, and that what is written reads back.
 -- The theorems are what is public, with the words that they are stated in; all else serves them.
-use Rattle.std.specs.Prelude.{if◌then◌else◌}
+use Rattle.std.specs.Prelude.{if◌then◌else◌, Result, Ok, Err}
 use Prim.Native.Nat.{ℕ, zero, suc, ◌+◌, ◌*◌, ◌-◌, ◌<◌, ◌≤◌, ◌/◌}
 use mathlib.Core.Bool.{Bool, true, false, ◌&&◌}
 use mathlib.Core.List.{List, [], ◌∷◌, ◌++◌, append-nil, append_assoc}
 use mathlib.Core.Logic.{◌⊎◌, inl, inr}
 use mathlib.Core.Path.{◌≡◌, refl, sym, ap, ap₂, ◌∙◌, subst}
 use native.Mathlib.Omega.{arith}
-use borrow.Author.Tests.{eqb-false, leb-true, le-leb}
+use borrow.Author.Tests.{leb-true, le-leb}
 use lib.Dec.{eqb, ltb, leb}
 use lib.ListN.{length, get_or, drop, length-append, length-drop}
 use lib.Seq.{get_or_at, get_or-append-add, get_or-drop}
@@ -16,6 +16,10 @@ use Rattle.laws.proofs.Booleans.{and_left, and_right, and_both}
 use Rattle.laws.proofs.Each.{each_all}
 use Rattle.laws.proofs.Table.{table_is}
 use Rattle.arena.specs.Layout.{count, lawful}
+use Rattle.arena.specs.declared.Refusal.{Refusal}
+use Rattle.arena.specs.declared.Refusal.TheVariants.{UnknownExpression, TooManyChildren, ArenaFull, GroupFull, TooLarge, UnknownKey, NoTarget, OutputShort, Malformed, IndexOutOfRange, BadState, BadNumber}
+use Rattle.arena.specs.Refusals.{refusal_number, refusal, number_of}
+use Rattle.arena.proofs.Refusals.{Listed, refused-number}
 use Rattle.classes.specs.Group.{among}
 use Rattle.classes.proofs.Places.{among-place, among-left, among-right, one-among}
 use Rattle.orderings.specs.Ordering.{expr_of, options_of}
@@ -32,8 +36,9 @@ use Rattle.enumeration.specs.Bounds.{fitting}
 use Rattle.products.specs.Generate.{Lists, lists, stops, with_list, contributing, generated}
 use Rattle.dependency_orderings.proofs.WrittenLaws.{numbers-length}
 use Rattle.dependency_orderings.specs.Output.{numbers_of, written, written_all}
-use Rattle.dependency_orderings.specs.Calls.{refused_with, writes, answered, walk_answer, prefix_number, prefix_answer, generate_number, gathered_answer, different, generate_answer}
+use Rattle.dependency_orderings.specs.Calls.{Answer, writes, answered, walk_answer, prefix_number, prefix_answer, generate_number, gathered_answer, different, generate_answer}
 use Rattle.dependency_orderings.specs.declared.Enumerated.{Enumerated}
+use Rattle.dependency_orderings.proofs.AnswerLaws.{prefix_number-listed, generate_number-listed}
 use Rattle.enumeration_laws.proofs.Walked.{prefix-stops, contributing-stops, All, IsTarget, keys-are-targets, expressions-once}
 use Rattle.enumeration_laws.proofs.Generated.{keys_from-lists, expressions-once as generated-once}
 
@@ -43,16 +48,44 @@ use Rattle.enumeration_laws.proofs.Generated.{keys_from-lists, expressions-once 
 abbrev pub answer_numbers : List ℕ
 answer_numbers = 0 ∷ 12 ∷ 11 ∷ 1 ∷ 6 ∷ 7 ∷ 5 ∷ 8 ∷ []
 
+-- how many orderings an answer tells, and how many places they take: none beside a refusal
+abbrev pub count_of : Result Enumerated Refusal → ℕ
+count_of (Ok x) = x.count
+count_of (Err why) = 0
+
+abbrev pub used_of : Result Enumerated Refusal → ℕ
+used_of (Ok x) = x.used
+used_of (Err why) = 0
+
 -- what a call comes to: orderings with a certain origin, written; or a refusal, with the output as it was
-data Comes (Origin : List (List ℕ) → Type 0) (out : List ℕ) : Enumerated × List ℕ → Type 0 where
+data Comes (Origin : List (List ℕ) → Type 0) (out : List ℕ) : Answer → Type 0 where
   wrote : (os : List (List ℕ)) → Origin os → fitting os ≡ true → length (written_all os) ≤ length out → Comes Origin out (writes os out)
-  refused : (k : ℕ) → (k ≡ 0 → ⊥) → among k answer_numbers ≡ true → Comes Origin out (refused_with k, out)
+  refused : (why : Refusal) → among (refusal_number why) answer_numbers ≡ true → Comes Origin out (Err why, out)
+
+-- no refusal has number 0
+some-number : (why : Refusal) → refusal_number why ≡ 0 → ⊥
+some-number UnknownExpression z = omega arith
+some-number TooManyChildren z = omega arith
+some-number ArenaFull z = omega arith
+some-number GroupFull z = omega arith
+some-number TooLarge z = omega arith
+some-number UnknownKey z = omega arith
+some-number NoTarget z = omega arith
+some-number OutputShort z = omega arith
+some-number Malformed z = omega arith
+some-number IndexOutOfRange z = omega arith
+some-number BadState z = omega arith
+some-number BadNumber z = omega arith
+
+-- a check with a number that is refused
+check_refused : (Origin : List (List ℕ) → Type 0) (out : List ℕ) (k : ℕ) → Listed k → eqb k 0 ≡ false → among k answer_numbers ≡ true → Comes Origin out (Err (refusal k), out)
+check_refused Origin out k l q h = refused (refusal k) (ap (λ (n : ℕ). among n answer_numbers) (refused-number k l q) ∙ h)
 
 -- what a walk stops with
-walk_refused : (Origin : List (List ℕ) → Type 0) (out : List ℕ) (k : ℕ) → (k ≡ 6) ⊎ (k ≡ 7) → Comes Origin out (refused_with k, out)
-unfolding among
-walk_refused Origin out k (inl e) = refused k (λ z. omega arith) (rw e)
-walk_refused Origin out k (inr e) = refused k (λ z. omega arith) (rw e)
+walk_refused : (Origin : List (List ℕ) → Type 0) (out : List ℕ) (k : ℕ) → (k ≡ 6) ⊎ (k ≡ 7) → Comes Origin out (Err (refusal k), out)
+unfolding among refusal
+walk_refused Origin out k (inl e) = rw e (refused UnknownKey refl)
+walk_refused Origin out k (inr e) = rw e (refused NoTarget refl)
 
 -- the answer with some orderings
 answered-comes : (Origin : List (List ℕ) → Type 0) (out : List ℕ) (os : List (List ℕ)) → Origin os → Comes Origin out (answered os out)
@@ -60,10 +93,10 @@ unfolding answered among
 answered-comes Origin out os from = go (fitting os) (leb (length (written_all os)) (length out)) refl refl
   where
     go : (a b : Bool) → fitting os ≡ a → leb (length (written_all os)) (length out) ≡ b
-        → Comes Origin out (if a then (if b then writes os out else (refused_with 8, out)) else (refused_with 5, out))
+        → Comes Origin out (if a then (if b then writes os out else (Err OutputShort, out)) else (Err TooLarge, out))
     go true true p q = wrote os from p (leb-true (length (written_all os)) (length out) q)
-    go true false p q = refused 8 (λ z. omega arith) refl
-    go false b p q = refused 5 (λ z. omega arith) refl
+    go true false p q = refused OutputShort refl
+    go false b p q = refused TooLarge refl
 
 -- the number of a map's check is one of them
 map-known : (cells : List ℕ) (m : DependencyMap) → among (map_number cells m) answer_numbers ≡ true
@@ -110,9 +143,9 @@ prefix-comes cells m e options out = go (eqb n 0) refl
     k : ℕ
     k = e * 4 + options
 
-    go : (b : Bool) → eqb n 0 ≡ b → Comes (PrefixesOf (decode m) k) out (if b then walk_answer (prefix_orderings (decode m) k) out else (refused_with n, out))
+    go : (b : Bool) → eqb n 0 ≡ b → Comes (PrefixesOf (decode m) k) out (if b then walk_answer (prefix_orderings (decode m) k) out else (Err (refusal n), out))
     go true q = walk-comes (decode m) k out (prefix_orderings (decode m) k) refl
-    go false q = refused n (eqb-false n 0 q) (prefix-known cells m e options)
+    go false q = check_refused (PrefixesOf (decode m) k) out n (prefix_number-listed cells m e options) q (prefix-known cells m e options)
 
 -- ---- generated orderings
 
@@ -144,11 +177,11 @@ gathered_comes m ks out (stops j) e = walk_refused (GeneratedBy m ks) out j (con
 gathered_comes m ks out (lists ls) e = go (leb (length ks) 16 && leb (length ls) 6) refl
   where
     go : (b : Bool) → (leb (length ks) 16 && leb (length ls) 6) ≡ b
-        → Comes (GeneratedBy m ks) out (if b then answered (generated ls) out else (refused_with 5, out))
+        → Comes (GeneratedBy m ks) out (if b then answered (generated ls) out else (Err TooLarge, out))
     go true q =
         answered-comes (GeneratedBy m ks) out (generated ls)
         (record { few-keys = leb-true (length ks) 16 (and_left (leb (length ks) 16) (leb (length ls) 6) q); contributed = ls; contribute = e; few-lists = leb-true (length ls) 6 (and_right (leb (length ks) 16) (leb (length ls) 6) q); are = refl })
-    go false q = refused 5 (λ z. omega arith) refl
+    go false q = refused TooLarge refl
 
 -- what the call on several keys comes to
 generate_comes : (cells : List ℕ) (m : DependencyMap) (numbers out : List ℕ) → Comes (GeneratedBy (decode m) (different numbers)) out (generate_answer cells m numbers out)
@@ -161,53 +194,53 @@ generate_comes cells m numbers out = go (eqb n 0) refl
     ks : List ℕ
     ks = different numbers
 
-    go : (b : Bool) → eqb n 0 ≡ b → Comes (GeneratedBy (decode m) ks) out (if b then gathered_answer (contributing (decode m) ks) (length ks) out else (refused_with n, out))
+    go : (b : Bool) → eqb n 0 ≡ b → Comes (GeneratedBy (decode m) ks) out (if b then gathered_answer (contributing (decode m) ks) (length ks) out else (Err (refusal n), out))
     go true q = gathered_comes (decode m) ks out (contributing (decode m) ks) refl
-    go false q = refused n (eqb-false n 0 q) (generate_known cells m numbers)
+    go false q = check_refused (GeneratedBy (decode m) ks) out n (generate_number-listed cells m numbers) q (generate_known cells m numbers)
 
 -- ---- what is written, what stays, what a refusal is
 
 -- an answer and the output afterwards: orderings with a certain origin, within the bounds, are written from the first place on; the answer tells how many they are and how many places they take; after them the output goes on as it was
-pub record Written (Origin : List (List ℕ) → Type 0) (out : List ℕ) (r : Enumerated × List ℕ) : Type 0 where
+pub record Written (Origin : List (List ℕ) → Type 0) (out : List ℕ) (r : Answer) : Type 0 where
   pub orderings : List (List ℕ)
   pub origin : Origin orderings
   pub fits : fitting orderings ≡ true
-  pub counted : r.0.count ≡ length orderings
-  pub places : r.0.used ≡ length (written_all orderings)
-  pub room : r.0.used ≤ length out
-  pub output : r.1 ≡ written_all orderings ++ drop r.0.used out
+  pub counted : count_of r.0 ≡ length orderings
+  pub places : used_of r.0 ≡ length (written_all orderings)
+  pub room : used_of r.0 ≤ length out
+  pub output : r.1 ≡ written_all orderings ++ drop (used_of r.0) out
 
 -- what stays: the output has its length, and each place past those that are used is as it was
-pub record RestKept (out : List ℕ) (r : Enumerated × List ℕ) : Type 0 where
+pub record RestKept (out : List ℕ) (r : Answer) : Type 0 where
   pub long : length r.1 ≡ length out
-  pub kept : (i : ℕ) → r.0.used ≤ i → get_or r.1 i 0 ≡ get_or out i 0
+  pub kept : (i : ℕ) → used_of r.0 ≤ i → get_or r.1 i 0 ≡ get_or out i 0
 
 -- a refusal: the output is as it was, no ordering is counted and no place is used
-pub record Refused (out : List ℕ) (r : Enumerated × List ℕ) : Type 0 where
+pub record Refused (out : List ℕ) (r : Answer) : Type 0 where
   pub unchanged : r.1 ≡ out
-  pub none-counted : r.0.count ≡ 0
-  pub none-used : r.0.used ≡ 0
+  pub none-counted : count_of r.0 ≡ 0
+  pub none-used : used_of r.0 ≡ 0
 
 -- what a call comes to with number 0
-comes-written : (Origin : List (List ℕ) → Type 0) (out : List ℕ) (r : Enumerated × List ℕ) → Comes Origin out r → r.0.number ≡ 0 → Written Origin out r
+comes-written : (Origin : List (List ℕ) → Type 0) (out : List ℕ) (r : Answer) → Comes Origin out r → number_of r.0 ≡ 0 → Written Origin out r
 unfolding writes
 comes-written Origin out r (wrote os from f l) z = record { orderings = os; origin = from; fits = f; counted = refl; places = refl; room = l; output = refl }
-comes-written Origin out r (refused k n h) z = absurd (n z)
+comes-written Origin out r (refused why h) z = absurd (some-number why z)
 
 -- and with another
-comes-refused : (Origin : List (List ℕ) → Type 0) (out : List ℕ) (r : Enumerated × List ℕ) → Comes Origin out r → (r.0.number ≡ 0 → ⊥) → Refused out r
+comes-refused : (Origin : List (List ℕ) → Type 0) (out : List ℕ) (r : Answer) → Comes Origin out r → (number_of r.0 ≡ 0 → ⊥) → Refused out r
 unfolding writes
 comes-refused Origin out r (wrote os from f l) n = absurd (n refl)
-comes-refused Origin out r (refused k n h) z = record { unchanged = refl; none-counted = refl; none-used = refl }
+comes-refused Origin out r (refused why h) z = record { unchanged = refl; none-counted = refl; none-used = refl }
 
 -- and which it can be
-comes-numbers : (Origin : List (List ℕ) → Type 0) (out : List ℕ) (r : Enumerated × List ℕ) → Comes Origin out r → among r.0.number answer_numbers ≡ true
+comes-numbers : (Origin : List (List ℕ) → Type 0) (out : List ℕ) (r : Answer) → Comes Origin out r → among (number_of r.0) answer_numbers ≡ true
 unfolding writes among
 comes-numbers Origin out r (wrote os from f l) = refl
-comes-numbers Origin out r (refused k n h) = h
+comes-numbers Origin out r (refused why h) = h
 
 -- what is written leaves the rest
-written_keeps : (Origin : List (List ℕ) → Type 0) (out : List ℕ) (r : Enumerated × List ℕ) → Written Origin out r → RestKept out r
+written_keeps : (Origin : List (List ℕ) → Type 0) (out : List ℕ) (r : Answer) → Written Origin out r → RestKept out r
 written_keeps Origin out r w = record {
   long = ap (λ (l : List ℕ). length l) w.output ∙ omega (arith, length-append ws rest, length-drop n out, w.places, w.room);
   kept = λ i l.
@@ -218,7 +251,7 @@ written_keeps Origin out r w = record {
 }
   where
     n : ℕ
-    n = r.0.used
+    n = used_of r.0
 
     ws : List ℕ
     ws = written_all w.orderings
@@ -230,35 +263,35 @@ written_keeps Origin out r w = record {
 
 module _ (cells : List ℕ) (m : DependencyMap) (out : List ℕ) where
   -- where the number is 0, the prefix orderings of the key are written
-  pub prefix-written : (e options : ℕ) → (prefix_answer cells m e options out).0.number ≡ 0 → Written (PrefixesOf (decode m) (e * 4 + options)) out (prefix_answer cells m e options out)
+  pub prefix-written : (e options : ℕ) → number_of (prefix_answer cells m e options out).0 ≡ 0 → Written (PrefixesOf (decode m) (e * 4 + options)) out (prefix_answer cells m e options out)
   prefix-written e options = comes-written (PrefixesOf (decode m) (e * 4 + options)) out (prefix_answer cells m e options out) (prefix-comes cells m e options out)
 
   -- where the number is 0, the orderings that the different keys among those given generate are written
-  pub generate_written : (numbers : List ℕ) → (generate_answer cells m numbers out).0.number ≡ 0 → Written (GeneratedBy (decode m) (different numbers)) out (generate_answer cells m numbers out)
+  pub generate_written : (numbers : List ℕ) → number_of (generate_answer cells m numbers out).0 ≡ 0 → Written (GeneratedBy (decode m) (different numbers)) out (generate_answer cells m numbers out)
   generate_written numbers = comes-written (GeneratedBy (decode m) (different numbers)) out (generate_answer cells m numbers out) (generate_comes cells m numbers out)
 
   -- where the number is 0, the output has its length and each place past those that are used is as it was: of both calls
-  pub rest-kept : ((e options : ℕ) → (prefix_answer cells m e options out).0.number ≡ 0 → RestKept out (prefix_answer cells m e options out))
-      × ((numbers : List ℕ) → (generate_answer cells m numbers out).0.number ≡ 0 → RestKept out (generate_answer cells m numbers out))
+  pub rest-kept : ((e options : ℕ) → number_of (prefix_answer cells m e options out).0 ≡ 0 → RestKept out (prefix_answer cells m e options out))
+      × ((numbers : List ℕ) → number_of (generate_answer cells m numbers out).0 ≡ 0 → RestKept out (generate_answer cells m numbers out))
   rest-kept = (
     (λ e options z. written_keeps (PrefixesOf (decode m) (e * 4 + options)) out (prefix_answer cells m e options out) (prefix-written e options z)),
     (λ numbers z. written_keeps (GeneratedBy (decode m) (different numbers)) out (generate_answer cells m numbers out) (generate_written numbers z)),
   )
 
   -- where the number is not 0, nothing is written and nothing reported
-  pub prefix-refused : (e options : ℕ) → ((prefix_answer cells m e options out).0.number ≡ 0 → ⊥) → Refused out (prefix_answer cells m e options out)
+  pub prefix-refused : (e options : ℕ) → (number_of (prefix_answer cells m e options out).0 ≡ 0 → ⊥) → Refused out (prefix_answer cells m e options out)
   prefix-refused e options = comes-refused (PrefixesOf (decode m) (e * 4 + options)) out (prefix_answer cells m e options out) (prefix-comes cells m e options out)
 
   -- likewise with several keys
-  pub generate_refused : (numbers : List ℕ) → ((generate_answer cells m numbers out).0.number ≡ 0 → ⊥) → Refused out (generate_answer cells m numbers out)
+  pub generate_refused : (numbers : List ℕ) → (number_of (generate_answer cells m numbers out).0 ≡ 0 → ⊥) → Refused out (generate_answer cells m numbers out)
   generate_refused numbers = comes-refused (GeneratedBy (decode m) (different numbers)) out (generate_answer cells m numbers out) (generate_comes cells m numbers out)
 
   -- the number is 0, 12, 11, 1, 6, 7, 5 or 8
-  pub prefix-numbers : (e options : ℕ) → among (prefix_answer cells m e options out).0.number answer_numbers ≡ true
+  pub prefix-numbers : (e options : ℕ) → among (number_of (prefix_answer cells m e options out).0) answer_numbers ≡ true
   prefix-numbers e options = comes-numbers (PrefixesOf (decode m) (e * 4 + options)) out (prefix_answer cells m e options out) (prefix-comes cells m e options out)
 
   -- likewise with several keys
-  pub generate_numbers : (numbers : List ℕ) → among (generate_answer cells m numbers out).0.number answer_numbers ≡ true
+  pub generate_numbers : (numbers : List ℕ) → among (number_of (generate_answer cells m numbers out).0) answer_numbers ≡ true
   generate_numbers numbers = comes-numbers (GeneratedBy (decode m) (different numbers)) out (generate_answer cells m numbers out) (generate_comes cells m numbers out)
 
 -- ---- the keys of an answer
@@ -326,13 +359,13 @@ generated-known m ks ls a = record {
 
 module _ (cells : List ℕ) (m : DependencyMap) (out : List ℕ) where
   -- every key of every prefix ordering that is written is a target of the map, and none of these orderings holds an expression twice
-  pub prefix-keys : (e options : ℕ) (z : (prefix_answer cells m e options out).0.number ≡ 0) → KeysKnown (decode m) (prefix-written cells m out e options z).orderings
+  pub prefix-keys : (e options : ℕ) (z : number_of (prefix_answer cells m e options out).0 ≡ 0) → KeysKnown (decode m) (prefix-written cells m out e options z).orderings
   prefix-keys e options z =
       let w = prefix-written cells m out e options z in
       prefixes-known (decode m) (e * 4 + options) w.orderings w.origin
 
   -- likewise of the generated orderings that are written
-  pub generated-keys : (numbers : List ℕ) (z : (generate_answer cells m numbers out).0.number ≡ 0) → KeysKnown (decode m) (generate_written cells m out numbers z).orderings
+  pub generated-keys : (numbers : List ℕ) (z : number_of (generate_answer cells m numbers out).0 ≡ 0) → KeysKnown (decode m) (generate_written cells m out numbers z).orderings
   generated-keys numbers z =
       let w = generate_written cells m out numbers z in
       let g = w.origin in

@@ -4,7 +4,7 @@ use Prim.Native.Nat.{ℕ, zero, suc, ◌*◌, ◌<◌, ◌≤◌, ◌/◌, ◌%�
 use mathlib.Core.Bool.{Bool, true, false, ◌||◌}
 use mathlib.Core.List.{List, [], ◌∷◌, ◌++◌, map, append-nil}
 use mathlib.Core.Logic.{◌⊎◌, inl, inr}
-use mathlib.Core.Option.{some}
+use Rattle.std.specs.Prelude.{Some}
 use mathlib.Core.Path.{◌≡◌, refl, sym, ap, ◌∙◌, subst}
 use native.Mathlib.Decide.{ℕ_discrete}
 use native.Mathlib.Nat.{mod-lt, div-lt_iff_lt-mul}
@@ -175,21 +175,21 @@ there-already k d ks ds h = among-append k ks ds ∙ go (eqb d k) refl ∙ sym (
 same_from : (k : ℕ) (ks ds : List ℕ) → among k (once_each ks ds) ≡ among k (ks ++ ds)
 unfolding once_each
 same_from k ks [] = ap (among k) (sym (append-nil ks))
-same_from k ks (d ∷ ds) = same_from k (with_dependency ks (some d)) ds ∙ go (among d ks) refl
+same_from k ks (d ∷ ds) = same_from k (with_dependency ks (Some d)) ds ∙ go (among d ks) refl
   where
-    go : (b : Bool) → among d ks ≡ b → among k (with_dependency ks (some d) ++ ds) ≡ among k (ks ++ (d ∷ ds))
+    go : (b : Bool) → among d ks ≡ b → among k (with_dependency ks (Some d) ++ ds) ≡ among k (ks ++ (d ∷ ds))
     go true q = rw (with-there ks d q) (there-already k d ks ds q)
     go false q = rw (with-new ks d q, append_snoc ks d ds)
 
 -- one key more, added once, stands there once
-with-distinct : (ks : List ℕ) (d : ℕ) → Distinct ks → Distinct (with_dependency ks (some d))
+with-distinct : (ks : List ℕ) (d : ℕ) → Distinct ks → Distinct (with_dependency ks (Some d))
 with-distinct ks d h = go (among d ks) refl
   where
     once : among d ks ≡ false → (e : ℕ) → Dec (d ≡ e) → count e (ks ++ (d ∷ [])) ≤ 1
     once q e (yes s) = subst (λ (x : ℕ). count x (ks ++ (d ∷ [])) ≤ 1) s (omega (arith, count-append d ks (d ∷ []), count_same d, among-never d ks q))
     once q e (no s) = omega (arith, count-append e ks (d ∷ []), count-other e d s, distinct-count ks h e)
 
-    go : (b : Bool) → among d ks ≡ b → Distinct (with_dependency ks (some d))
+    go : (b : Bool) → among d ks ≡ b → Distinct (with_dependency ks (Some d))
     go true q = rw (with-there ks d q) h
     go false q = rw (with-new ks d q) (count-distinct (ks ++ (d ∷ [])) (λ e. once q e (ℕ_discrete d e)))
 
@@ -197,13 +197,13 @@ with-distinct ks d h = go (among d ks) refl
 distinct_from : (ks ds : List ℕ) → Distinct ks → Distinct (once_each ks ds)
 unfolding once_each
 distinct_from ks [] h = h
-distinct_from ks (d ∷ ds) h = distinct_from (with_dependency ks (some d)) ds (with-distinct ks d h)
+distinct_from ks (d ∷ ds) h = distinct_from (with_dependency ks (Some d)) ds (with-distinct ks d h)
 
 -- the last of the given keys is added last
-last-from : (ks ds : List ℕ) (d : ℕ) → once_each ks (ds ++ (d ∷ [])) ≡ with_dependency (once_each ks ds) (some d)
+last-from : (ks ds : List ℕ) (d : ℕ) → once_each ks (ds ++ (d ∷ [])) ≡ with_dependency (once_each ks ds) (Some d)
 unfolding once_each
 last-from ks [] d = refl
-last-from ks (x ∷ ds) d = last-from (with_dependency ks (some x)) ds d
+last-from ks (x ∷ ds) d = last-from (with_dependency ks (Some x)) ds d
 
 -- of the given keys each stands once: no key stands at two places
 pub once-each : (ks : List ℕ) → Distinct (once_each [] ks)

@@ -1,10 +1,9 @@
 -- Theorems on the walk over a dependency map: that it ends, and what the orderings are that it finds. They hold for every map, also for one with cycles.
-use Rattle.std.specs.Prelude.{if◌then◌else◌}
+use Rattle.std.specs.Prelude.{if◌then◌else◌, Option, None, Some}
 use Prim.Native.Nat.{ℕ, zero, suc, ◌<◌, ◌≤◌}
 use mathlib.Core.Bool.{Bool, true, false}
 use mathlib.Core.List.{List, [], ◌∷◌, ◌++◌, map}
 use mathlib.Core.Logic.{◌⊎◌, inl}
-use mathlib.Core.Option.{Option, none, some}
 use mathlib.Core.Path.{◌≡◌, refl, sym, ap, ◌∙◌, subst}
 use native.Mathlib.Decide.{ℕ_discrete}
 use native.Mathlib.Omega.{arith}
@@ -49,15 +48,15 @@ walk_ends m k s = record {
 -- ---- The start of a prefix enumeration
 
 -- a start that is not in the map is 6
-pub start-missing : (m : List Dependent) (k : ℕ) → place_of m k ≡ none → prefix_orderings m k ≡ stopped 6
+pub start-missing : (m : List Dependent) (k : ℕ) → place_of m k ≡ None → prefix_orderings m k ≡ stopped 6
 start-missing = prefix-missing
 
 -- of the start's entry only the dependencies count: what its target is, or whether it has one, is not asked (a walk that comes back to the start asks for its target as for any other)
-pub start_needs_no_target : (m : List Dependent) (k i : ℕ) → place_of m k ≡ some i → prefix_orderings m k ≡ over_start m (entry_at m i).dependencies []
+pub start_needs_no_target : (m : List Dependent) (k i : ℕ) → place_of m k ≡ Some i → prefix_orderings m k ≡ over_start m (entry_at m i).dependencies []
 start_needs_no_target = prefix-there
 
 -- so two starts with the same dependencies, with a target or without, have the same prefix orderings
-pub same-dependencies : (m : List Dependent) (k l i j : ℕ) → place_of m k ≡ some i → place_of m l ≡ some j → (entry_at m i).dependencies ≡ (entry_at m j).dependencies → prefix_orderings m k ≡ prefix_orderings m l
+pub same-dependencies : (m : List Dependent) (k l i j : ℕ) → place_of m k ≡ Some i → place_of m l ≡ Some j → (entry_at m i).dependencies ≡ (entry_at m j).dependencies → prefix_orderings m k ≡ prefix_orderings m l
 same-dependencies m k l i j p q e =
     start_needs_no_target m k i p ∙ ap (λ (ds : List ℕ). over_start m ds []) e ∙ sym (start_needs_no_target m l j q)
 
@@ -86,8 +85,8 @@ pub prefix-stops : (m : List Dependent) (k : ℕ) → SixOrSeven (prefix_orderin
 prefix-stops m k = go (place_of m k) refl
   where
     go : (o : Option ℕ) → place_of m k ≡ o → SixOrSeven (prefix_orderings m k)
-    go none e = rw (start-missing m k e) (λ j q. inl (let r : 6 ≡ j = cc in sym r))
-    go (some i) e = rw (start_needs_no_target m k i e) (start-stops m (entry_at m i).dependencies [])
+    go None e = rw (start-missing m k e) (λ j q. inl (let r : 6 ≡ j = cc in sym r))
+    go (Some i) e = rw (start_needs_no_target m k i e) (start-stops m (entry_at m i).dependencies [])
 
 -- one list more stops with 6 or 7 only
 more-stops : (w : Walk) (ls : Lists) → SixOrSeven w → ((j : ℕ) → ls ≡ stops j → (j ≡ 6) ⊎ (j ≡ 7)) → (j : ℕ) → with_list w ls ≡ stops j → (j ≡ 6) ⊎ (j ≡ 7)
@@ -115,8 +114,8 @@ AllFound P w = (os : List (List ℕ)) (u : List (ℕ × ℕ)) → w ≡ found os
 
 -- an ordering leads to a key: the key's target alone where it depends on nothing; else an ordering that leads to one of its dependencies, with the target pushed
 pub data LeadsTo (m : List Dependent) : ℕ → List ℕ → Type 0 where
-  alone : (k i t : ℕ) → place_of m k ≡ some i → (entry_at m i).target ≡ some t → (entry_at m i).dependencies ≡ [] → LeadsTo m k (t ∷ [])
-  after : (k i t d : ℕ) (o : List ℕ) → place_of m k ≡ some i → (entry_at m i).target ≡ some t → among d (entry_at m i).dependencies ≡ true → LeadsTo m d o → LeadsTo m k (pushed o t)
+  alone : (k i t : ℕ) → place_of m k ≡ Some i → (entry_at m i).target ≡ Some t → (entry_at m i).dependencies ≡ [] → LeadsTo m k (t ∷ [])
+  after : (k i t d : ℕ) (o : List ℕ) → place_of m k ≡ Some i → (entry_at m i).target ≡ Some t → among d (entry_at m i).dependencies ≡ true → LeadsTo m d o → LeadsTo m k (pushed o t)
 
 -- a walk that stopped found nothing
 none_found_lem : (P : List ℕ → Type 0) (i : ℕ) → AllFound P (stopped i)
@@ -145,7 +144,7 @@ all_map P Q f os g h j l =
 -- walks, one from each key, that find only orderings that lead to it
 module _ (m : List Dependent) (at : ℕ → List (ℕ × ℕ) → Walk) (leads : (d : ℕ) (s : List (ℕ × ℕ)) → AllFound (LeadsTo m d) (at d s)) (k : ℕ) where
   -- over dependencies of the key
-  over-leads : (i t : ℕ) → place_of m k ≡ some i → (entry_at m i).target ≡ some t → (ds : List ℕ) (s : List (ℕ × ℕ)) → ((d : ℕ) → among d ds ≡ true → among d (entry_at m i).dependencies ≡ true)
+  over-leads : (i t : ℕ) → place_of m k ≡ Some i → (entry_at m i).target ≡ Some t → (ds : List ℕ) (s : List (ℕ × ℕ)) → ((d : ℕ) → among d ds ≡ true → among d (entry_at m i).dependencies ≡ true)
       → AllFound (LeadsTo m k) (over_dependencies at t ds s)
   unfolding over_dependencies
   over-leads i t p q [] s h = all_found (LeadsTo m k) [] s (all_none (LeadsTo m k))
@@ -169,7 +168,7 @@ module _ (m : List Dependent) (at : ℕ → List (ℕ × ℕ) → Walk) (leads :
           (append-all (LeadsTo m k) (map (λ (o : List ℕ). pushed o t) os) ps (all_map (LeadsTo m d) (LeadsTo m k) (λ (o : List ℕ). pushed o t) os up a) b)))
 
   -- at the key's target
-  target-leads : (i t : ℕ) → place_of m k ≡ some i → (entry_at m i).target ≡ some t → (ds : List ℕ) (s : List (ℕ × ℕ)) → (entry_at m i).dependencies ≡ ds → AllFound (LeadsTo m k) (at_target at t ds s)
+  target-leads : (i t : ℕ) → place_of m k ≡ Some i → (entry_at m i).target ≡ Some t → (ds : List ℕ) (s : List (ℕ × ℕ)) → (entry_at m i).dependencies ≡ ds → AllFound (LeadsTo m k) (at_target at t ds s)
   unfolding at_target
   target-leads i t p q [] s e = all_found (LeadsTo m k) ((t ∷ []) ∷ []) s one
     where
@@ -179,16 +178,16 @@ module _ (m : List Dependent) (at : ℕ → List (ℕ × ℕ) → Walk) (leads :
   target-leads i t p q (d ∷ ds) s e = over-leads i t p q (d ∷ ds) s (λ x h. rw e h)
 
   -- at the key's entry
-  entry-leads : (i : ℕ) (o : Option ℕ) (s : List (ℕ × ℕ)) → place_of m k ≡ some i → (entry_at m i).target ≡ o → AllFound (LeadsTo m k) (at_entry at o (entry_at m i).dependencies s)
+  entry-leads : (i : ℕ) (o : Option ℕ) (s : List (ℕ × ℕ)) → place_of m k ≡ Some i → (entry_at m i).target ≡ o → AllFound (LeadsTo m k) (at_entry at o (entry_at m i).dependencies s)
   unfolding at_entry
-  entry-leads i none s p q = none_found_lem (LeadsTo m k) 7
-  entry-leads i (some t) s p q = target-leads i t p q (entry_at m i).dependencies s refl
+  entry-leads i None s p q = none_found_lem (LeadsTo m k) 7
+  entry-leads i (Some t) s p q = target-leads i t p q (entry_at m i).dependencies s refl
 
   -- at the key's place
   place-leads : (o : Option ℕ) (s : List (ℕ × ℕ)) → place_of m k ≡ o → AllFound (LeadsTo m k) (at_place at m o s)
   unfolding at_place
-  place-leads none s p = none_found_lem (LeadsTo m k) 6
-  place-leads (some i) s p = entry-leads i (entry_at m i).target s p refl
+  place-leads None s p = none_found_lem (LeadsTo m k) 6
+  place-leads (Some i) s p = entry-leads i (entry_at m i).target s p refl
 
 -- with every count
 count-leads : (n : ℕ) (m : List Dependent) (k : ℕ) (s : List (ℕ × ℕ)) → AllFound (LeadsTo m k) (constructed n m k s)
@@ -222,7 +221,7 @@ start-leads m (d ∷ ds) s =
 -- an ordering leads to a dependency of a start that is in the map
 pub record LeadsUpTo (m : List Dependent) (k : ℕ) (o : List ℕ) : Type 0 where
   pub start : ℕ
-  pub there : place_of m k ≡ some start
+  pub there : place_of m k ≡ Some start
   pub one : LeadsToOne m (entry_at m start).dependencies o
 
 -- each prefix ordering of a start leads to one of its dependencies
@@ -230,8 +229,8 @@ pub prefix-leads : (m : List Dependent) (k : ℕ) → AllFound (LeadsUpTo m k) (
 prefix-leads m k = go (place_of m k) refl
   where
     go : (o : Option ℕ) → place_of m k ≡ o → AllFound (LeadsUpTo m k) (prefix_orderings m k)
-    go none e = rw (start-missing m k e) (none_found_lem (LeadsUpTo m k) 6)
-    go (some i) e =
+    go None e = rw (start-missing m k e) (none_found_lem (LeadsUpTo m k) 6)
+    go (Some i) e =
         rw (start_needs_no_target m k i e)
         (λ os u q j l. record { start = i; there = e; one = start-leads m (entry_at m i).dependencies [] os u q j l })
 
@@ -253,10 +252,10 @@ everywhere m P h = record {
 
 -- a number is the target of an entry of the map
 abbrev pub IsTarget : List Dependent → ℕ → Type 0
-IsTarget m t = (i : ℕ) × (i < length m) × ((entry_at m i).target ≡ some t)
+IsTarget m t = (i : ℕ) × (i < length m) × ((entry_at m i).target ≡ Some t)
 
 -- the place of a key is in the map
-place-below : (m : List Dependent) (k i : ℕ) → place_of m k ≡ some i → i < length m
+place-below : (m : List Dependent) (k i : ℕ) → place_of m k ≡ Some i → i < length m
 unfolding place_of
 place-below m k i p = (first_some (λ j. eqb (entry_at m j).key k) (length m) i p).below
 
@@ -306,17 +305,17 @@ orderings-good m = everywhere m (λ (o : List ℕ). length o ≤ 16 → GoodOrde
 -- an ordering holds the expression of the target of a dependency of a start
 pub record HoldsTarget (m : List Dependent) (k : ℕ) (o : List ℕ) : Type 0 where
   pub start : ℕ
-  pub start-there : place_of m k ≡ some start
+  pub start-there : place_of m k ≡ Some start
   pub dependency : ℕ
   pub of-start : among dependency (entry_at m start).dependencies ≡ true
   pub place : ℕ
-  pub there : place_of m dependency ≡ some place
+  pub there : place_of m dependency ≡ Some place
   pub target : ℕ
-  pub is-target : (entry_at m place).target ≡ some target
+  pub is-target : (entry_at m place).target ≡ Some target
   pub holds : has_expr (expr_of target) o ≡ true
 
 -- a key that an ordering leads to has a target, and the ordering holds its expression
-leads-holds : (m : List Dependent) {k : ℕ} {o : List ℕ} → LeadsTo m k o → (i : ℕ) × (t : ℕ) × (place_of m k ≡ some i) × ((entry_at m i).target ≡ some t) × (has_expr (expr_of t) o ≡ true)
+leads-holds : (m : List Dependent) {k : ℕ} {o : List ℕ} → LeadsTo m k o → (i : ℕ) × (t : ℕ) × (place_of m k ≡ Some i) × ((entry_at m i).target ≡ Some t) × (has_expr (expr_of t) o ≡ true)
 leads-holds m (alone k i t p q e) = (i, t, p, q, place-has (expr_of t) (t ∷ []) 0 (omega arith) refl)
 leads-holds m (after k i t d x p q h w) = (i, t, p, q, pushed-has x t)
 

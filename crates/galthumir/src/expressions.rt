@@ -1,19 +1,19 @@
 // The calls on expressions.
-ghost use Rattle.std.specs.Prelude.{◌≡◌};
+ghost use Rattle.arena.specs.declared.Refusal.TheVariants.{BadState};
+ghost use Rattle.std.specs.Prelude.{◌≡◌, Err};
 ghost use Rattle.arena.specs.Calls.{checked, lent, on_lent, add_column, add_literal, add_operation, read_node, read_child};
 ghost use Rattle.shifting.specs.Calls.{add_offset};
-ghost use Rattle.arena.specs.declared.Read.{Read};
-ghost use Rattle.arena.specs.declared.Child.{Child};
 ghost use Rattle.answers.specs.Answers.{on_first};
 ghost use Rattle.group_answers.specs.Answers.{added_in, read_in, child_in};
 
+use arena::refusing::number_of;
 use group_answers::{put_added, put_child, put_read};
 
 // The check of an arena. Refusal: 11.
 pub fn galthumir_check_arena(arena: &[u32; 11265]) -> u32
     ensures { result ≡ checked arena.now }
 {
-    arena::check_arena(arena)
+    number_of(arena::check_arena(arena))
 }
 
 // Adds a column. Refusals: 11, 3.
@@ -52,7 +52,7 @@ pub fn galthumir_add_operation(
 
 // Reads a node. Refusals: 11, 1.
 pub fn galthumir_read_node(arena: &[u32; 11265], expr: u32, answer: &mut [u32; 3]) -> u32
-    ensures { (result, answer.new) ≡ read_in answer.old (on_lent (Read.Refused 11) (read_node expr) arena.now) }
+    ensures { (result, answer.new) ≡ read_in answer.old (on_lent (Err BadState) (read_node expr) arena.now) }
 {
     put_read(arena::read_node(arena, expr), answer)
 }
@@ -64,7 +64,7 @@ pub fn galthumir_read_child(
     place: u32,
     answer: &mut [u32; 2],
 ) -> u32
-    ensures { (result, answer.new) ≡ child_in answer.old (on_lent (Child.Refused 11) (read_child expr place) arena.now) }
+    ensures { (result, answer.new) ≡ child_in answer.old (on_lent (Err BadState) (read_child expr place) arena.now) }
 {
     put_child(arena::read_child(arena, expr, place), answer)
 }

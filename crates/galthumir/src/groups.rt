@@ -1,13 +1,11 @@
 // The calls on groups.
-ghost use Rattle.std.specs.Prelude.{◌≡◌};
+ghost use Rattle.std.specs.Prelude.{◌≡◌, Err};
+ghost use Rattle.arena.specs.Refusals.{refusal};
 ghost use Rattle.classes.specs.Calls.{group_number, on_group, ask_group};
 ghost use Rattle.group_checks.specs.Calls.{opened, class_answer};
-ghost use Rattle.group_checks.specs.declared.ClassIs.{ClassIs};
 ghost use Rattle.conditions.specs.Steps.{add_equal, clear};
 ghost use Rattle.conditions.specs.Calls.{on_constant};
 ghost use Rattle.questions.specs.Calls.{equal_answer, constant_answer};
-ghost use Rattle.questions.specs.declared.Answer.{Answer};
-ghost use Rattle.questions.specs.declared.ConstantIs.{ConstantIs};
 ghost use Rattle.normal.specs.Calls.{normalized};
 ghost use Rattle.sort_keys.specs.Calls.{normalized_key, normalized_keys};
 ghost use Rattle.merging.specs.Calls.{new_answer};
@@ -19,6 +17,7 @@ ghost use Rattle.answers.specs.Answers.{on_first};
 ghost use Rattle.group_answers.specs.Answers.{added_in, class_in, changed_in, answer_in, constant_in, key_in, sorted_in, projected_in};
 
 use arena::cells::wide;
+use arena::refusing::number_of;
 use group_answers::{
     put_added, put_answer, put_changed, put_class_is, put_constant, put_key, put_projected,
     put_sorted,
@@ -37,7 +36,7 @@ pub fn galthumir_open_group(limit: u32, made: &mut [u32; 451]) -> u32
 pub fn galthumir_check_group(arena: &[u32; 11265], group: &[u32; 451]) -> u32
     ensures { result ≡ group_number arena.now (group_from group.now) }
 {
-    group_checks::check(arena, load_group(group))
+    number_of(group_checks::check(arena, load_group(group)))
 }
 
 // The class of an expression. Refusals: 12, 11, 1.
@@ -47,7 +46,7 @@ pub fn galthumir_get_equivalence_class(
     expr: u32,
     answer: &mut [usize; 6],
 ) -> u32
-    ensures { (result, answer.new) ≡ class_in answer.old (ask_group (λ k. ClassIs.Refused k) (class_answer expr) arena.now (group_from group.now)) }
+    ensures { (result, answer.new) ≡ class_in answer.old (ask_group (λ k. Err (refusal k)) (class_answer expr) arena.now (group_from group.now)) }
 {
     put_class_is(
         group_checks::get_equivalence_class(arena, load_group(group), expr),
@@ -103,7 +102,7 @@ pub fn galthumir_exprs_equal(
     right: u32,
     answer: &mut [u32; 1],
 ) -> u32
-    ensures { (result, answer.new) ≡ answer_in answer.old (ask_group (λ k. Answer.Refused k) (equal_answer left right) arena.now (group_from group.now)) }
+    ensures { (result, answer.new) ≡ answer_in answer.old (ask_group (λ k. Err (refusal k)) (equal_answer left right) arena.now (group_from group.now)) }
 {
     put_answer(
         questions::exprs_equal(arena, load_group(group), left, right),
@@ -118,7 +117,7 @@ pub fn galthumir_is_expr_constant(
     expr: u32,
     answer: &mut [u32; 2],
 ) -> u32
-    ensures { (result, answer.new) ≡ constant_in answer.old (ask_group (λ k. ConstantIs.Refused k) (constant_answer expr) arena.now (group_from group.now)) }
+    ensures { (result, answer.new) ≡ constant_in answer.old (ask_group (λ k. Err (refusal k)) (constant_answer expr) arena.now (group_from group.now)) }
 {
     put_constant(
         questions::is_expr_constant(arena, load_group(group), expr),
@@ -234,5 +233,5 @@ pub fn galthumir_project_expressions(
 ) -> u32
     ensures { ((result, output.new), arena.new) ≡ projected_expressions exprs.now output.old mapping.now arena.old (group_from group.now) }
 {
-    projection::project_expressions(arena, load_group(group), mapping, exprs, output)
+    number_of(projection::project_expressions(arena, load_group(group), mapping, exprs, output))
 }

@@ -6,13 +6,14 @@ ghost use Rattle.states.specs.Maps.{map_from, stored_map};
 ghost use Rattle.answers.specs.Answers.{on_first, enumerated_in, given_from};
 
 use answers::{given_from, put_enumerated};
+use arena::refusing::number_of;
 use states::maps::{load_map, store_map};
 
 // The check of a dependency map over an arena. Refusals: 11, 1.
 pub fn galthumir_check_map(arena: &[u32; 11265], map: &[u16; 1217]) -> u32
     ensures { result ≡ map_number arena.now (map_from map.now) }
 {
-    dependencies::check(arena, load_map(map))
+    number_of(dependencies::check(arena, load_map(map)))
 }
 
 // Inserts a key with its target and a dependency, each of which may be none. Refusals: 12, 11, 1, 5.

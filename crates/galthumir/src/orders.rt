@@ -1,23 +1,23 @@
 // The calls on lists of orderings.
-ghost use Rattle.std.specs.Prelude.{◌≡◌};
+ghost use Rattle.std.specs.Prelude.{◌≡◌, Err};
+ghost use Rattle.arena.specs.Refusals.{refusal};
 ghost use Rattle.arena.specs.Layout.{count};
 ghost use Rattle.orderings.specs.Calls.{list_number, ask_list, clear_answer};
 ghost use Rattle.ordering_questions.specs.Calls.{options_answer, partial_answer};
-ghost use Rattle.ordering_questions.specs.declared.OptionsAre.{OptionsAre};
-ghost use Rattle.ordering_questions.specs.declared.PartialIs.{PartialIs};
 ghost use Rattle.reduction.specs.Calls.{add_answer, new_answer, extend_answer};
 ghost use Rattle.ordering_joins.specs.Calls.{offset_answer, output_answer, join_answer};
 ghost use Rattle.states.specs.Orders.{orderings_from, stored_list};
 ghost use Rattle.answers.specs.Answers.{on_first, options_in, partial_in, output_in};
 
 use answers::{put_options, put_output, put_partial};
+use arena::refusing::number_of;
 use states::orders::{load_orderings, store_orderings};
 
 // The check of a list of orderings over an arena. Refusals: 11, 1.
 pub fn galthumir_check_orderings(arena: &[u32; 11265], orderings: &[u16; 545]) -> u32
     ensures { result ≡ list_number arena.now (orderings_from orderings.now) }
 {
-    orderings::check(arena, load_orderings(orderings))
+    number_of(orderings::check(arena, load_orderings(orderings)))
 }
 
 // Makes a reduced list of orderings that are built from lists of keys. Refusals: 12, 11, 1, 5.
@@ -67,7 +67,7 @@ pub fn galthumir_get_options(
     expr: u32,
     answer: &mut [u32; 2],
 ) -> u32
-    ensures { (result, answer.new) ≡ options_in answer.old (ask_list (λ k. OptionsAre.Refused k) (options_answer (count arena.now) expr) arena.now (orderings_from orderings.now)) }
+    ensures { (result, answer.new) ≡ options_in answer.old (ask_list (λ k. Err (refusal k)) (options_answer (count arena.now) expr) arena.now (orderings_from orderings.now)) }
 {
     put_options(
         ordering_questions::get_options(arena, load_orderings(orderings), expr),
@@ -82,7 +82,7 @@ pub fn galthumir_is_expr_partial_const(
     expr: u32,
     answer: &mut [u32; 1],
 ) -> u32
-    ensures { (result, answer.new) ≡ partial_in answer.old (ask_list (λ k. PartialIs.Refused k) (partial_answer (count arena.now) expr) arena.now (orderings_from orderings.now)) }
+    ensures { (result, answer.new) ≡ partial_in answer.old (ask_list (λ k. Err (refusal k)) (partial_answer (count arena.now) expr) arena.now (orderings_from orderings.now)) }
 {
     put_partial(
         ordering_questions::is_expr_partial_const(arena, load_orderings(orderings), expr),

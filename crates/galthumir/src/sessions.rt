@@ -6,7 +6,7 @@ ghost use Rattle.transcript.specs.Session.{session};
 ghost use Rattle.group_states.specs.Groups.{stored_group};
 ghost use Rattle.answers.specs.Answers.{on_first, item_in, written_in, side, chosen_in};
 
-use answers::{put_record, put_sizes, put_written};
+use answers::{put_record, put_written};
 use arena::cells::wide;
 use group_states::groups::store_group;
 use states::numbers::short;
@@ -27,10 +27,11 @@ pub fn galthumir_read_group(arena: &[u32; 11265], bytes: &[u8], made: &mut [u32;
 }
 
 // The side that a join of kind 4 to 9 keeps: 0 left, 1 right.
+#[tactic(auto, unfolding(answers::specs::Answers::side))]
 fn side_of(kind: u32) -> usize
     ensures { result ≡ side kind }
 {
-    if kind < 7 { 0 } else { 1 }
+    usize::from(7 <= kind)
 }
 
 // Of two group records the one that a join of kind 4 to 9 keeps. Refusals: 12, 9.
@@ -46,12 +47,11 @@ pub fn galthumir_chosen<'a>(
         return 12;
     }
     let small = short(wide(kind));
-    let number = records::chosen_number(small, left, right);
-    if number != 0 {
-        return number;
+    if let Err(why) = records::chosen_number(small, left, right) {
+        return u32::from(why);
     }
     let part = records::chosen(small, left, right);
-    put_sizes(answer, side_of(kind), part.len());
+    *answer = [side_of(kind), part.len()];
     0
 }
 

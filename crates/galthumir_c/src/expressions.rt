@@ -1,9 +1,8 @@
 // The calls on expressions, exported to C.
-ghost use Rattle.std.specs.Prelude.{◌≡◌};
+ghost use Rattle.arena.specs.declared.Refusal.TheVariants.{BadState};
+ghost use Rattle.std.specs.Prelude.{◌≡◌, Err};
 ghost use Rattle.arena.specs.Calls.{checked, lent, on_lent, add_column, add_literal, add_operation, read_node, read_child};
 ghost use Rattle.shifting.specs.Calls.{add_offset};
-ghost use Rattle.arena.specs.declared.Read.{Read};
-ghost use Rattle.arena.specs.declared.Child.{Child};
 ghost use Rattle.answers.specs.Answers.{on_first};
 ghost use Rattle.group_answers.specs.Answers.{added_in, read_in, child_in};
 
@@ -56,7 +55,7 @@ pub extern "C" fn galthumir_add_operation(
 // Reads a node. Refusals: 11, 1.
 #[unsafe(no_mangle)]
 pub extern "C" fn galthumir_read_node(arena: &[u32; 11265], expr: u32, answer: &mut [u32; 3]) -> u32
-    ensures { (result, answer.new) ≡ read_in answer.old (on_lent (Read.Refused 11) (read_node expr) arena.now) }
+    ensures { (result, answer.new) ≡ read_in answer.old (on_lent (Err BadState) (read_node expr) arena.now) }
 {
     galthumir::expressions::galthumir_read_node(arena, expr, answer)
 }
@@ -69,7 +68,7 @@ pub extern "C" fn galthumir_read_child(
     place: u32,
     answer: &mut [u32; 2],
 ) -> u32
-    ensures { (result, answer.new) ≡ child_in answer.old (on_lent (Child.Refused 11) (read_child expr place) arena.now) }
+    ensures { (result, answer.new) ≡ child_in answer.old (on_lent (Err BadState) (read_child expr place) arena.now) }
 {
     galthumir::expressions::galthumir_read_child(arena, expr, place, answer)
 }

@@ -1,13 +1,11 @@
 // The calls on groups, exported to C.
-ghost use Rattle.std.specs.Prelude.{◌≡◌};
+ghost use Rattle.std.specs.Prelude.{◌≡◌, Err};
+ghost use Rattle.arena.specs.Refusals.{refusal};
 ghost use Rattle.classes.specs.Calls.{group_number, on_group, ask_group};
 ghost use Rattle.group_checks.specs.Calls.{opened, class_answer};
-ghost use Rattle.group_checks.specs.declared.ClassIs.{ClassIs};
 ghost use Rattle.conditions.specs.Steps.{add_equal, clear};
 ghost use Rattle.conditions.specs.Calls.{on_constant};
 ghost use Rattle.questions.specs.Calls.{equal_answer, constant_answer};
-ghost use Rattle.questions.specs.declared.Answer.{Answer};
-ghost use Rattle.questions.specs.declared.ConstantIs.{ConstantIs};
 ghost use Rattle.normal.specs.Calls.{normalized};
 ghost use Rattle.sort_keys.specs.Calls.{normalized_key, normalized_keys};
 ghost use Rattle.merging.specs.Calls.{new_answer};
@@ -42,7 +40,7 @@ pub extern "C" fn galthumir_get_equivalence_class(
     expr: u32,
     answer: &mut [usize; 6],
 ) -> u32
-    ensures { (result, answer.new) ≡ class_in answer.old (ask_group (λ k. ClassIs.Refused k) (class_answer expr) arena.now (group_from group.now)) }
+    ensures { (result, answer.new) ≡ class_in answer.old (ask_group (λ k. Err (refusal k)) (class_answer expr) arena.now (group_from group.now)) }
 {
     galthumir::groups::galthumir_get_equivalence_class(arena, group, expr, answer)
 }
@@ -96,7 +94,7 @@ pub extern "C" fn galthumir_exprs_equal(
     right: u32,
     answer: &mut [u32; 1],
 ) -> u32
-    ensures { (result, answer.new) ≡ answer_in answer.old (ask_group (λ k. Answer.Refused k) (equal_answer left right) arena.now (group_from group.now)) }
+    ensures { (result, answer.new) ≡ answer_in answer.old (ask_group (λ k. Err (refusal k)) (equal_answer left right) arena.now (group_from group.now)) }
 {
     galthumir::groups::galthumir_exprs_equal(arena, group, left, right, answer)
 }
@@ -109,7 +107,7 @@ pub extern "C" fn galthumir_is_expr_constant(
     expr: u32,
     answer: &mut [u32; 2],
 ) -> u32
-    ensures { (result, answer.new) ≡ constant_in answer.old (ask_group (λ k. ConstantIs.Refused k) (constant_answer expr) arena.now (group_from group.now)) }
+    ensures { (result, answer.new) ≡ constant_in answer.old (ask_group (λ k. Err (refusal k)) (constant_answer expr) arena.now (group_from group.now)) }
 {
     galthumir::groups::galthumir_is_expr_constant(arena, group, expr, answer)
 }

@@ -1,10 +1,9 @@
 // The calls on lists of orderings, exported to C.
-ghost use Rattle.std.specs.Prelude.{◌≡◌};
+ghost use Rattle.std.specs.Prelude.{◌≡◌, Err};
+ghost use Rattle.arena.specs.Refusals.{refusal};
 ghost use Rattle.arena.specs.Layout.{count};
 ghost use Rattle.orderings.specs.Calls.{list_number, ask_list, clear_answer};
 ghost use Rattle.ordering_questions.specs.Calls.{options_answer, partial_answer};
-ghost use Rattle.ordering_questions.specs.declared.OptionsAre.{OptionsAre};
-ghost use Rattle.ordering_questions.specs.declared.PartialIs.{PartialIs};
 ghost use Rattle.reduction.specs.Calls.{add_answer, new_answer, extend_answer};
 ghost use Rattle.ordering_joins.specs.Calls.{offset_answer, output_answer, join_answer};
 ghost use Rattle.states.specs.Orders.{orderings_from, stored_list};
@@ -70,7 +69,7 @@ pub extern "C" fn galthumir_get_options(
     expr: u32,
     answer: &mut [u32; 2],
 ) -> u32
-    ensures { (result, answer.new) ≡ options_in answer.old (ask_list (λ k. OptionsAre.Refused k) (options_answer (count arena.now) expr) arena.now (orderings_from orderings.now)) }
+    ensures { (result, answer.new) ≡ options_in answer.old (ask_list (λ k. Err (refusal k)) (options_answer (count arena.now) expr) arena.now (orderings_from orderings.now)) }
 {
     galthumir::orders::galthumir_get_options(arena, orderings, expr, answer)
 }
@@ -83,7 +82,7 @@ pub extern "C" fn galthumir_is_expr_partial_const(
     expr: u32,
     answer: &mut [u32; 1],
 ) -> u32
-    ensures { (result, answer.new) ≡ partial_in answer.old (ask_list (λ k. PartialIs.Refused k) (partial_answer (count arena.now) expr) arena.now (orderings_from orderings.now)) }
+    ensures { (result, answer.new) ≡ partial_in answer.old (ask_list (λ k. Err (refusal k)) (partial_answer (count arena.now) expr) arena.now (orderings_from orderings.now)) }
 {
     galthumir::orders::galthumir_is_expr_partial_const(arena, orderings, expr, answer)
 }

@@ -1,9 +1,8 @@
 -- The list of classes of a projection: where its members come from, that it is fair, and so what becomes of it is a group.
-use Rattle.std.specs.Prelude.{if◌then◌else◌}
+use Rattle.std.specs.Prelude.{if◌then◌else◌, Option, None, Some, Ok, Err}
 use Prim.Native.Nat.{ℕ, zero, suc, ◌+◌, ◌-◌, ◌<◌}
 use mathlib.Core.Bool.{Bool, true, false}
 use mathlib.Core.List.{List, [], ◌∷◌, ◌++◌}
-use mathlib.Core.Option.{Option, none, some}
 use mathlib.Core.Path.{◌≡◌, refl, sym, ap, ◌∙◌, subst}
 use native.Mathlib.Decide.{dec_lt}
 use native.Mathlib.Omega.{arith}
@@ -16,10 +15,9 @@ use Rattle.classes.specs.Class.{Class}
 use Rattle.classes.specs.Good.{flat}
 use Rattle.classes.specs.Steps.{fits}
 use Rattle.classes.specs.Layout.{fresh, encode, decode}
-use Rattle.classes.specs.Calls.{no_group}
+use Rattle.arena.specs.declared.Refusal.{Refusal}
 use Rattle.classes.specs.Inner.{Coded}
 use Rattle.classes.specs.declared.Group.{Group}
-use Rattle.classes.specs.declared.Changed.{Changed}
 use Rattle.classes.proofs.Places.{All, length-flat}
 use Rattle.classes.proofs.Codec.{at-padded, built-classes, members-is, used-is}
 use Rattle.conditions.proofs.ConstantLaws.{fits_both}
@@ -36,27 +34,27 @@ use Rattle.mappings.proofs.Targets.{targets-below, decode-length, decode-at}
 use Rattle.projection.specs.Inner.{answer_of, answers_in}
 use Rattle.projection_table.proofs.TableLaws.{none-some}
 use Rattle.group_projection.specs.Group.{there, projected_classes, targets_of, source_classes, telling, projected_list, new_constants, constants_said, projected_group}
-use Rattle.group_projection.specs.Inner.{listed, made_or_none, Made, Entries}
-use Rattle.group_projection.proofs.ListedLaws.{Lists, lists-coded, lists-classes, lists-list, answer-lists, answer-over}
+use Rattle.group_projection.specs.Inner.{Grouped, listed, made_or_none, Made, Entries}
+use Rattle.group_projection.proofs.ListedLaws.{Lists, lists-coded, lists-classes, lists-list, answer-lists, answer-over, answer-again, listed-over}
 use Rattle.group_projection.proofs.MadeGroups.{Within, within-made}
 
 -- ---- where the numbers come from, and that they are below a bound
 
 -- every number that there is is below n
 abbrev pub ThereBelow : ℕ → List (Option ℕ) → Type 0
-ThereBelow n ks = (k i : ℕ) → get_or ks k none ≡ some i → i < n
+ThereBelow n ks = (k i : ℕ) → get_or ks k None ≡ Some i → i < n
 
 -- every target is below n
 abbrev pub TargetsBelow : ℕ → List Mapped → Type 0
 TargetsBelow n ps = (i : ℕ) → i < length ps → AllBelow n (mapped_at ps i).targets
 
 -- a number that there is stands at some place
-pub there-place : (ks : List (Option ℕ)) (k : ℕ) → k < length (there ks) → (j : ℕ) × (j < length ks) × (get_or ks j none ≡ some (get_or (there ks) k 0))
+pub there-place : (ks : List (Option ℕ)) (k : ℕ) → k < length (there ks) → (j : ℕ) × (j < length ks) × (get_or ks j None ≡ Some (get_or (there ks) k 0))
 unfolding there
 there-place [] k l = absurd (omega arith)
-there-place (none ∷ ks) k l = let p = there-place ks k l in (suc p.0, omega (arith, p.1), p.2)
-there-place (some x ∷ ks) zero l = (0, omega arith, refl)
-there-place (some x ∷ ks) (suc k) l = let p = there-place ks k (omega arith) in (suc p.0, omega (arith, p.1), p.2)
+there-place (None ∷ ks) k l = let p = there-place ks k l in (suc p.0, omega (arith, p.1), p.2)
+there-place (Some x ∷ ks) zero l = (0, omega arith, refl)
+there-place (Some x ∷ ks) (suc k) l = let p = there-place ks k (omega arith) in (suc p.0, omega (arith, p.1), p.2)
 
 -- so it is below n where all are
 there-below : (n : ℕ) (ks : List (Option ℕ)) → ThereBelow n ks → AllBelow n (there ks)
@@ -67,12 +65,12 @@ there-take : (n m : ℕ) (ks : List (Option ℕ)) → ThereBelow n ks → ThereB
 there-take n m ks h k i e = go (dec_lt k m)
   where
     go : Dec (k < m) → i < n
-    go (yes l) = h k i (sym (get_or-take m ks k none l) ∙ e)
-    go (no l) = absurd (none-some (get_or-eq_default (take m ks) none {n = k} (omega (arith, length-take m ks))) e)
+    go (yes l) = h k i (sym (get_or-take m ks k None l) ∙ e)
+    go (no l) = absurd (none-some (get_or-eq_default (take m ks) None {n = k} (omega (arith, length-take m ks))) e)
 
 -- and those of the rest
 there-drop : (n m : ℕ) (ks : List (Option ℕ)) → ThereBelow n ks → ThereBelow n (drop m ks)
-there-drop n m ks h k i e = h (m + k) i (sym (get_or-drop m ks k none) ∙ e)
+there-drop n m ks h k i e = h (m + k) i (sym (get_or-drop m ks k None) ∙ e)
 
 -- a target of a source with the normal form j
 pub record TargetOf (j : ℕ) (js : List ℕ) (ps : List Mapped) (x : ℕ) : Type 0 where
@@ -167,7 +165,7 @@ list_fair_projected ns cs ps ks js h t =
 -- ---- by a table and a struct
 
 -- what an entry below n + 2 says is below n
-answer-below : (n x i : ℕ) → x < n + 2 → answer_of x ≡ some i → i < n
+answer-below : (n x i : ℕ) → x < n + 2 → answer_of x ≡ Some i → i < n
 unfolding answer_of
 answer-below n zero i l e = absurd (none-some refl e)
 answer-below n (suc zero) i l e = absurd (none-some refl e)
@@ -206,28 +204,30 @@ from-within ns cs f e =
     }
 
 module _ (ns : List Node) (cs : List Class) (ps : List Mapped) (ks : List (Option ℕ)) (js : List ℕ)
-    (list : Changed) (p : list ≡ listed (projected_list ns cs ps ks js)) where
+    (answer : Grouped) (p : answer ≡ listed (projected_list ns cs ps ks js)) where
   -- it exceeds the bounds
-  pub projected-over : (list.number ≡ 0 → ⊥) → (r : Changed) → r ≡ no_group 4 → r ≡ made_or_none (projected_group ns cs ps ks js)
+  pub projected-over : (why : Refusal) → answer ≡ Err why → ◌≡◌ {A = Grouped} (Err why) (made_or_none (projected_group ns cs ps ks js))
   unfolding made_or_none projected_group
-  projected-over n r e = e ∙ rw (answer-over list (projected_list ns cs ps ks js) p n)
+  projected-over why n =
+      let f = answer-over answer (projected_list ns cs ps ks js) p why n in
+      answer-again answer (projected_list ns cs ps ks js) p why n (projected_list ns cs ps ks js) f ∙ sym (listed-over (projected_list ns cs ps ks js) f) ∙ rw f
 
-  module _ (z : list.number ≡ 0) where
+  module _ (list : Group) (z : answer ≡ Ok list) where
     -- the list fits
-    lists : Lists list.group (projected_list ns cs ps ks js)
-    lists = answer-lists list (projected_list ns cs ps ks js) p z
+    lists : Lists list (projected_list ns cs ps ks js)
+    lists = answer-lists answer (projected_list ns cs ps ks js) p list z
 
     -- so it can reach `new`
-    pub list-coded : Coded list.group
-    list-coded = lists-coded list.group (projected_list ns cs ps ks js) lists
+    pub list-coded : Coded list
+    list-coded = lists-coded list (projected_list ns cs ps ks js) lists
 
-    module _ (out : Group) (q : out ≡ encode list.group.limit (from_classes (decode list.group))) where
+    module _ (out : Group) (q : out ≡ encode list.limit (from_classes (decode list))) where
       -- what comes of it
       out-is : out ≡ encode 256 (from_classes (projected_list ns cs ps ks js))
       out-is =
           q
-          ∙ ap (λ (n : ℕ). encode n (from_classes (decode list.group))) (lists-list list.group (projected_list ns cs ps ks js) lists).limit
-          ∙ ap (λ (ds : List Class). encode 256 (from_classes ds)) (lists-classes list.group (projected_list ns cs ps ks js) lists)
+          ∙ ap (λ (n : ℕ). encode n (from_classes (decode list))) (lists-list list (projected_list ns cs ps ks js) lists).limit
+          ∙ ap (λ (ds : List Class). encode 256 (from_classes ds)) (lists-classes list (projected_list ns cs ps ks js) lists)
 
       -- is a group
       pub projected-made : (n : ℕ) → n ≡ length ns → ThereBelow n ks → TargetsBelow n ps → Made ns out
@@ -236,7 +236,7 @@ module _ (ns : List Node) (cs : List Class) (ps : List Mapped) (ks : List (Optio
           (from-within ns (projected_list ns cs ps ks js) (list_fair_projected ns cs ps ks js (subst (λ (k : ℕ). ThereBelow k ks) e h) (subst (λ (k : ℕ). TargetsBelow k ps) e t)) lists.room)
 
       -- and then the constants are said
-      pub projected-done : (r : Changed) → r ≡ made_or_none (constants_said true ns (new_constants ns cs ps) (decode out)) → r ≡ made_or_none (projected_group ns cs ps ks js)
+      pub projected-done : (r : Grouped) → r ≡ made_or_none (constants_said true ns (new_constants ns cs ps) (decode out)) → r ≡ made_or_none (projected_group ns cs ps ks js)
       unfolding projected_group
       projected-done r e =
           e ∙ ap (λ (ds : List Class). made_or_none (constants_said true ns (new_constants ns cs ps) ds)) (built-classes 256 (from_classes (projected_list ns cs ps ks js)) out out-is)

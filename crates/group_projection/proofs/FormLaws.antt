@@ -1,4 +1,7 @@
 -- The walk over the sources' normal forms: how far the loop has come, and what is answered at its end.
+use Rattle.arena.specs.declared.Refusal.{Refusal}
+use Rattle.arena.specs.Refusals.{Added}
+use Rattle.std.specs.Prelude.{Err, Ok}
 use Prim.Native.Nat.{ℕ, ◌+◌, ◌<◌, ◌≤◌}
 use mathlib.Core.Bool.{true, false}
 use mathlib.Core.List.{List, [], ◌∷◌, ◌++◌, append-nil}
@@ -12,8 +15,6 @@ use Rattle.arena.specs.Expression.{Expression, Expressions, expressions, express
 use Rattle.arena.specs.Arena.{Extends, Placed, placed, and_then, add_expression, add_expressions}
 use Rattle.arena.specs.Layout.{decode as nodes}
 use Rattle.arena.specs.Inner.{Holds, told, Memo, Walked, map_all}
-use Rattle.arena.specs.declared.Added.{Added}
-use Rattle.arena.specs.declared.Added.TheVariants.{Number, Refused}
 use Rattle.arena.proofs.Nodes.{extends-none, extends-both, extends-longer}
 use Rattle.arena.proofs.Trees.{expression-kept}
 use Rattle.arena.proofs.Layouts.{length-decode}
@@ -108,7 +109,7 @@ module _ (old : ℕ) (firsts s : List ℕ) (m : Mapping) (d : FormsReady old fir
       goes_on = h.goes ∙ ap (prefixed (take k numbers)) (turn ∙ ap (λ (z : Placed ℕ). and_then z after) added)
 
       -- one more is done
-      pub forms-more : m.count ≤ 64 → (i : ℕ) → a ≡ Number i → FormedTo old firsts s m u memo₂ (set numbers k i) (k + 1)
+      pub forms-more : m.count ≤ 64 → (i : ℕ) → a ≡ Ok i → FormedTo old firsts s m u memo₂ (set numbers k i) (k + 1)
       unfolding told and_then
       forms-more few i q =
           let e : take k numbers ++ (i ∷ []) ≡ take (k + 1) (set numbers k i) = sym (rw add-one (take-suc-set numbers k i (omega (arith, h.long)))) in
@@ -124,7 +125,7 @@ module _ (old : ℕ) (firsts s : List ℕ) (m : Mapping) (d : FormsReady old fir
           }
 
       -- there was no room
-      pub forms-fail : (j : ℕ) → a ≡ Refused j → (js : List ℕ) → Formed old firsts s u exprs false js
+      pub forms-fail : (j : Refusal) → a ≡ Err j → (js : List ℕ) → Formed old firsts s u exprs false js
       unfolding told and_then prefixed
       forms-fail j q js =
           record {

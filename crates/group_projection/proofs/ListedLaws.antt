@@ -1,5 +1,5 @@
 -- Lists of classes as groups of limit 256: what fits, what an answer and a refusal say, and the classes that say something.
-use Rattle.std.specs.Prelude.{if◌then◌else◌}
+use Rattle.std.specs.Prelude.{if◌then◌else◌, Result, Ok, Err}
 use Prim.Native.Nat.{ℕ, ◌+◌, ◌<◌, ◌≤◌}
 use mathlib.Core.Bool.{Bool, true, false}
 use mathlib.Core.List.{List, [], ◌∷◌, ◌++◌, append-nil}
@@ -11,17 +11,17 @@ use Rattle.classes.specs.Class.{Class}
 use Rattle.classes.specs.Group.{class_at, total}
 use Rattle.classes.specs.Steps.{fits}
 use Rattle.classes.specs.Layout.{encode, decode}
-use Rattle.classes.specs.Calls.{no_group}
+use Rattle.arena.specs.declared.Refusal.{Refusal}
+use Rattle.arena.specs.declared.Refusal.TheVariants.{GroupFull}
+use Rattle.arena.proofs.Refusals.{ok-not-err}
 use Rattle.classes.specs.Inner.{Coded, Room}
 use Rattle.classes.specs.declared.Group.{Group}
-use Rattle.classes.specs.declared.Changed.{Changed}
 use Rattle.classes.proofs.Codec.{built-count, built-limit, built-classes, built-coded, length-decode, used-is, size_is}
 use Rattle.conditions.proofs.ConstantLaws.{fits_both, more-many, more-full, more_room}
 use Rattle.merging.specs.Extending.{is_trivial}
-use Rattle.merging.specs.Calls.{made_group}
 use Rattle.lent_classes.proofs.ListCounts.{total-append, fits-few, fits-small}
 use Rattle.group_projection.specs.Group.{telling}
-use Rattle.group_projection.specs.Inner.{listed, One, List256}
+use Rattle.group_projection.specs.Inner.{Grouped, listed, One, List256}
 
 -- ---- what fits
 
@@ -45,13 +45,13 @@ pub record Lists (g : Group) (cs : List Class) : Type 0 where
   pub room : fits 256 cs ≡ true
 
 -- where they fit, the group; else 4
-pub listed-fits : (cs : List Class) → fits 256 cs ≡ true → listed cs ≡ made_group cs
+pub listed-fits : (cs : List Class) → fits 256 cs ≡ true → listed cs ≡ Ok (encode 256 cs)
 unfolding listed
 listed-fits cs f = rw f
 
-pub listed-over : (cs : List Class) → fits 256 cs ≡ false → (r : Changed) → r ≡ no_group 4 → r ≡ listed cs
+pub listed-over : (cs : List Class) → fits 256 cs ≡ false → ◌≡◌ {A = Grouped} (Err GroupFull) (listed cs)
 unfolding listed
-listed-over cs f r q = q ∙ sym (let e : listed cs ≡ no_group 4 = rw f in e)
+listed-over cs f = rw f
 
 -- the same classes in other words
 pub lists_as : (g : Group) (cs ds : List Class) → cs ≡ ds → Lists g cs → Lists g ds
@@ -67,30 +67,39 @@ module _ (g : Group) (cs : List Class) (v : Lists g cs) where
   pub lists-list : List256 g
   lists-list = record { coded = lists-coded; limit = built-limit 256 cs g v.is }
 
-  pub lists-made : (r : Changed) → r ≡ made_group (decode g) → r ≡ listed cs
-  lists-made r q = q ∙ ap made_group lists-classes ∙ sym (listed-fits cs v.room)
+  pub lists-made : ◌≡◌ {A = Grouped} (Ok g) (listed cs)
+  lists-made = ap Ok v.is ∙ sym (listed-fits cs v.room)
 
 -- a group of one class
 pub lists-one : (g : Group) (c : Class) → Lists g (c ∷ []) → One g
 lists-one g c v = record { coded = lists-coded g (c ∷ []) v; limit = built-limit 256 (c ∷ []) g v.is; single = built-count 256 (c ∷ []) g v.is }
 
--- what an answer says, by its number
-module _ (r : Changed) (cs : List Class) (q : r ≡ listed cs) where
-  pub answer-lists : r.number ≡ 0 → Lists r.group cs
-  unfolding listed made_group no_group
-  answer-lists n = go (fits 256 cs) refl
-    where
-      go : (b : Bool) → fits 256 cs ≡ b → Lists r.group cs
-      go true f = record { is = ap (λ (c : Changed). c.group) (q ∙ listed-fits cs f); room = f }
-      go false f = absurd (let e : listed cs ≡ no_group 4 = rw f in omega (arith, n, ap (λ (c : Changed). c.number) (q ∙ e)))
+-- answers that are equal say one group, or are refused for one reason
+pub ok-same : (g h : Group) → ◌≡◌ {A = Grouped} (Ok g) (Ok h) → g ≡ h
+ok-same g h e = cc
 
-  pub answer-over : (r.number ≡ 0 → ⊥) → fits 256 cs ≡ false
-  unfolding listed made_group
-  answer-over n = go (fits 256 cs) refl
+pub err-same : {A : Type 0} (why other : Refusal) → ◌≡◌ {A = Result A Refusal} (Err why) (Err other) → why ≡ other
+err-same why other e = cc
+
+-- what an answer says
+module _ (r : Grouped) (cs : List Class) (q : r ≡ listed cs) where
+  pub answer-lists : (g : Group) → r ≡ Ok g → Lists g cs
+  answer-lists g n = go (fits 256 cs) refl
+    where
+      go : (b : Bool) → fits 256 cs ≡ b → Lists g cs
+      go true f = record { is = ok-same g (encode 256 cs) (sym n ∙ q ∙ listed-fits cs f); room = f }
+      go false f = absurd (ok-not-err (sym n ∙ q ∙ sym (listed-over cs f)))
+
+  pub answer-over : (why : Refusal) → r ≡ Err why → fits 256 cs ≡ false
+  answer-over why n = go (fits 256 cs) refl
     where
       go : (b : Bool) → fits 256 cs ≡ b → fits 256 cs ≡ false
-      go true f = absurd (n (ap (λ (c : Changed). c.number) (q ∙ listed-fits cs f)))
+      go true f = absurd (ok-not-err (sym (q ∙ listed-fits cs f) ∙ n))
       go false f = f
+
+  -- a longer list that does not fit is refused as this one was
+  pub answer-again : (why : Refusal) → r ≡ Err why → (ds : List Class) → fits 256 ds ≡ false → ◌≡◌ {A = Grouped} (Err why) (listed ds)
+  answer-again why n ds f = sym n ∙ q ∙ sym (listed-over cs (answer-over why n)) ∙ listed-over ds f
 
 -- ---- a group that came in
 
@@ -147,9 +156,9 @@ module _ (out one : Group) (v : List256 out) (w : One one) (b : Bool) (t : b ≡
   last = class_at (decode one) 0
 
   -- it says nothing
-  pub keep-not : b ≡ true → (r : Changed) → r ≡ made_group (decode out) → r ≡ listed (decode out ++ telling (last ∷ []))
-  keep-not h r q =
-      lists-made out (decode out) (list-lists out v) r q
+  pub keep-not : b ≡ true → ◌≡◌ {A = Grouped} (Ok out) (listed (decode out ++ telling (last ∷ [])))
+  keep-not h =
+      lists-made out (decode out) (list-lists out v)
       ∙ ap listed (sym (ap (λ (l : List Class). decode out ++ l) (telling-not last (sym t ∙ h)) ∙ append-nil (decode out)))
 
   -- it says something
@@ -157,15 +166,15 @@ module _ (out one : Group) (v : List256 out) (w : One one) (b : Bool) (t : b ≡
   kept h = ap (λ (l : List Class). decode out ++ l) (telling-one last (sym t ∙ h))
 
   -- there are 64 classes already
-  pub keep-many : b ≡ false → 64 ≤ out.count → (r : Changed) → r ≡ no_group 4 → r ≡ listed (decode out ++ telling (last ∷ []))
-  keep-many h m r q =
-      listed-over (decode out ++ (last ∷ [])) (subst (λ (l : ℕ). fits l (decode out ++ (last ∷ [])) ≡ false) v.limit (more-many out v.coded last m)) r q
+  pub keep-many : b ≡ false → 64 ≤ out.count → ◌≡◌ {A = Grouped} (Err GroupFull) (listed (decode out ++ telling (last ∷ [])))
+  keep-many h m =
+      listed-over (decode out ++ (last ∷ [])) (subst (λ (l : ℕ). fits l (decode out ++ (last ∷ [])) ≡ false) v.limit (more-many out v.coded last m))
       ∙ ap listed (sym (kept h))
 
   -- there are too many members
-  pub keep-full : b ≡ false → 256 < out.used + one.used → (r : Changed) → r ≡ no_group 4 → r ≡ listed (decode out ++ telling (last ∷ []))
-  keep-full h m r q =
-      listed-over (decode out ++ (last ∷ [])) (subst (λ (l : ℕ). fits l (decode out ++ (last ∷ [])) ≡ false) v.limit (more-full out v.coded last (omega (arith, v.limit, one-used one w)))) r q
+  pub keep-full : b ≡ false → 256 < out.used + one.used → ◌≡◌ {A = Grouped} (Err GroupFull) (listed (decode out ++ telling (last ∷ [])))
+  keep-full h m =
+      listed-over (decode out ++ (last ∷ [])) (subst (λ (l : ℕ). fits l (decode out ++ (last ∷ [])) ≡ false) v.limit (more-full out v.coded last (omega (arith, v.limit, one-used one w))))
       ∙ ap listed (sym (kept h))
 
   -- there is room
@@ -179,8 +188,5 @@ module _ (out one : Group) (v : List256 out) (w : One one) (b : Bool) (t : b ≡
       room = subst (λ (l : ℕ). fits l (decode out ++ (last ∷ [])) ≡ true) v.limit (more_room out v.coded last few (omega (arith, v.limit, one-used one w)));
     }
 
-    pub keep-coded : (r : Group) → r ≡ encode out.limit (decode out ++ (last ∷ [])) → Coded r
-    keep-coded r q = lists-coded r (decode out ++ (last ∷ [])) (keep-lists r q)
-
-    pub keep-made : b ≡ false → (r : Group) → r ≡ encode out.limit (decode out ++ (last ∷ [])) → (s : Changed) → s ≡ made_group (decode r) → s ≡ listed (decode out ++ telling (last ∷ []))
-    keep-made h r q s p = lists-made r (decode out ++ (last ∷ [])) (keep-lists r q) s p ∙ ap listed (sym (kept h))
+    pub keep-made : b ≡ false → (r : Group) → r ≡ encode out.limit (decode out ++ (last ∷ [])) → ◌≡◌ {A = Grouped} (Ok r) (listed (decode out ++ telling (last ∷ [])))
+    keep-made h r q = lists-made r (decode out ++ (last ∷ [])) (keep-lists r q) ∙ ap listed (sym (kept h))

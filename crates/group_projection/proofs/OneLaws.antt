@@ -1,4 +1,5 @@
 -- A class that expressions are pushed to: how many members it has, and as a group of one class.
+use Rattle.std.specs.Prelude.{Ok, Err}
 use Prim.Native.Nat.{ℕ, ◌+◌, ◌-◌, ◌<◌, ◌≤◌}
 use mathlib.Core.Bool.{Bool, true, false}
 use mathlib.Core.List.{List, [], ◌∷◌, ◌++◌}
@@ -9,16 +10,16 @@ use Rattle.arena.specs.Node.{Node, node_at}
 use Rattle.classes.specs.Class.{Class, carried, single, merged}
 use Rattle.classes.specs.Group.{among, class_at, total, merged_at, constant_at}
 use Rattle.classes.specs.Steps.{fits}
-use Rattle.classes.specs.Layout.{constant_from, encode, decode}
-use Rattle.classes.specs.Calls.{no_group}
-use Rattle.classes.specs.Inner.{Coded, mark_of}
+use Rattle.classes.specs.Layout.{encode, decode}
+use Rattle.arena.specs.declared.Refusal.{Refusal}
+use Rattle.arena.specs.declared.Refusal.TheVariants.{GroupFull}
+use Rattle.classes.specs.Inner.{Coded}
 use Rattle.classes.specs.declared.Group.{Group}
-use Rattle.classes.specs.declared.Changed.{Changed}
-use Rattle.classes.specs.declared.Mark.{Mark}
+use Rattle.classes.specs.declared.Constant.{Constant}
 use Rattle.conditions.proofs.ConstantLaws.{fits-full, fits_both}
 use Rattle.merging.specs.Extending.{without, missing, extended, pushed, pushed_all}
 use Rattle.merging.proofs.Missing.{without-length, without-held, without-new, push-held}
-use Rattle.group_projection.specs.Inner.{listed, One}
+use Rattle.group_projection.specs.Inner.{Grouped, listed, One}
 use Rattle.group_projection.proofs.ListedLaws.{Lists, lists-classes, one-lists, one-used, listed-over, over-larger, answer-lists, answer-over}
 
 -- ---- how many members it has
@@ -82,7 +83,7 @@ module _ (ns : List Node) (one : Group) (v : One one) (e : ℕ) where
 
   module _ (b : Bool) (t : b ≡ among e only.members) where
     -- the class has it: it gives its constant
-    pub held-lists : b ≡ true → (m : Mark) (r : Group) → m ≡ mark_of (carried (node_at ns e)) → r ≡ encode one.limit (constant_at (decode one) 0 (constant_from m.flavour m.value)) → Lists r (pushed ns only e ∷ [])
+    pub held-lists : b ≡ true → (m : Constant) (r : Group) → m ≡ carried (node_at ns e) → r ≡ encode one.limit (constant_at (decode one) 0 m) → Lists r (pushed ns only e ∷ [])
     unfolding total
     held-lists h m r p q = record {
       is = pushed-is 0 refl r (push-held ns one 0 e b t h m r p q);
@@ -91,27 +92,27 @@ module _ (ns : List Node) (one : Group) (v : One one) (e : ℕ) where
     }
 
     -- there is no room for it
-    pub new-over : b ≡ false → 256 ≤ one.used → (r : Changed) → r ≡ no_group 4 → r ≡ listed (pushed ns only e ∷ [])
+    pub new-over : b ≡ false → 256 ≤ one.used → ◌≡◌ {A = Grouped} (Err GroupFull) (listed (pushed ns only e ∷ []))
     unfolding total
-    new-over h l r q =
+    new-over h l =
         listed-over (pushed ns only e ∷ [])
-        (fits-full 256 (pushed ns only e ∷ []) (omega (arith, pushed-length ns only e, ap (λ (l : List ℕ). length l) (without-new only.members e (sym t ∙ h)), one-used one v))) r q
+        (fits-full 256 (pushed ns only e ∷ []) (omega (arith, pushed-length ns only e, ap (λ (l : List ℕ). length l) (without-new only.members e (sym t ∙ h)), one-used one v)))
 
 -- ---- expressions pushed in parts, with the answer of each part
 
 -- ts are pushed to the class c, then us to what that came to
-module _ (ns : List Node) (c : Class) (ts us : List ℕ) (one : Group) (o : Lists one (pushed_all ns c ts ∷ [])) (s : Changed) (q : s ≡ listed (pushed_all ns (class_at (decode one) 0) us ∷ [])) where
+module _ (ns : List Node) (c : Class) (ts us : List ℕ) (one : Group) (o : Lists one (pushed_all ns c ts ∷ [])) (s : Grouped) (q : s ≡ listed (pushed_all ns (class_at (decode one) 0) us ∷ [])) where
   both : s ≡ listed (pushed_all ns c (ts ++ us) ∷ [])
   both =
       q ∙ ap (λ (cs : List Class). listed (pushed_all ns (class_at cs 0) us ∷ [])) (lists-classes one (pushed_all ns c ts ∷ []) o)
       ∙ ap (λ (d : Class). listed (d ∷ [])) (sym (pushed-append ns c ts us))
 
   -- they fit
-  pub part-lists : s.number ≡ 0 → Lists s.group (pushed_all ns c (ts ++ us) ∷ [])
-  part-lists n = answer-lists s (pushed_all ns c (ts ++ us) ∷ []) both n
+  pub part-lists : (h : Group) → s ≡ Ok h → Lists h (pushed_all ns c (ts ++ us) ∷ [])
+  part-lists = answer-lists s (pushed_all ns c (ts ++ us) ∷ []) both
 
   -- they don't, nor do they with more after them
-  pub part-over : (s.number ≡ 0 → ⊥) → (ws : List ℕ) → fits 256 (pushed_all ns c (ts ++ us ++ ws) ∷ []) ≡ false
-  part-over n ws =
+  pub part-over : (why : Refusal) → s ≡ Err why → (ws : List ℕ) → fits 256 (pushed_all ns c (ts ++ us ++ ws) ∷ []) ≡ false
+  part-over why n ws =
       ap (λ (d : Class). fits 256 (d ∷ [])) (pushed-append ns c (ts ++ us) ws)
-      ∙ pushed-over ns (pushed_all ns c (ts ++ us)) ws (answer-over s (pushed_all ns c (ts ++ us) ∷ []) both n)
+      ∙ pushed-over ns (pushed_all ns c (ts ++ us)) ws (answer-over s (pushed_all ns c (ts ++ us) ∷ []) both why n)

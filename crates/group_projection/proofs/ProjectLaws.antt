@@ -1,14 +1,16 @@
 -- The projection of a group, step by step: the members' projections, the sources' normal forms over the grown arena, the group made of both, what the caller is told, and the call by its tests.
-use Rattle.std.specs.Prelude.{if◌then◌else◌}
+use Rattle.std.specs.Prelude.{if◌then◌else◌, Option, None, Some, Ok, Err}
 use Prim.Native.Nat.{ℕ, zero, suc, ◌+◌, ◌-◌, ◌<◌, ◌≤◌}
 use mathlib.Core.Bool.{Bool, true, false}
 use mathlib.Core.List.{List}
-use mathlib.Core.Option.{Option, none, some}
 use mathlib.Core.Path.{◌≡◌, sym, ap, ap₂, ◌∙◌, subst}
 use native.Mathlib.Omega.{arith}
-use borrow.Author.Tests.{eq-eqb, ne_eqb}
 use lib.ListN.{length, get_or, take, replicate}
 use lib.Seq.{take_all, take-append-le}
+use Rattle.arena.specs.declared.Refusal.{Refusal}
+use Rattle.arena.specs.declared.Refusal.TheVariants.{ArenaFull, GroupFull}
+use Rattle.arena.specs.Refusals.{refusal, outcome}
+use Rattle.arena.proofs.Refusals.{ok-not-err, ok-zero, err-refusal}
 use Rattle.arena.specs.Node.{Node}
 use Rattle.arena.specs.Expression.{Expression, Expressions, those, expressions}
 use Rattle.arena.specs.Arena.{Extends, Placed, placed, full, and_then, add_expressions}
@@ -20,8 +22,7 @@ use Rattle.arena.proofs.Trees.{those_cong, expression-kept}
 use Rattle.arena.proofs.Layouts.{length-decode, coded-cells}
 use Rattle.classes.specs.Class.{Class}
 use Rattle.classes.specs.Good.{flat}
-use Rattle.classes.specs.Layout.{decode, padded}
-use Rattle.classes.specs.Calls.{no_group}
+use Rattle.classes.specs.Layout.{encode, decode, padded}
 use Rattle.classes.specs.Inner.{Coded, Held}
 use Rattle.classes.specs.declared.Group.{Group}
 use Rattle.classes.specs.declared.Changed.{Changed}
@@ -47,7 +48,8 @@ use Rattle.projection_table.proofs.Sources.{checked-wider}
 use Rattle.projection.proofs.Written.{list-ready}
 use Rattle.group_projection.specs.Group.{projected_numbers, projected_group}
 use Rattle.group_projection.specs.Calls.{project_placed, project_by, project_answer}
-use Rattle.group_projection.specs.Inner.{made_or_none, Entries, FormsReady, Formed, ProjectedOver}
+use Rattle.group_projection.specs.Inner.{Grouped, made_or_none, Entries, FormsReady, Formed, ProjectedOver}
+use Rattle.group_projection.proofs.ListedLaws.{ok-same, err-same}
 use Rattle.group_projection.proofs.FairProjected.{member-at}
 
 -- ---- what is given
@@ -77,40 +79,44 @@ says-below os xs ns e (suc (suc i)) h = omega (arith, h.0)
 
 -- ---- what the caller is told
 
+-- a group that was made, as it is handed on
+abbrev handed : Group → Changed
+handed h = record { answer = Ok true; group = h }
+
 -- the group that was made, or 4
-told-made : (s u : List ℕ) (g : Group) (ps : List Mapped) (r : Changed) → Holds u → (o : Option (List Class)) → r ≡ made_or_none o → project_by ps g (nodes s) ≡ made_or_refused g (nodes s) (nodes u) o → ProjectedOver s u g ps r
-unfolding made_or_none made_or_refused refused_group made_group no_group
-told-made s u g ps r h (some cs) x y = record {
+told-made : (s u : List ℕ) (g : Group) (ps : List Mapped) (r : Grouped) → Holds u → (o : Option (List Class)) → r ≡ made_or_none o → project_by ps g (nodes s) ≡ made_or_refused g (nodes s) (nodes u) o → ProjectedOver s u g ps r
+unfolding made_or_none made_or_refused refused_group made_group refusal
+told-made s u g ps r h (Some cs) x y = record {
   holds = h;
-  done = λ z. ap (λ (c : Changed). (c, nodes u)) x ∙ sym y;
-  refused = λ z. absurd (z (ap (λ (c : Changed). c.number) x));
+  done = λ b z. ap (λ (c : Group). (handed c, nodes u)) (ok-same b (encode 256 cs) (sym z ∙ x)) ∙ sym y;
+  refused = λ why z. absurd (ok-not-err (sym x ∙ z));
 }
-told-made s u g ps r h none x y = record {
+told-made s u g ps r h None x y = record {
   holds = h;
-  done = λ z. absurd (let n = ap (λ (c : Changed). c.number) x in omega (arith, n, z));
-  refused = λ z. ap (λ (n : ℕ). (handed_back n g, nodes s)) (ap (λ (c : Changed). c.number) x) ∙ sym y;
+  done = λ b z. absurd (ok-not-err (sym z ∙ x));
+  refused = λ why z. ap (λ (w : Refusal). (handed_back w g, nodes s)) (err-same why GroupFull (sym z ∙ x)) ∙ sym y;
 }
 
 -- there was no room: 3
-told-full : (s u : List ℕ) (g : Group) (ps : List Mapped) (r : Changed) → Holds u → r ≡ no_group 3 → projected_numbers (nodes s) (decode g) ps ≡ full → ProjectedOver s u g ps r
-unfolding no_group project_by project_placed refused_group
-told-full s u g ps r h x y = record {
+told-full : (s u : List ℕ) (g : Group) (ps : List Mapped) → Holds u → projected_numbers (nodes s) (decode g) ps ≡ full → ProjectedOver s u g ps (Err ArenaFull)
+unfolding project_by project_placed refused_group refusal
+told-full s u g ps h y = record {
   holds = h;
-  done = λ z. absurd (let n = ap (λ (c : Changed). c.number) x in omega (arith, n, z));
-  refused = λ z. ap (λ (n : ℕ). (handed_back n g, nodes s)) (ap (λ (c : Changed). c.number) x) ∙ sym (ap (project_placed ps g (nodes s)) y);
+  done = λ b z. absurd (ok-not-err (sym z));
+  refused = λ why z. ap (λ (w : Refusal). (handed_back w g, nodes s)) (err-same why ArenaFull (sym z)) ∙ sym (ap (project_placed ps g (nodes s)) y);
 }
 
 -- the outcome of the projection is handed on
-pub over_done : (s t : List ℕ) (g : Group) (ps : List Mapped) (r : Changed) → ProjectedOver s t g ps r → r.number ≡ 0 → ◌≡◌ {A = Changed × List ℕ} (r, t) (in_cells (project_by ps g (nodes s)))
+pub over_done : (s t : List ℕ) (g : Group) (ps : List Mapped) (r : Grouped) → ProjectedOver s t g ps r → (h : Group) → r ≡ Ok h → ◌≡◌ {A = Changed × List ℕ} (handed h, t) (in_cells (project_by ps g (nodes s)))
 unfolding in_cells
-over_done s t g ps r o z = ap (λ (c : List ℕ). (r, c)) (sym (coded-cells t o.holds)) ∙ ap in_cells (o.done z)
+over_done s t g ps r o h z = ap (λ (c : List ℕ). (handed h, c)) (sym (coded-cells t o.holds)) ∙ ap in_cells (o.done h z)
 
 -- a refusal: the group and the cells as they were
-pub over-refused : (s t : List ℕ) → Holds s → (g : Group) (ps : List Mapped) (r : Changed) → ProjectedOver s t g ps r → (r.number ≡ 0 → ⊥)
-    → (back : Changed) → (back.number ≡ r.number) × ((back.answer ≡ false) × (back.group ≡ g)) → ◌≡◌ {A = Changed × List ℕ} (back, s) (in_cells (project_by ps g (nodes s)))
+pub over-refused : (s t : List ℕ) → Holds s → (g : Group) (ps : List Mapped) (r : Grouped) → ProjectedOver s t g ps r → (why : Refusal) → r ≡ Err why
+    → (back : Changed) → (back.answer ≡ Err why) × (back.group ≡ g) → ◌≡◌ {A = Changed × List ℕ} (back, s) (in_cells (project_by ps g (nodes s)))
 unfolding in_cells
-over-refused s t h g ps r o z back q =
-    ap₂ {C = Changed × List ℕ} (λ (b : Changed) (c : List ℕ). (b, c)) (refusal_is back r.number g q) (sym (coded-cells s h)) ∙ ap in_cells (o.refused z)
+over-refused s t h g ps r o why z back q =
+    ap₂ {C = Changed × List ℕ} (λ (b : Changed) (c : List ℕ). (b, c)) (refusal_is back why g q) (sym (coded-cells s h)) ∙ ap in_cells (o.refused why z)
 
 -- ---- the projection, over what is checked already
 
@@ -147,9 +153,9 @@ module _ (s : List ℕ) (g : Group) (m : Mapping) (pre : (Holds s × Held (nodes
       members-told b q = sym added.is ∙ ap (λ (c : Bool). told_answers c (answers_in table' (flat (decode g))) (nodes t)) q
 
       -- there was no room
-      pub walk-full : ok ≡ false → (r : Changed) → r ≡ no_group 3 → ProjectedOver s t g (mapping m) r
+      pub walk-full : ok ≡ false → ProjectedOver s t g (mapping m) (Err ArenaFull)
       unfolding told_answers projected_numbers and_then
-      walk-full z r q = told-full s t g (mapping m) r w.holds q (rw (members-told false z))
+      walk-full z = told-full s t g (mapping m) w.holds (rw (members-told false z))
 
       module _ (yes : ok ≡ true) where
         -- the sources' normal forms can be walked
@@ -209,30 +215,27 @@ module _ (s : List ℕ) (g : Group) (m : Mapping) (pre : (Holds s × Held (nodes
           pub group-ready : ((Holds u × Checked (count u) m) × Held (nodes u) g) × Entries (count u) table' g.members g.used
           group-ready = (((f.holds, checked-wider (count s) (count u) m pre.1 longer), held-extended g extended held), entries)
 
-          module _ (r : Changed) where
-            -- there was no room
-            pub forms-full : fits ≡ false → r ≡ no_group 3 → ProjectedOver s u g (mapping m) r
-            unfolding and_then
-            forms-full z q = told-full s u g (mapping m) r f.holds q (numbers-told ∙ rw z)
+          -- there was no room
+          pub forms-full : fits ≡ false → ProjectedOver s u g (mapping m) (Err ArenaFull)
+          unfolding and_then
+          forms-full z = told-full s u g (mapping m) f.holds (numbers-told ∙ rw z)
 
-            -- the group was made, or exceeds the bounds
-            pub group-made : fits ≡ true → r ≡ made_or_none (projected_group (nodes u) (decode g) (mapping m) (answers_in table' (flat (decode g))) js) → ProjectedOver s u g (mapping m) r
-            unfolding and_then project_by project_placed
-            group-made z q =
-                let n : projected_numbers (nodes s) (decode g) (mapping m) ≡ placed (answers_in table' (flat (decode g)), js) (nodes u) = numbers-told ∙ rw z in
-                told-made s u g (mapping m) r f.holds (projected_group (nodes u) (decode g) (mapping m) (answers_in table' (flat (decode g))) js) q (ap (project_placed (mapping m) g (nodes s)) n)
+          -- the group was made, or exceeds the bounds
+          pub group-made : (r : Grouped) → fits ≡ true → r ≡ made_or_none (projected_group (nodes u) (decode g) (mapping m) (answers_in table' (flat (decode g))) js) → ProjectedOver s u g (mapping m) r
+          unfolding and_then project_by project_placed
+          group-made r z q =
+              let n : projected_numbers (nodes s) (decode g) (mapping m) ≡ placed (answers_in table' (flat (decode g)), js) (nodes u) = numbers-told ∙ rw z in
+              told-made s u g (mapping m) r f.holds (projected_group (nodes u) (decode g) (mapping m) (answers_in table' (flat (decode g))) js) q (ap (project_placed (mapping m) g (nodes s)) n)
 
 -- ---- the call
 
 module _ (cells : List ℕ) (g : Group) (numbers : List ℕ) where
   -- the check refuses
-  pub call-refused : (k : ℕ) → k ≡ project_number cells g numbers → (k ≡ 0 → ⊥) → (r : Changed) → (r.number ≡ k) × ((r.answer ≡ false) × (r.group ≡ g)) → ◌≡◌ {A = Changed × List ℕ} (r, cells) (project_answer cells g numbers)
+  pub call-refused : (why : Refusal) → outcome (project_number cells g numbers) ≡ Err why → (r : Changed) → (r.answer ≡ Err why) × (r.group ≡ g) → ◌≡◌ {A = Changed × List ℕ} (r, cells) (project_answer cells g numbers)
   unfolding project_answer
-  call-refused k e z r q =
-      ap (λ (c : Changed). (c, cells)) (refusal_is r k g q) ∙ ap (λ (n : ℕ). (handed_back n g, cells)) e
-      ∙ rw (ne_eqb (project_number cells g numbers) 0 (λ n. z (e ∙ n)))
+  call-refused why n r q = let e = err-refusal _ why n in ap (λ (c : Changed). (c, cells)) (refusal_is r why g q) ∙ rw (e.0, e.1)
 
   -- it lets the call pass
-  pub call-done : project_number cells g numbers ≡ 0 → (ps : List Mapped) → ps ≡ mapping_lent numbers → (o : Changed × List ℕ) → o ≡ in_cells (project_by ps g (nodes cells)) → o ≡ project_answer cells g numbers
+  pub call-done : outcome (project_number cells g numbers) ≡ Ok tt → (ps : List Mapped) → ps ≡ mapping_lent numbers → (o : Changed × List ℕ) → o ≡ in_cells (project_by ps g (nodes cells)) → o ≡ project_answer cells g numbers
   unfolding project_answer
-  call-done z ps e o q = q ∙ ap (λ (l : List Mapped). in_cells (project_by l g (nodes cells))) e ∙ rw (eq-eqb (project_number cells g numbers) 0 z)
+  call-done z ps e o q = q ∙ ap (λ (l : List Mapped). in_cells (project_by l g (nodes cells))) e ∙ rw (ok-zero _ z)

@@ -1,7 +1,7 @@
 -- The classes of the members' projections, part by part: member by member, and class by class.
 use Prim.Native.Nat.{ℕ, zero, suc, ◌+◌, ◌-◌, ◌<◌, ◌≤◌}
 use mathlib.Core.List.{List, [], ◌∷◌, ◌++◌, map}
-use mathlib.Core.Option.{Option, none, some}
+use Rattle.std.specs.Prelude.{Option, None, Some, Ok, Err}
 use mathlib.Core.Path.{◌≡◌, refl, sym, ap, ap₂, ◌∙◌, subst}
 use native.Mathlib.Numerals.{add-one}
 use native.Mathlib.Omega.{arith}
@@ -12,11 +12,11 @@ use Rattle.classes.specs.Class.{Class, single}
 use Rattle.classes.specs.Group.{class_at, total, merged_at}
 use Rattle.classes.specs.Good.{flat}
 use Rattle.classes.specs.Steps.{fits}
-use Rattle.classes.specs.Layout.{constant_from, padded, encode, decode}
-use Rattle.classes.specs.Calls.{no_group}
+use Rattle.classes.specs.declared.Constant.TheVariants.{NoConstant}
+use Rattle.classes.specs.Layout.{padded, encode, decode}
+use Rattle.arena.specs.declared.Refusal.{Refusal}
 use Rattle.classes.specs.Inner.{Coded}
 use Rattle.classes.specs.declared.Group.{Group}
-use Rattle.classes.specs.declared.Changed.{Changed}
 use Rattle.classes.proofs.Places.{nothing, length-flat}
 use Rattle.classes.proofs.Codec.{length-decode, used-is, members-is, total-take, total-front}
 use Rattle.conditions.proofs.ConstantLaws.{fits_both}
@@ -25,8 +25,8 @@ use Rattle.merging.proofs.PushedClass.{class-few}
 use Rattle.projection.specs.Inner.{answer_of, answers_in}
 use Rattle.projection.proofs.ListLaws.{answers-more}
 use Rattle.group_projection.specs.Group.{there, projected_classes, telling}
-use Rattle.group_projection.specs.Inner.{listed, One, List256, Entries}
-use Rattle.group_projection.proofs.ListedLaws.{Lists, lists_as, lists-one, lists-list, lists-classes, one-lists, one-used, listed-over, over-more, answer-lists, answer-over, telling-append}
+use Rattle.group_projection.specs.Inner.{Grouped, listed, One, List256, Entries}
+use Rattle.group_projection.proofs.ListedLaws.{Lists, lists_as, lists-one, lists-list, lists-classes, one-lists, one-used, over-more, answer-lists, answer-over, answer-again, telling-append}
 use Rattle.group_projection.proofs.OneLaws.{pushed-append, pushed-one, push-is}
 
 -- ---- an entry of the table
@@ -65,15 +65,15 @@ module _ (ns : List Node) (one : Group) (v : One one) (entry : ℕ) where
 there-append : (xs ys : List (Option ℕ)) → there (xs ++ ys) ≡ there xs ++ there ys
 unfolding there
 there-append [] ys = refl
-there-append (none ∷ xs) ys = there-append xs ys
-there-append (some k ∷ xs) ys = ap (λ (t : List ℕ). k ∷ t) (there-append xs ys)
+there-append (None ∷ xs) ys = there-append xs ys
+there-append (Some k ∷ xs) ys = ap (λ (t : List ℕ). k ∷ t) (there-append xs ys)
 
 -- are no more than all
 there-few : (xs : List (Option ℕ)) → length (there xs) ≤ length xs
 unfolding there
 there-few [] = omega arith
-there-few (none ∷ xs) = omega (arith, there-few xs)
-there-few (some k ∷ xs) = omega (arith, there-few xs)
+there-few (None ∷ xs) = omega (arith, there-few xs)
+there-few (Some k ∷ xs) = omega (arith, there-few xs)
 
 -- the class of the projections of members
 abbrev pub class_of_members : List Node → List ℕ → List ℕ → Class
@@ -90,8 +90,8 @@ module _ (ns : List Node) (entries es : List ℕ) where
       omega (arith, class-few ns (there (answers_in entries (take k es))), there-few (answers_in entries (take k es)), length-map (take k es) (λ (e : ℕ). answer_of (get_or entries e 0)), length-take-le k es l)
 
   -- none yet
-  pub members-begin : (one : Group) → one ≡ encode 256 (record { members = []; constant = constant_from 0 0 } ∷ []) → MembersTo ns entries es 0 one
-  unfolding class_from pushed_all there constant_from
+  pub members-begin : (one : Group) → one ≡ encode 256 (record { members = []; constant = NoConstant } ∷ []) → MembersTo ns entries es 0 one
+  unfolding class_from pushed_all there
   members-begin one q = q
 
   -- all of them
@@ -246,18 +246,18 @@ module _ (ns : List Node) (entries : List ℕ) (g : Group) where
       pub front-asks : List256 out × One one
       front-asks = (lists-list out (front_telling ns entries g j) o, lists-one one (class_of_members ns entries es) (members-one ns entries es part-few one p))
 
-      module _ (r : Changed) (q : r ≡ listed (decode out ++ telling (class_at (decode one) 0 ∷ []))) where
+      module _ (r : Grouped) (q : r ≡ listed (decode out ++ telling (class_at (decode one) 0 ∷ []))) where
         front-is : r ≡ listed (front_telling ns entries g (j + 1))
         front-is =
-            q ∙ ap₂ {C = Changed} (λ (cs : List Class) (ds : List Class). listed (cs ++ telling (class_at ds 0 ∷ []))) (lists-classes out (front_telling ns entries g j) o) (lists-classes one (class_of_members ns entries es ∷ []) (members-one ns entries es part-few one p))
+            q ∙ ap₂ {C = Grouped} (λ (cs : List Class) (ds : List Class). listed (cs ++ telling (class_at ds 0 ∷ []))) (lists-classes out (front_telling ns entries g j) o) (lists-classes one (class_of_members ns entries es ∷ []) (members-one ns entries es part-few one p))
             ∙ ap listed (sym front-next)
 
         -- it was kept
-        pub front-more : r.number ≡ 0 → Lists r.group (front_telling ns entries g (j + 1))
-        front-more n = answer-lists r (front_telling ns entries g (j + 1)) front-is n
+        pub front-more : (h : Group) → r ≡ Ok h → Lists h (front_telling ns entries g (j + 1))
+        front-more = answer-lists r (front_telling ns entries g (j + 1)) front-is
 
         -- there was no room for it, nor is there for all
-        pub front-over : (r.number ≡ 0 → ⊥) → (t : Changed) → t ≡ no_group 4 → t ≡ listed (all_telling ns entries g)
-        front-over n t x =
-            listed-over (all_telling ns entries g)
-            (ap (fits 256) front_rest ∙ over-more (front_telling ns entries g (j + 1)) (telling (projected_classes ns (drop (j + 1) (decode g)) (drop (total (take (j + 1) (decode g))) (answers_in entries (flat (decode g)))))) (answer-over r (front_telling ns entries g (j + 1)) front-is n)) t x
+        pub front-over : (why : Refusal) → r ≡ Err why → ◌≡◌ {A = Grouped} (Err why) (listed (all_telling ns entries g))
+        front-over why n =
+            answer-again r (front_telling ns entries g (j + 1)) front-is why n (all_telling ns entries g)
+            (ap (fits 256) front_rest ∙ over-more (front_telling ns entries g (j + 1)) (telling (projected_classes ns (drop (j + 1) (decode g)) (drop (total (take (j + 1) (decode g))) (answers_in entries (flat (decode g)))))) (answer-over r (front_telling ns entries g (j + 1)) front-is why n))

@@ -1,5 +1,5 @@
 -- The classes of the sources' targets, part by part: source by source, and normal form by normal form.
-use Rattle.std.specs.Prelude.{if◌then◌else◌}
+use Rattle.std.specs.Prelude.{if◌then◌else◌, Ok, Err}
 use Prim.Native.Nat.{ℕ, zero, suc, ◌+◌, ◌<◌, ◌≤◌}
 use mathlib.Core.Bool.{Bool, true, false, not, ◌||◌, ◌&&◌}
 use mathlib.Core.List.{List, [], ◌∷◌, ◌++◌, append-nil, append_assoc}
@@ -7,28 +7,27 @@ use mathlib.Core.Path.{◌≡◌, refl, sym, ap, ap₂, ◌∙◌, subst}
 use native.Mathlib.Decide.{dec_lt, ℕ_discrete}
 use native.Mathlib.Numerals.{add-one}
 use native.Mathlib.Omega.{arith}
-use borrow.Author.Tests.{ne_eqb, eq-eqb}
+use borrow.Author.Tests.{ne_eqb}
 use lib.Dec.{eqb}
 use lib.ListN.{length, get_or, take, drop, take-append-drop}
 use lib.Seq.{take-suc, take_all, drop-cons, length-take-le, get_or-take}
 use Rattle.laws.specs.Tests.{each}
 use Rattle.laws.specs.Lists.{table}
 use Rattle.laws.proofs.Booleans.{true_not_false}
-use Rattle.laws.proofs.Each.{each_none, each_more, each-stops, each-ends}
+use Rattle.laws.proofs.Each.{each_cong}
 use Rattle.laws.proofs.Table.{length-table, get_or-table, table_is}
 use Rattle.arena.specs.Node.{Node}
 use Rattle.classes.specs.Class.{Class, is_constant}
 use Rattle.classes.specs.Group.{class_at, total}
 use Rattle.classes.specs.Good.{flat}
 use Rattle.classes.specs.Steps.{fits}
-use Rattle.classes.specs.Layout.{constant_from, encode, decode, fresh}
-use Rattle.classes.specs.Calls.{no_group}
+use Rattle.classes.specs.declared.Constant.TheVariants.{NoConstant}
+use Rattle.classes.specs.Layout.{encode, decode, fresh}
+use Rattle.arena.specs.declared.Refusal.{Refusal}
 use Rattle.classes.specs.declared.Group.{Group}
-use Rattle.classes.specs.declared.Changed.{Changed}
 use Rattle.classes.proofs.Places.{nothing, total-more, length_more}
 use Rattle.conditions.proofs.ConstantLaws.{fits_both}
 use Rattle.merging.specs.Extending.{pushed, pushed_all, class_from, is_trivial}
-use Rattle.merging.specs.Calls.{made_group}
 use Rattle.mappings.specs.Mapping.{Mapped}
 use Rattle.mappings.specs.Layout.{mapped_of, decode as mapping}
 use Rattle.mappings.specs.declared.Source.{Source}
@@ -37,8 +36,8 @@ use Rattle.mappings.proofs.Targets.{decode-length}
 use Rattle.mappings.proofs.PlaceReads.{read_in, read_at_lem}
 use Rattle.projection.specs.Inner.{answers_in}
 use Rattle.group_projection.specs.Group.{targets_of, source_classes, projected_classes, projected_list, telling}
-use Rattle.group_projection.specs.Inner.{listed, One, List256}
-use Rattle.group_projection.proofs.ListedLaws.{Lists, lists_as, lists-one, lists-classes, lists-made, list-lists, one-lists, listed-over, over-larger, over-more, answer-lists, answer-over, telling-append, telling-none, telling-one}
+use Rattle.group_projection.specs.Inner.{Grouped, listed, One, List256}
+use Rattle.group_projection.proofs.ListedLaws.{Lists, lists_as, lists-one, lists-classes, lists-made, list-lists, one-lists, over-larger, over-more, answer-lists, answer-over, answer-again, telling-append, telling-none, telling-one}
 use Rattle.group_projection.proofs.OneLaws.{pushed-one, part-lists, part-over}
 use Rattle.group_projection.proofs.ProjectedParts.{all_telling}
 
@@ -70,7 +69,7 @@ module _ (ns : List Node) (c : Class) (source : Source) where
   unfolding mapped_of
   targets_end k out e v = subst (λ (n : ℕ). Lists out (pushed_all ns c (first_targets source n) ∷ [])) e v
 
-  module _ (k : ℕ) (l : k < source.size) (out : Group) (v : TargetsTo k out) (e : ℕ) (x : e ≡ get_or source.targets k 0) (r : Changed) (q : r ≡ listed (pushed ns (class_at (decode out) 0) e ∷ [])) where
+  module _ (k : ℕ) (l : k < source.size) (out : Group) (v : TargetsTo k out) (e : ℕ) (x : e ≡ get_or source.targets k 0) (r : Grouped) (q : r ≡ listed (pushed ns (class_at (decode out) 0) e ∷ [])) where
     as_all : r ≡ listed (pushed_all ns (class_at (decode out) 0) (e ∷ []) ∷ [])
     as_all = q ∙ ap (λ (d : Class). listed (d ∷ [])) (sym (pushed-one ns (class_at (decode out) 0) e))
 
@@ -78,20 +77,20 @@ module _ (ns : List Node) (c : Class) (source : Source) where
     next = ap (λ (y : ℕ). first_targets source k ++ (y ∷ [])) x ∙ sym (table-next (λ (i : ℕ). get_or source.targets i 0) k)
 
     -- one more was pushed
-    pub targets-more : r.number ≡ 0 → TargetsTo (k + 1) r.group
-    targets-more n =
-        lists_as r.group (pushed_all ns c (first_targets source k ++ (e ∷ [])) ∷ []) (pushed_all ns c (first_targets source (k + 1)) ∷ [])
-        (ap (λ (t : List ℕ). pushed_all ns c t ∷ []) next) (part-lists ns c (first_targets source k) (e ∷ []) out v r as_all n)
+    pub targets-more : (h : Group) → r ≡ Ok h → TargetsTo (k + 1) h
+    targets-more h n =
+        lists_as h (pushed_all ns c (first_targets source k ++ (e ∷ [])) ∷ []) (pushed_all ns c (first_targets source (k + 1)) ∷ [])
+        (ap (λ (t : List ℕ). pushed_all ns c t ∷ []) next) (part-lists ns c (first_targets source k) (e ∷ []) out v r as_all h n)
 
     -- there was no room for it, nor is there for all
-    pub targets-over : (r.number ≡ 0 → ⊥) → (s : Changed) → s ≡ no_group 4 → s ≡ listed (pushed_all ns c (mapped_of source).targets ∷ [])
+    pub targets-over : (why : Refusal) → r ≡ Err why → ◌≡◌ {A = Grouped} (Err why) (listed (pushed_all ns c (mapped_of source).targets ∷ []))
     unfolding mapped_of
-    targets-over n s p =
+    targets-over why n =
         let f : ℕ → ℕ = λ i. get_or source.targets i 0 in
         let ws = drop (k + 1) (table f source.size) in
         let a : (mapped_of source).targets ≡ first_targets source k ++ (e ∷ []) ++ ws = table-front f source.size (k + 1) (omega arith) ∙ ap (λ (t : List ℕ). t ++ ws) (sym next) in
-        listed-over (pushed_all ns c (mapped_of source).targets ∷ [])
-        (ap (λ (t : List ℕ). fits 256 (pushed_all ns c t ∷ [])) a ∙ part-over ns c (first_targets source k) (e ∷ []) out v r as_all n ws) s p
+        answer-again r (pushed ns (class_at (decode out) 0) e ∷ []) q why n (pushed_all ns c (mapped_of source).targets ∷ [])
+        (ap (λ (t : List ℕ). fits 256 (pushed_all ns c t ∷ [])) a ∙ part-over ns c (first_targets source k) (e ∷ []) out v r as_all why n ws)
 
 -- none yet
 pub targets-begin : (ns : List Node) (source : Source) (one : Group) → One one → TargetsTo ns (class_at (decode one) 0) source 0 one
@@ -103,13 +102,13 @@ abbrev pub targets_if : Bool → Mapped → List ℕ
 targets_if same p = if same then p.targets else []
 
 -- they are pushed, or nothing is
-pub same-pushed : (ns : List Node) (c : Class) (source : Source) (same : Bool) → same ≡ true → (r : Changed) → r ≡ listed (pushed_all ns c (mapped_of source).targets ∷ []) → r ≡ listed (pushed_all ns c (targets_if same (mapped_of source)) ∷ [])
+pub same-pushed : (ns : List Node) (c : Class) (source : Source) (same : Bool) → same ≡ true → (r : Grouped) → r ≡ listed (pushed_all ns c (mapped_of source).targets ∷ []) → r ≡ listed (pushed_all ns c (targets_if same (mapped_of source)) ∷ [])
 same-pushed ns c source same h r q = q ∙ ap (λ (b : Bool). listed (pushed_all ns c (targets_if b (mapped_of source)) ∷ [])) (sym h)
 
-pub other-pushed : (ns : List Node) (one : Group) → One one → (source : Source) (same : Bool) → same ≡ false → (r : Changed) → r ≡ made_group (decode one) → r ≡ listed (pushed_all ns (class_at (decode one) 0) (targets_if same (mapped_of source)) ∷ [])
+pub other-pushed : (ns : List Node) (one : Group) → One one → (source : Source) (same : Bool) → same ≡ false → ◌≡◌ {A = Grouped} (Ok one) (listed (pushed_all ns (class_at (decode one) 0) (targets_if same (mapped_of source)) ∷ []))
 unfolding pushed_all
-other-pushed ns one v source same h r q =
-    lists-made one (class_at (decode one) 0 ∷ []) (one-lists one v) r q ∙ ap (λ (b : Bool). listed (pushed_all ns (class_at (decode one) 0) (targets_if b (mapped_of source)) ∷ [])) (sym h)
+other-pushed ns one v source same h =
+    lists-made one (class_at (decode one) 0 ∷ []) (one-lists one v) ∙ ap (λ (b : Bool). listed (pushed_all ns (class_at (decode one) 0) (targets_if b (mapped_of source)) ∷ [])) (sym h)
 
 -- ---- the sources with a normal form
 
@@ -151,8 +150,8 @@ class_of_form ns m js form = class_from ns (targets_of form js (mapping m))
 
 module _ (ns : List Node) (m : Mapping) (js : List ℕ) (form : ℕ) where
   -- none yet
-  pub sources-begin : (one : Group) → one ≡ encode 256 (record { members = []; constant = constant_from 0 0 } ∷ []) → Lists one (class_of_sources ns m js form 0 ∷ [])
-  unfolding class_from targets_of pushed_all constant_from fits total
+  pub sources-begin : (one : Group) → one ≡ encode 256 (record { members = []; constant = NoConstant } ∷ []) → Lists one (class_of_sources ns m js form 0 ∷ [])
+  unfolding class_from targets_of pushed_all fits total
   sources-begin one q = record { is = q; room = refl }
 
   -- all of them
@@ -161,7 +160,7 @@ module _ (ns : List Node) (m : Mapping) (js : List ℕ) (form : ℕ) where
       lists_as one (class_of_sources ns m js form i ∷ []) (class_of_form ns m js form ∷ []) (ap (λ (xs : List ℕ). class_from ns (targets_of form xs (mapping m)) ∷ []) (take_all i js l)) v
 
   module _ (len : length js ≡ m.count) (i : ℕ) (l : i < m.count) (one : Group) (o : Lists one (class_of_sources ns m js form i ∷ [])) (same : Bool) (t : same ≡ eqb (get_or js i 0) form)
-      (r : Changed) (q : r ≡ listed (pushed_all ns (class_at (decode one) 0) (targets_if same (mapped_of (read_in m i))) ∷ [])) where
+      (r : Grouped) (q : r ≡ listed (pushed_all ns (class_at (decode one) 0) (targets_if same (mapped_of (read_in m i))) ∷ [])) where
     abbrev before : List ℕ
     before = targets_of form (take i js) (mapping m)
 
@@ -175,47 +174,29 @@ module _ (ns : List Node) (m : Mapping) (js : List ℕ) (form : ℕ) where
         ap (λ (xs : List ℕ). before ++ xs) e ∙ sym (targets_next form i js (mapping m) p (omega arith) (omega (arith, decode-length m)))
 
     -- the next was pushed
-    pub sources-more : r.number ≡ 0 → Lists r.group (class_of_sources ns m js form (i + 1) ∷ [])
+    pub sources-more : (h : Group) → r ≡ Ok h → Lists h (class_of_sources ns m js form (i + 1) ∷ [])
     unfolding class_from
-    sources-more z =
-        lists_as r.group (pushed_all ns nothing (before ++ here) ∷ []) (class_of_sources ns m js form (i + 1) ∷ []) (ap (λ (xs : List ℕ). pushed_all ns nothing xs ∷ []) source-next)
-        (part-lists ns nothing before here one o r q z)
+    sources-more h z =
+        lists_as h (pushed_all ns nothing (before ++ here) ∷ []) (class_of_sources ns m js form (i + 1) ∷ []) (ap (λ (xs : List ℕ). pushed_all ns nothing xs ∷ []) source-next)
+        (part-lists ns nothing before here one o r q h z)
 
     -- there was no room for it, nor is there for all
-    pub sources-over : (r.number ≡ 0 → ⊥) → (s : Changed) → s ≡ no_group 4 → s ≡ listed (class_of_form ns m js form ∷ [])
+    pub sources-over : (why : Refusal) → r ≡ Err why → ◌≡◌ {A = Grouped} (Err why) (listed (class_of_form ns m js form ∷ []))
     unfolding class_from
-    sources-over z s p =
+    sources-over why z =
         let ws = targets_of form (drop (i + 1) js) (drop (length (take (i + 1) js)) (mapping m)) in
         let a : targets_of form js (mapping m) ≡ before ++ here ++ ws = targets-rest form (i + 1) js (mapping m) ∙ ap (λ (xs : List ℕ). xs ++ ws) (sym source-next) in
-        listed-over (class_of_form ns m js form ∷ [])
-        (ap (λ (xs : List ℕ). fits 256 (pushed_all ns nothing xs ∷ [])) a ∙ part-over ns nothing before here one o r q z ws) s p
+        answer-again r (pushed_all ns (class_at (decode one) 0) here ∷ []) q why z (class_of_form ns m js form ∷ [])
+        (ap (λ (xs : List ℕ). fits 256 (pushed_all ns nothing xs ∷ [])) a ∙ part-over ns nothing before here one o r q why z ws)
 
 -- ---- the normal forms
 
--- the test that two places have different numbers
-abbrev pub Apart : List ℕ → ℕ → ℕ → ℕ → Bool
-Apart numbers n i k = not (eqb (get_or (take n numbers) k 0) (get_or (take n numbers) i 0))
-
-module _ (numbers : List ℕ) (n i : ℕ) (l : i < n) where
-  -- none before the first
-  pub fresh-begins : each (Apart numbers n i) 0 ≡ true
-  fresh-begins = each_none (Apart numbers n i)
-
-  -- the number at another place is the same, or another
-  pub fresh-stops : (k : ℕ) → k < i → get_or numbers k 0 ≡ get_or numbers i 0 → false ≡ fresh (take n numbers) i
-  unfolding fresh
-  fresh-stops k b q =
-      each-stops (Apart numbers n i) i k b (ap not (eq-eqb (get_or (take n numbers) k 0) (get_or (take n numbers) i 0) (get_or-take n numbers k 0 (omega arith) ∙ q ∙ sym (get_or-take n numbers i 0 l))))
-
-  pub fresh-more : (k : ℕ) → k < i → (get_or numbers k 0 ≡ get_or numbers i 0 → ⊥) → each (Apart numbers n i) k ≡ true → each (Apart numbers n i) (k + 1) ≡ true
-  fresh-more k b q h =
-      each_more (Apart numbers n i) k h
-      (ap not (ne_eqb (get_or (take n numbers) k 0) (get_or (take n numbers) i 0) (λ e. q (sym (get_or-take n numbers k 0 (omega arith)) ∙ e ∙ get_or-take n numbers i 0 l))))
-
-  -- none of them is the same
-  pub fresh-ends : (k : ℕ) → k ≤ i → i ≤ k → each (Apart numbers n i) k ≡ true → true ≡ fresh (take n numbers) i
-  unfolding fresh
-  fresh-ends k a b h = each-ends (Apart numbers n i) i k a b h
+-- the number at place i of a table does not stand before it: among the first n, as in the table
+pub fresh-front : (numbers : List ℕ) (n i : ℕ) → i < n → each (λ k. not (eqb (get_or numbers k 0) (get_or numbers i 0))) i ≡ fresh (take n numbers) i
+unfolding fresh
+fresh-front numbers n i l =
+    each_cong (λ k. not (eqb (get_or numbers k 0) (get_or numbers i 0))) (λ k. not (eqb (get_or (take n numbers) k 0) (get_or (take n numbers) i 0))) i
+    (λ k b. rw (get_or-take n numbers k 0 (omega arith), get_or-take n numbers i 0 l))
 
 -- a class that is too large says something
 large_tells : (c : Class) → fits 256 (c ∷ []) ≡ false → is_trivial c ≡ false
@@ -232,35 +213,35 @@ brought ns m js i = if fresh js i then class_of_form ns m js (get_or js i 0) ∷
 
 module _ (ns : List Node) (out : Group) (v : List256 out) (m : Mapping) (js : List ℕ) (i : ℕ) (b : Bool) (t : b ≡ fresh js i) where
   -- it stands before its place
-  pub form-not : b ≡ false → (r : Changed) → r ≡ made_group (decode out) → r ≡ listed (decode out ++ telling (brought ns m js i))
-  form-not h r q =
+  pub form-not : b ≡ false → ◌≡◌ {A = Grouped} (Ok out) (listed (decode out ++ telling (brought ns m js i)))
+  form-not h =
       let e : brought ns m js i ≡ [] = rw (sym t ∙ h) in
-      lists-made out (decode out) (list-lists out v) r q ∙ ap listed (sym (ap (λ (cs : List Class). decode out ++ telling cs) e ∙ ap (λ (cs : List Class). decode out ++ cs) telling-none ∙ append-nil (decode out)))
+      lists-made out (decode out) (list-lists out v) ∙ ap listed (sym (ap (λ (cs : List Class). decode out ++ telling cs) e ∙ ap (λ (cs : List Class). decode out ++ cs) telling-none ∙ append-nil (decode out)))
 
-  module _ (h : b ≡ true) (form : ℕ) (x : form ≡ get_or js i 0) (one : Changed) (o : one ≡ listed (class_of_form ns m js form ∷ [])) where
+  module _ (h : b ≡ true) (form : ℕ) (x : form ≡ get_or js i 0) (one : Grouped) (o : one ≡ listed (class_of_form ns m js form ∷ [])) where
     is-brought : class_of_form ns m js form ∷ [] ≡ brought ns m js i
     is-brought =
         let e : brought ns m js i ≡ class_of_form ns m js (get_or js i 0) ∷ [] = rw (sym t ∙ h) in
         ap (λ (k : ℕ). class_of_form ns m js k ∷ []) x ∙ sym e
 
     -- its class is too large
-    pub form-over : (one.number ≡ 0 → ⊥) → (r : Changed) → r ≡ no_group 4 → r ≡ listed (decode out ++ telling (brought ns m js i))
+    pub form-over : (why : Refusal) → one ≡ Err why → ◌≡◌ {A = Grouped} (Err why) (listed (decode out ++ telling (brought ns m js i)))
     unfolding total
-    form-over n r q =
+    form-over why n =
         let c = class_of_form ns m js form in
-        let f = answer-over one (c ∷ []) o n in
+        let f = answer-over one (c ∷ []) o why n in
         let g : fits 256 (decode out ++ (c ∷ [])) ≡ false = over-larger (c ∷ []) (decode out ++ (c ∷ [])) (omega (arith, total-more (decode out) c)) (omega (arith, length_more (decode out) c)) f in
-        listed-over (decode out ++ (c ∷ [])) g r q
+        answer-again one (c ∷ []) o why n (decode out ++ (c ∷ [])) g
         ∙ ap listed (sym (ap (λ (cs : List Class). decode out ++ telling cs) (sym is-brought) ∙ ap (λ (cs : List Class). decode out ++ cs) (telling-one c (large_tells c f))))
 
     -- its class is kept if it says something
-    pub form-asks : one.number ≡ 0 → List256 out × One one.group
-    form-asks n = (v, lists-one one.group (class_of_form ns m js form) (answer-lists one (class_of_form ns m js form ∷ []) o n))
+    pub form-asks : (k : Group) → one ≡ Ok k → List256 out × One k
+    form-asks k n = (v, lists-one k (class_of_form ns m js form) (answer-lists one (class_of_form ns m js form ∷ []) o k n))
 
-    pub form-kept : one.number ≡ 0 → (r : Changed) → r ≡ listed (decode out ++ telling (class_at (decode one.group) 0 ∷ [])) → r ≡ listed (decode out ++ telling (brought ns m js i))
-    form-kept n r q =
+    pub form-kept : (k : Group) → one ≡ Ok k → (r : Grouped) → r ≡ listed (decode out ++ telling (class_at (decode k) 0 ∷ [])) → r ≡ listed (decode out ++ telling (brought ns m js i))
+    form-kept k n r q =
         let c = class_of_form ns m js form in
-        q ∙ ap (λ (cs : List Class). listed (decode out ++ telling (class_at cs 0 ∷ []))) (lists-classes one.group (c ∷ []) (answer-lists one (c ∷ []) o n))
+        q ∙ ap (λ (cs : List Class). listed (decode out ++ telling (class_at cs 0 ∷ []))) (lists-classes k (c ∷ []) (answer-lists one (c ∷ []) o k n))
         ∙ ap (λ (cs : List Class). listed (decode out ++ telling cs)) is-brought
 
 -- ---- normal form by normal form
@@ -295,7 +276,7 @@ module _ (ns : List Node) (list : Group) (m : Mapping) (js : List ℕ) where
   unfolding source_classes telling
   forms-begin v = lists_as list (decode list) (decode list ++ []) (sym (append-nil (decode list))) (list-lists list v)
 
-  module _ (i : ℕ) (out : Group) (o : Lists out (with_sources i)) (r : Changed) (q : r ≡ listed (decode out ++ telling (brought ns m js i))) where
+  module _ (i : ℕ) (out : Group) (o : Lists out (with_sources i)) (r : Grouped) (q : r ≡ listed (decode out ++ telling (brought ns m js i))) where
     forms-is : r ≡ listed (with_sources (i + 1))
     unfolding source_classes
     forms-is =
@@ -305,35 +286,35 @@ module _ (ns : List Node) (list : Group) (m : Mapping) (js : List ℕ) where
         ∙ ap listed (append_assoc (decode list) (telling cs) (telling (brought ns m js i)) ∙ ap (λ (ds : List Class). decode list ++ ds) (sym (ap telling e ∙ telling-append cs (brought ns m js i))))
 
     -- the next was added
-    pub forms-more : r.number ≡ 0 → Lists r.group (with_sources (i + 1))
-    forms-more n = answer-lists r (with_sources (i + 1)) forms-is n
+    pub forms-more : (h : Group) → r ≡ Ok h → Lists h (with_sources (i + 1))
+    forms-more = answer-lists r (with_sources (i + 1)) forms-is
 
     -- there was no room for it, nor is there for all
-    pub forms-over : (n : ℕ) → i < n → (r.number ≡ 0 → ⊥) → (s : Changed) → s ≡ no_group 4 → s ≡ listed (with_sources n)
-    forms-over n l z s p =
+    pub forms-over : (n : ℕ) → i < n → (why : Refusal) → r ≡ Err why → ◌≡◌ {A = Grouped} (Err why) (listed (with_sources n))
+    forms-over n l why z =
         let f = sources-front ns js (mapping m) n (i + 1) (omega arith) in
         let e : with_sources n ≡ with_sources (i + 1) ++ telling f.rest =
         ap (λ (cs : List Class). decode list ++ telling cs) f.splits ∙ ap (λ (cs : List Class). decode list ++ cs) (telling-append (source_classes ns js (mapping m) (i + 1)) f.rest)
         ∙ sym (append_assoc (decode list) (telling (source_classes ns js (mapping m) (i + 1))) (telling f.rest)) in
-        listed-over (with_sources n) (ap (fits 256) e ∙ over-more (with_sources (i + 1)) (telling f.rest) (answer-over r (with_sources (i + 1)) forms-is z)) s p
+        answer-again r (with_sources (i + 1)) forms-is why z (with_sources n) (ap (fits 256) e ∙ over-more (with_sources (i + 1)) (telling f.rest) (answer-over r (with_sources (i + 1)) forms-is why z))
 
 -- ---- both lists, one after the other
 
-module _ (ns : List Node) (entries : List ℕ) (g : Group) (m : Mapping) (js : List ℕ) (front : Changed) (f : front ≡ listed (all_telling ns entries g)) where
+module _ (ns : List Node) (entries : List ℕ) (g : Group) (m : Mapping) (js : List ℕ) (front : Grouped) (f : front ≡ listed (all_telling ns entries g)) where
   list-is : projected_list ns (decode g) (mapping m) (answers_in entries (flat (decode g))) js ≡ all_telling ns entries g ++ telling (source_classes ns js (mapping m) (length js))
   unfolding projected_list
   list-is = telling-append (projected_classes ns (decode g) (answers_in entries (flat (decode g)))) (source_classes ns js (mapping m) (length js))
 
   -- there was no room for the first
-  pub list_over : (front.number ≡ 0 → ⊥) → (r : Changed) → r ≡ no_group 4 → r ≡ listed (projected_list ns (decode g) (mapping m) (answers_in entries (flat (decode g))) js)
-  list_over n r q =
-      listed-over (all_telling ns entries g ++ telling (source_classes ns js (mapping m) (length js)))
-      (over-more (all_telling ns entries g) (telling (source_classes ns js (mapping m) (length js))) (answer-over front (all_telling ns entries g) f n)) r q
+  pub list_over : (why : Refusal) → front ≡ Err why → ◌≡◌ {A = Grouped} (Err why) (listed (projected_list ns (decode g) (mapping m) (answers_in entries (flat (decode g))) js))
+  list_over why n =
+      answer-again front (all_telling ns entries g) f why n (all_telling ns entries g ++ telling (source_classes ns js (mapping m) (length js)))
+      (over-more (all_telling ns entries g) (telling (source_classes ns js (mapping m) (length js))) (answer-over front (all_telling ns entries g) f why n))
       ∙ ap listed (sym list-is)
 
   -- the second follows the first
-  pub list-made : length js ≡ m.count → front.number ≡ 0 → (r : Changed) → r ≡ listed (with_sources ns front.group m js m.count) → r ≡ listed (projected_list ns (decode g) (mapping m) (answers_in entries (flat (decode g))) js)
-  list-made len n r q =
-      q ∙ ap (λ (cs : List Class). listed (cs ++ telling (source_classes ns js (mapping m) m.count))) (lists-classes front.group (all_telling ns entries g) (answer-lists front (all_telling ns entries g) f n))
+  pub list-made : length js ≡ m.count → (h : Group) → front ≡ Ok h → (r : Grouped) → r ≡ listed (with_sources ns h m js m.count) → r ≡ listed (projected_list ns (decode g) (mapping m) (answers_in entries (flat (decode g))) js)
+  list-made len h n r q =
+      q ∙ ap (λ (cs : List Class). listed (cs ++ telling (source_classes ns js (mapping m) m.count))) (lists-classes h (all_telling ns entries g) (answer-lists front (all_telling ns entries g) f h n))
       ∙ ap (λ (k : ℕ). listed (all_telling ns entries g ++ telling (source_classes ns js (mapping m) k))) (sym len)
       ∙ ap listed (sym list-is)

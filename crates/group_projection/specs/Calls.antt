@@ -1,7 +1,7 @@
 -- What the public call answers and what it leaves in the arena, over the lent cells, the struct and the lent mapping, in document 01's order of refusals.
 -- A refusal is a case that hands back what came in.
-use Rattle.std.specs.Prelude.{ℕ, false, List, eqb, if◌then◌else◌}
-use Rattle.std.proofs.Math.Option.{Option}
+use Rattle.std.specs.Prelude.{ℕ, List, eqb, if◌then◌else◌, Option, Err}
+use Rattle.arena.specs.Refusals.{refusal}
 use Rattle.arena.specs.Node.{Node}
 use Rattle.arena.specs.Arena.{Placed, placed, full}
 use Rattle.arena.specs.Layout.{decode as nodes}
@@ -28,4 +28,4 @@ project_by ps g ns = project_placed ps g ns (projected_numbers ns (decode g) ps)
 unfoldable pub project_answer : List ℕ → Group → List ℕ → Changed × List ℕ
 project_answer cells g numbers =
     if eqb (project_number cells g numbers) 0 then in_cells (project_by (mapping_lent numbers) g (nodes cells))
-    else (record { number = project_number cells g numbers; answer = false; group = g }, cells)
+    else (record { answer = Err (refusal (project_number cells g numbers)); group = g }, cells)

@@ -1,10 +1,10 @@
 -- Projecting a group: for each class the projections of its members, for each normal form of sources their targets; the classes that say nothing are filtered out, `new`, and then the constants of the sources for each of their targets.
-use Rattle.std.specs.Prelude.{ℕ, zero, suc, Bool, true, List, [], ◌∷◌, ◌++◌, map, eqb, length, get_or, take, drop, if◌then◌else◌}
-use Rattle.std.proofs.Math.Option.{Option, none, some}
+use Rattle.std.specs.Prelude.{ℕ, zero, suc, Bool, true, List, [], ◌∷◌, ◌++◌, map, eqb, length, get_or, take, drop, if◌then◌else◌, Option, None, Some}
 use Rattle.arena.specs.Node.{Node}
 use Rattle.arena.specs.Expression.{expressions, those}
 use Rattle.arena.specs.Arena.{Placed, placed, and_then, add_expressions}
-use Rattle.classes.specs.Class.{Constant, Class, is_constant}
+use Rattle.classes.specs.declared.Constant.{Constant}
+use Rattle.classes.specs.Class.{Class, is_constant}
 use Rattle.classes.specs.Group.{with_constant}
 use Rattle.classes.specs.Good.{flat}
 use Rattle.classes.specs.Steps.{fits}
@@ -25,8 +25,8 @@ projected_numbers ns cs ps =
 -- those that there are
 unfoldable pub there : List (Option ℕ) → List ℕ
 there [] = []
-there (none ∷ ks) = there ks
-there (some k ∷ ks) = k ∷ there ks
+there (None ∷ ks) = there ks
+there (Some k ∷ ks) = k ∷ there ks
 
 -- for each class the class of its members' projections, from these in class order
 unfoldable pub projected_classes : List Node → List Class → List (Option ℕ) → List Class
@@ -62,8 +62,8 @@ new_constants ns cs (p ∷ ps) =
 
 -- constants said one after the other, up to 256 members and 64 classes after each; none where one exceeds them. `two` says whether two unknown uniforms count as equal
 unfoldable pub constants_said : Bool → List Node → List (ℕ × Constant) → List Class → Option (List Class)
-constants_said two ns [] cs = some cs
-constants_said two ns (q ∷ qs) cs = if fits 256 (with_constant two ns cs q.0 q.1) then constants_said two ns qs (with_constant two ns cs q.0 q.1) else none
+constants_said two ns [] cs = Some cs
+constants_said two ns (q ∷ qs) cs = if fits 256 (with_constant two ns cs q.0 q.1) then constants_said two ns qs (with_constant two ns cs q.0 q.1) else None
 
 -- the projected group before the constants are added
 abbrev pub before_constants : List Node → List Class → List Mapped → List (Option ℕ) → List ℕ → List Class
@@ -72,4 +72,4 @@ before_constants ns cs ps ks js = from_classes (projected_list ns cs ps ks js)
 -- the projected group; none where the list or a step exceeds the bounds
 unfoldable pub projected_group : List Node → List Class → List Mapped → List (Option ℕ) → List ℕ → Option (List Class)
 projected_group ns cs ps ks js =
-    if fits 256 (projected_list ns cs ps ks js) then constants_said true ns (new_constants ns cs ps) (before_constants ns cs ps ks js) else none
+    if fits 256 (projected_list ns cs ps ks js) then constants_said true ns (new_constants ns cs ps) (before_constants ns cs ps ks js) else None

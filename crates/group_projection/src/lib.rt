@@ -19,22 +19,14 @@ use classes::{Changed, Group};
 use mappings::lent::{project_number, read_mapping};
 use projecting::project_in;
 
-// The numbers of the sources' normal forms, in a table of 64 places, or that the arena has no room.
-#[derive(Clone, Copy)]
-pub struct Forms {
-    pub fits: bool,
-    pub numbers: [u32; 64],
-}
-
 // Projects a group: the members' projections as classes, the targets of sources with one normal form as a class, then
 // the constants of the sources for each of their targets. The mapping has for each source the source, its target count
 // and its targets. The limit is 256. Refusals: 12, 11, 1, 3, 4, with the group as it was.
 pub fn project(cells: &mut [u32; 11265], group: Group, mapping: &[u32]) -> Changed
     ensures { (result, cells.new) ≡ project_answer cells.old group mapping.now }
 {
-    let number = project_number(cells, group, mapping);
-    if number != 0 {
-        return refusal(number, group);
+    if let Err(why) = project_number(cells, group, mapping) {
+        return refusal(why, group);
     }
     project_in(cells, group, read_mapping(mapping))
 }

@@ -13,13 +13,12 @@ ghost use Rattle.projection.specs.Inner.{answer_of, answers_in};
 ghost use Rattle.group_projection.specs.Group.{there, projected_classes, targets_of, source_classes, telling, projected_list};
 ghost use Rattle.group_projection.specs.Inner.{listed, One, List256, Entries};
 
+use arena::Refusal;
 use arena::cells::wide;
 use classes::building::{add_class, empty, set_constant};
-use classes::refusing::no_group;
-use classes::single::carried_mark;
-use classes::{Changed, Group, Mark};
+use classes::single::carried;
+use classes::{Constant, Group};
 use mappings::{Mapping, Source};
-use merging::bridging::made;
 use merging::extending::{class_holds, is_trivial, one_empty, push};
 
 // The class of one with the projection that an entry of the table says, if it says one.
@@ -44,123 +43,101 @@ fn projected_class(
     requires { (Holds cells.now × (start + n ≤ 256)) × Entries (count cells.now) table.now (drop start members) n }
     ensures { result ≡ encode 256 (class_from (nodes cells.now) (there (answers_in table.now (take n (drop start members)))) ∷ []) }
 {
-    let mut one = one_empty(Mark {
-        flavour: 0,
-        value: 0,
-    });
-    let mut k = 0;
-    while k < n {
+    let mut one = one_empty(Constant::NoConstant);
+    for k in 0..n {
         let e = wide(members[start + k]);
         one = push_entry(cells, one, table[e]);
-        k += 1;
     }
     one
 }
 
 // The list with a class at its end, if the class says something. Refusal: 4.
-fn keep_class(out: Group, one: Group) -> Changed
+fn keep_class(out: Group, one: Group) -> Result<Group, Refusal>
     requires { List256 out × One one }
     ensures { result ≡ listed (decode out ++ telling (class_at (decode one) 0 ∷ [])) }
 {
     if is_trivial(one, 0) {
-        return made(out);
+        return Ok(out);
     }
-    if 64 <= out.count {
-        return no_group(4);
+    if 64 <= out.count || 256 < out.used + one.used {
+        return Err(Refusal::GroupFull);
     }
-    if 256 < out.used + one.used {
-        return no_group(4);
-    }
-    made(add_class(out, one, 0))
+    Ok(add_class(out, one, 0))
 }
 
 // The classes of the members' projections that say something, by the table. Refusal: 4.
-fn projected_classes(cells: &[u32; 11265], table: &[u32; 1024], g: Group) -> Changed
+fn projected_classes(cells: &[u32; 11265], table: &[u32; 1024], g: Group) -> Result<Group, Refusal>
     requires { (Holds cells.now × Coded g) × Entries (count cells.now) table.now g.members g.used }
     ensures { result ≡ listed (telling (projected_classes (nodes cells.now) (decode g) (answers_in table.now (flat (decode g))))) }
 {
-    let n = g.count;
     let members = g.members;
     let mut out = empty(256);
     let mut start = 0;
-    let mut j = 0;
-    while j < n {
+    for j in 0..g.count {
         let size = g.sizes[j];
-        let step = keep_class(out, projected_class(cells, table, members, start, size));
-        if step.number != 0 {
-            return no_group(4);
-        }
-        out = step.group;
+        out = keep_class(out, projected_class(cells, table, members, start, size))?;
         start += size;
-        j += 1;
     }
-    made(out)
+    Ok(out)
 }
 
 // The class of one with a target pushed. Refusal: 4.
-fn push_target(cells: &[u32; 11265], one: Group, e: u32) -> Changed
+fn push_target(cells: &[u32; 11265], one: Group, e: u32) -> Result<Group, Refusal>
     requires { One one × Known cells.now e }
     ensures { result ≡ listed (pushed (nodes cells.now) (class_at (decode one) 0) e ∷ []) }
 {
     if one.used < 256 {
-        return made(push(cells, one, e));
+        return Ok(push(cells, one, e));
     }
     if class_holds(one, 0, e) {
-        return made(set_constant(one, 0, carried_mark(cells, e)));
+        return Ok(set_constant(one, 0, carried(cells, e)));
     }
-    no_group(4)
+    Err(Refusal::GroupFull)
 }
 
 // The class of one with the targets of a source pushed. Refusal: 4.
-fn push_targets(cells: &[u32; 11265], one: Group, source: Source) -> Changed
+fn push_targets(cells: &[u32; 11265], one: Group, source: Source) -> Result<Group, Refusal>
     requires { (One one × Holds cells.now) × ((source.size ≤ 8) × ((k : ℕ) → k < source.size → get_or source.targets k 0 < count cells.now)) }
     ensures { result ≡ listed (pushed_all (nodes cells.now) (class_at (decode one) 0) (mapped_of source).targets ∷ []) }
 {
-    let n = source.size;
     let mut out = one;
-    let mut k = 0;
-    while k < n {
-        let step = push_target(cells, out, source.targets[k]);
-        if step.number != 0 {
-            return no_group(4);
-        }
-        out = step.group;
-        k += 1;
+    for k in 0..source.size {
+        out = push_target(cells, out, source.targets[k])?;
     }
-    made(out)
+    Ok(out)
 }
 
 // The same where the source has the normal form that is asked for, else the class as it is. Refusal: 4.
-fn push_source(cells: &[u32; 11265], one: Group, source: Source, same: bool) -> Changed
+fn push_source(
+    cells: &[u32; 11265],
+    one: Group,
+    source: Source,
+    same: bool,
+) -> Result<Group, Refusal>
     requires { (One one × Holds cells.now) × ((source.size ≤ 8) × ((k : ℕ) → k < source.size → get_or source.targets k 0 < count cells.now)) }
     ensures { result ≡ listed (pushed_all (nodes cells.now) (class_at (decode one) 0) (if same then (mapped_of source).targets else []) ∷ []) }
 {
     if same {
         return push_targets(cells, one, source);
     }
-    made(one)
+    Ok(one)
 }
 
 // The class of the targets of the sources with a normal form. Refusal: 4.
-fn source_class(cells: &[u32; 11265], m: Mapping, numbers: [u32; 64], form: u32) -> Changed
+fn source_class(
+    cells: &[u32; 11265],
+    m: Mapping,
+    numbers: [u32; 64],
+    form: u32,
+) -> Result<Group, Refusal>
     requires { Holds cells.now × Checked (count cells.now) m }
     ensures { result ≡ listed (class_from (nodes cells.now) (targets_of form (take m.count numbers) (mapping m)) ∷ []) }
 {
-    let n = m.count;
-    let mut one = one_empty(Mark {
-        flavour: 0,
-        value: 0,
-    });
-    let mut i = 0;
-    while i < n {
-        let step = push_source(cells, one, m.list[i], numbers[i] == form);
-        if step.number != 0 {
-            return no_group(4);
-        }
-        one = step.group;
-        i += 1;
+    let mut one = one_empty(Constant::NoConstant);
+    for i in 0..m.count {
+        one = push_source(cells, one, m.list[i], numbers[i] == form)?;
     }
-    made(one)
+    Ok(one)
 }
 
 // The normal form at a place does not stand before it.
@@ -168,14 +145,7 @@ fn form_fresh(numbers: [u32; 64], n: usize, i: usize) -> bool
     requires { (i < n) × (n ≤ 64) }
     ensures { result ≡ fresh (take n numbers) i }
 {
-    let mut k = 0;
-    while k < i {
-        if numbers[k] == numbers[i] {
-            return false;
-        }
-        k += 1;
-    }
-    true
+    (0..i).all(|k| numbers[k] != numbers[i])
 }
 
 // The list with the class of the normal form at a place, where it stands first. Refusal: 4.
@@ -185,37 +155,31 @@ fn add_source_class(
     m: Mapping,
     numbers: [u32; 64],
     i: usize,
-) -> Changed
+) -> Result<Group, Refusal>
     requires { (List256 out × (i < m.count)) × (Holds cells.now × Checked (count cells.now) m) }
     ensures { result ≡ listed (decode out ++ telling (if fresh (take m.count numbers) i then class_from (nodes cells.now) (targets_of (get_or (take m.count numbers) i 0) (take m.count numbers) (mapping m)) ∷ [] else [])) }
 {
     if !form_fresh(numbers, m.count, i) {
-        return made(out);
+        return Ok(out);
     }
-    let one = source_class(cells, m, numbers, numbers[i]);
-    if one.number != 0 {
-        return no_group(4);
-    }
-    keep_class(out, one.group)
+    keep_class(out, source_class(cells, m, numbers, numbers[i])?)
 }
 
 // The list with the classes of the sources' targets that say something. Refusal: 4.
-fn source_classes(cells: &[u32; 11265], list: Group, m: Mapping, numbers: [u32; 64]) -> Changed
+fn source_classes(
+    cells: &[u32; 11265],
+    list: Group,
+    m: Mapping,
+    numbers: [u32; 64],
+) -> Result<Group, Refusal>
     requires { List256 list × (Holds cells.now × Checked (count cells.now) m) }
     ensures { result ≡ listed (decode list ++ telling (source_classes (nodes cells.now) (take m.count numbers) (mapping m) m.count)) }
 {
-    let n = m.count;
     let mut out = list;
-    let mut i = 0;
-    while i < n {
-        let step = add_source_class(cells, out, m, numbers, i);
-        if step.number != 0 {
-            return no_group(4);
-        }
-        out = step.group;
-        i += 1;
+    for i in 0..m.count {
+        out = add_source_class(cells, out, m, numbers, i)?;
     }
-    made(out)
+    Ok(out)
 }
 
 // The list that reaches `new`, by the table and the numbers of the sources' normal forms. Refusal: 4.
@@ -225,13 +189,9 @@ pub fn projected_list(
     g: Group,
     m: Mapping,
     numbers: [u32; 64],
-) -> Changed
+) -> Result<Group, Refusal>
     requires { ((Holds cells.now × Checked (count cells.now) m) × Coded g) × Entries (count cells.now) table.now g.members g.used }
     ensures { result ≡ listed (projected_list (nodes cells.now) (decode g) (mapping m) (answers_in table.now (flat (decode g))) (take m.count numbers)) }
 {
-    let list = projected_classes(cells, table, g);
-    if list.number != 0 {
-        return no_group(4);
-    }
-    source_classes(cells, list.group, m, numbers)
+    source_classes(cells, projected_classes(cells, table, g)?, m, numbers)
 }

@@ -1,35 +1,27 @@
 // The normal forms of the sources of a mapping, in their order.
-ghost use Rattle.std.specs.Prelude.{◌≡◌, ℕ, ◌≤◌, ◌<◌, length, get_or, take};
+ghost use Rattle.std.specs.Prelude.{is_ok, ◌≡◌, ℕ, ◌≤◌, ◌<◌, length, get_or, take};
 ghost use Rattle.mappings.specs.Mapping.{sources};
 ghost use Rattle.mappings.specs.Layout.{decode as mapping};
-ghost use Rattle.group_projection.specs.Inner.{FormsReady, Formed};
+ghost use Rattle.group_projection.specs.Inner.{members_of, FormsReady, Formed};
 
-use crate::Forms;
-use arena::Added;
+use arena::Refusal;
 use mappings::Mapping;
 use normal::normalizing::normalize;
 
-// Adds the missing nodes of the sources' normal forms; they don't fit where the arena has no room.
-pub fn source_forms(cells: &mut [u32; 11265], firsts: &[u32; 1024], m: Mapping, old: usize) -> Forms
+// Adds the missing nodes of the sources' normal forms: their numbers, in a table of 64 places. Refusal: 3.
+pub fn source_forms(
+    cells: &mut [u32; 11265],
+    firsts: &[u32; 1024],
+    m: Mapping,
+    old: usize,
+) -> Result<[u32; 64], Refusal>
     requires { FormsReady old firsts.now cells.old m }
-    ensures { Formed old firsts.now cells.old cells.new (sources (mapping m)) result.fits (take m.count result.numbers) }
+    ensures { Formed old firsts.now cells.old cells.new (sources (mapping m)) (is_ok result) (take m.count (members_of result)) }
 {
-    let n = m.count;
     let mut memo = [0u32; 1024];
     let mut numbers = [0u32; 64];
-    let mut i = 0;
-    while i < n {
-        let Added::Number(e) = normalize(cells, firsts, &mut memo, m.list[i].expr, old) else {
-            return Forms {
-                fits: false,
-                numbers: numbers,
-            };
-        };
-        numbers[i] = e;
-        i += 1;
+    for i in 0..m.count {
+        numbers[i] = normalize(cells, firsts, &mut memo, m.list[i].expr, old)?;
     }
-    Forms {
-        fits: true,
-        numbers: numbers,
-    }
+    Ok(numbers)
 }

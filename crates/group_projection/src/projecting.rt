@@ -15,8 +15,9 @@ ghost use Rattle.group_projection.specs.Inner.{made_or_none, Entries, ProjectedO
 use crate::constants::source_constants;
 use crate::listing::projected_list;
 use crate::normal_forms::source_forms;
+use arena::Refusal;
 use arena::cells::node_count;
-use classes::refusing::{no_group, refusal};
+use classes::refusing::refusal;
 use classes::{Changed, Group};
 use mappings::Mapping;
 use merging::bridging::from_classes;
@@ -31,19 +32,16 @@ fn projected_group(
     g: Group,
     m: Mapping,
     numbers: [u32; 64],
-) -> Changed
+) -> Result<Group, Refusal>
     requires { ((Holds cells.now × Checked (count cells.now) m) × Held (nodes cells.now) g) × Entries (count cells.now) table.now g.members g.used }
     ensures { result ≡ made_or_none (projected_group (nodes cells.now) (decode g) (mapping m) (answers_in table.now (flat (decode g))) (take m.count numbers)) }
 {
-    let list = projected_list(cells, table, g, m, numbers);
-    if list.number != 0 {
-        return no_group(4);
-    }
-    source_constants(cells, g, m, from_classes(list.group))
+    let list = projected_list(cells, table, g, m, numbers)?;
+    source_constants(cells, g, m, from_classes(list))
 }
 
 // The projection of a group. After a refusal, 3 or 4, the arena may have grown.
-fn project_over(cells: &mut [u32; 11265], g: Group, m: Mapping) -> Changed
+fn project_over(cells: &mut [u32; 11265], g: Group, m: Mapping) -> Result<Group, Refusal>
     requires { (Holds cells.old × Held (nodes cells.old) g) × Checked (count cells.old) m }
     ensures { ProjectedOver cells.old cells.new g (mapping m) result }
 {
@@ -53,13 +51,11 @@ fn project_over(cells: &mut [u32; 11265], g: Group, m: Mapping) -> Changed
     let members = g.members;
     let used = g.used;
     if !project_all(cells, &mut table, &members[..used]) {
-        return no_group(3);
+        return Err(Refusal::ArenaFull);
     }
-    let forms = source_forms(cells, &firsts, m, old);
-    if !forms.fits {
-        return no_group(3);
-    }
-    let numbers = forms.numbers;
+    let Ok(numbers) = source_forms(cells, &firsts, m, old) else {
+        return Err(Refusal::ArenaFull);
+    };
     projected_group(cells, &table, g, m, numbers)
 }
 
@@ -70,10 +66,15 @@ pub fn project_in(cells: &mut [u32; 11265], g: Group, m: Mapping) -> Changed
     ensures { (result, cells.new) ≡ in_cells (project_by (mapping m) g (nodes cells.old)) }
 {
     let saved = *cells;
-    let r = project_over(cells, g, m);
-    if r.number != 0 {
-        *cells = saved;
-        return refusal(r.number, g);
+    let group = match project_over(cells, g, m) {
+        Ok(group) => group,
+        Err(why) => {
+            *cells = saved;
+            return refusal(why, g);
+        }
+    };
+    Changed {
+        answer: Ok(true),
+        group,
     }
-    r
 }

@@ -1,9 +1,8 @@
 -- The group that a record comes to, by each test that the reader makes.
-use Rattle.std.specs.Prelude.{if◌then◌else◌}
+use Rattle.std.specs.Prelude.{if◌then◌else◌, Option, None, Some, Ok}
 use Prim.Native.Nat.{ℕ, ◌<◌, ◌≤◌}
 use mathlib.Core.Bool.{Bool, true, false, ◌&&◌}
 use mathlib.Core.List.{List, map}
-use mathlib.Core.Option.{Option, none, some}
 use mathlib.Core.Path.{◌≡◌, refl, sym, ap, ◌∙◌}
 use borrow.Author.Tests.{le-leb, lt-leb}
 use lib.Dec.{eqb, ltb, leb}
@@ -47,42 +46,42 @@ filled_is gs g ms numbers q e p =
     }
 
 pub built-is : (gs : List Given) (g : Group) (ms numbers : List ℕ) → length gs ≤ 64 → length numbers ≤ 256 → numbers ≡ members_given gs → g ≡ columns_of gs → ms ≡ padded 256 numbers
-    → record { number = 0; answer = true; group = record { limit = g.limit; count = g.count; used = length numbers; sizes = g.sizes; flavours = g.flavours; values = g.values; members = ms } } ≡ built_of gs
+    → record { answer = Ok true; group = record { limit = g.limit; count = g.count; used = length numbers; sizes = g.sizes; flavours = g.flavours; values = g.values; members = ms } } ≡ built_of gs
 unfolding built_of
 built-is gs g ms numbers a b q e p =
     let few : leb (length gs) 64 ≡ true = le-leb (length gs) 64 a in
     let small : leb (length (members_given gs)) 256 ≡ true = ap (λ (x : List ℕ). leb (length x) 256) (sym q) ∙ le-leb (length numbers) 256 b in
-    rw (few, small) (ap (λ (x : Group). record { number = 0; answer = true; group = x }) (filled_is gs g ms numbers q e p))
+    rw (few, small) (ap (λ (x : Group). record { answer = Ok true; group = x }) (filled_is gs g ms numbers q e p))
 
 -- the tests in their order, over classes that could be read
 abbrev Eleven : List ℕ → List Given → Bool
 Eleven cells gs = lawful cells && (classes_filled gs && members_apart gs && literals_uniform (nodes cells) gs)
 
 module _ (cells : List ℕ) (gs : List Given) where
-  read-12 : flavours_known gs ≡ false → no_group 12 ≡ group_of cells (some gs)
+  read-12 : flavours_known gs ≡ false → no_group 12 ≡ group_of cells (Some gs)
   unfolding group_of given_number
   read-12 p = rw p
 
-  read-11 : flavours_known gs ≡ true → Eleven cells gs ≡ false → no_group 11 ≡ group_of cells (some gs)
+  read-11 : flavours_known gs ≡ true → Eleven cells gs ≡ false → no_group 11 ≡ group_of cells (Some gs)
   unfolding group_of given_number
   read-11 p q = rw (p, q)
 
-  read-1 : flavours_known gs ≡ true → Eleven cells gs ≡ true → members_known (nodes cells) gs ≡ false → no_group 1 ≡ group_of cells (some gs)
+  read-1 : flavours_known gs ≡ true → Eleven cells gs ≡ true → members_known (nodes cells) gs ≡ false → no_group 1 ≡ group_of cells (Some gs)
   unfolding group_of given_number
   read-1 p q r = rw (p, q, r)
 
-  read-built : flavours_known gs ≡ true → Eleven cells gs ≡ true → members_known (nodes cells) gs ≡ true → built_of gs ≡ group_of cells (some gs)
+  read-built : flavours_known gs ≡ true → Eleven cells gs ≡ true → members_known (nodes cells) gs ≡ true → built_of gs ≡ group_of cells (Some gs)
   unfolding group_of given_number built_of
   read-built p q r = rw (p, q, r) (at (leb (length gs) 64 && leb (length (members_given gs)) 256))
     where
-      at : (b : Bool) → ◌≡◌ {A = Changed} (if b then record { number = 0; answer = true; group = encode 256 (map class_meant gs) } else no_group 4)
-          (if eqb (if b then 0 else 4) 0 then record { number = 0; answer = true; group = encode 256 (map class_meant gs) } else no_group (if b then 0 else 4))
+      at : (b : Bool) → ◌≡◌ {A = Changed} (if b then record { answer = Ok true; group = encode 256 (map class_meant gs) } else no_group 4)
+          (if eqb (if b then 0 else 4) 0 then record { answer = Ok true; group = encode 256 (map class_meant gs) } else no_group (if b then 0 else 4))
       at true = refl
       at false = refl
 
 -- what stands for each return of the reader of classes
 module _ (cells body : List ℕ) (s : Shaped body) (r : Changed) where
-  carry : r ≡ group_of cells (some (given_of body)) → r ≡ group_of cells (body_given body)
+  carry : r ≡ group_of cells (Some (given_of body)) → r ≡ group_of cells (body_given body)
   carry e = e ∙ ap (group_of cells) (sym s.is)
 
   pub refuse_flavour : r ≡ no_group 12 → flavours_known (given_of body) ≡ false → r ≡ group_of cells (body_given body)
@@ -141,5 +140,5 @@ module _ (cells bytes : List ℕ) where
   not-shaped p q = at (body_given (body_of bytes)) q ∙ group_body_lem p
     where
       at : (o : Option (List Given)) → is_given o ≡ false → no_group 9 ≡ group_of cells o
-      at none e = refl
-      at (some gs) e = absurd (true_not_false refl e)
+      at None e = refl
+      at (Some gs) e = absurd (true_not_false refl e)

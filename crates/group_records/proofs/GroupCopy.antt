@@ -6,7 +6,8 @@ use mathlib.Core.Path.{◌≡◌, refl, sym, ap, ◌∙◌, subst}
 use native.Mathlib.Decide.{dec_lt}
 use native.Mathlib.Numerals.{add-one}
 use native.Mathlib.Omega.{arith}
-use lib.ListN.{length, get_or, take, set, replicate, length-append, length-set, length-map, get_or-append}
+use lib.ListN.{length, get_or, take, drop, set, replicate, length-append, length-set, length-map, get_or-append}
+use Rattle.std.proofs.lemmas.List.{drop-replicate}
 use lib.Seq.{paste, paste-zero, paste-suc, length-paste, take-paste, take-suc, take_all, length-take-le, get_or-append-add}
 use Rattle.laws.proofs.Each.{each_holds}
 use Rattle.classes.specs.Class.{Class}
@@ -150,21 +151,10 @@ gathered_all gs list used at j g l b =
     let e : members_given (take j gs) ≡ members_given gs = ap members_given (take_all j gs l) in
     ((g.long, b), (g.is ∙ e, subst (AllBelow 65536) e g.low))
 
--- the first k numbers of a list are in a table of members
-pub table_none : (numbers : List ℕ) → replicate 256 0 ≡ padded 256 (take 0 numbers)
+-- a list copied into the front of a table of members
+pub table-all : (numbers : List ℕ) → numbers ++ drop (length numbers) (replicate 256 0) ≡ padded 256 numbers
 unfolding padded
-table_none numbers = refl
-
-pub table_more : (numbers members : List ℕ) (k : ℕ) → length numbers ≤ 256 → k < length numbers → members ≡ padded 256 (take k numbers) → set members k (get_or numbers k 0) ≡ padded 256 (take (k + 1) numbers)
-table_more numbers members k l b e =
-    let n : length (take k numbers) ≡ k = length-take-le k numbers (omega arith) in
-    ap (λ (x : List ℕ). set x k (get_or numbers k 0)) e
-    ∙ ap (λ (i : ℕ). set (padded 256 (take k numbers)) i (get_or numbers k 0)) (sym n)
-    ∙ snoc_padded 256 (take k numbers) (get_or numbers k 0) (omega arith)
-    ∙ ap (padded 256) (sym (ap (λ (i : ℕ). take i numbers) (add-one k) ∙ take-suc numbers k 0 b))
-
-pub table-all : (numbers members : List ℕ) (k : ℕ) → length numbers ≤ k → members ≡ padded 256 (take k numbers) → members ≡ padded 256 numbers
-table-all numbers members k l e = e ∙ ap (padded 256) (take_all k numbers l)
+table-all numbers = ap (λ (t : List ℕ). numbers ++ t) (drop-replicate (length numbers) 256 0)
 
 -- the columns of the first j classes are written
 abbrev column_to : (Class → ℕ) → List Given → ℕ → List ℕ

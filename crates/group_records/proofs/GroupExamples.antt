@@ -2,12 +2,12 @@
 use Prim.Native.Nat.{ℕ}
 use mathlib.Core.Bool.{true, false}
 use mathlib.Core.List.{List, [], ◌∷◌, map}
-use mathlib.Core.Option.{none, some}
+use Rattle.std.specs.Prelude.{None, Some}
 use mathlib.Core.Path.{◌≡◌, refl}
 use Rattle.laws.specs.Tests.{each}
 use Rattle.laws.specs.Lists.{table}
 use Rattle.arena.specs.Node.{Node, column, literal}
-use Rattle.classes.specs.Class.{no_constant, known}
+use Rattle.classes.specs.declared.Constant.TheVariants.{NoConstant as no_constant, Known as known}
 use Rattle.classes.specs.Good.{flat}
 use Rattle.classes.specs.Layout.{constant_from, known_flavour, fresh, is_literal}
 use Rattle.records.specs.Fields.{field, wide_field, fields}
@@ -25,7 +25,7 @@ bytes =
     ∷ 3 ∷ 0 ∷ 7 ∷ 0 ∷ 0 ∷ 0 ∷ 2 ∷ 0 ∷ 0 ∷ 0 ∷ 1 ∷ 0
     ∷ 0 ∷ 0 ∷ 0 ∷ 0 ∷ 0 ∷ 0 ∷ 1 ∷ 0 ∷ 2 ∷ 0 ∷ []
 
-two-read : group_given bytes ≡ some two
+two-read : group_given bytes ≡ Some two
 unfolding group_given is_whole body_of body_given classes_given with_given given_at given_size field wide_field fields table
 two-read = refl
 
@@ -68,7 +68,7 @@ unfolding members_known flat class_meant each
 outside-refused = refl
 
 -- an empty class can be read, and is refused
-empty-read : body_given (1 ∷ 0 ∷ 0 ∷ 0 ∷ 0 ∷ 0 ∷ 0 ∷ 0 ∷ 0 ∷ 0 ∷ []) ≡ some (record { flavour = 0; value = 0; members = [] } ∷ [])
+empty-read : body_given (1 ∷ 0 ∷ 0 ∷ 0 ∷ 0 ∷ 0 ∷ 0 ∷ 0 ∷ 0 ∷ 0 ∷ []) ≡ Some (record { flavour = 0; value = 0; members = [] } ∷ [])
 unfolding body_given classes_given with_given given_at given_size field wide_field fields table
 empty-read = refl
 
@@ -91,19 +91,19 @@ unfolding flavours_known each known_flavour
 value-refused = refl
 
 -- a count of members that runs past the body, a count of classes that does, and a byte too many
-members-past : body_given (1 ∷ 0 ∷ 0 ∷ 0 ∷ 0 ∷ 0 ∷ 0 ∷ 0 ∷ 2 ∷ 0 ∷ 5 ∷ 0 ∷ []) ≡ none
+members-past : body_given (1 ∷ 0 ∷ 0 ∷ 0 ∷ 0 ∷ 0 ∷ 0 ∷ 0 ∷ 2 ∷ 0 ∷ 5 ∷ 0 ∷ []) ≡ None
 unfolding body_given classes_given with_given given_at given_size field wide_field fields table
 members-past = refl
 
-classes-past : body_given (2 ∷ 0 ∷ 0 ∷ 0 ∷ 0 ∷ 0 ∷ 0 ∷ 0 ∷ 1 ∷ 0 ∷ 5 ∷ 0 ∷ []) ≡ none
+classes-past : body_given (2 ∷ 0 ∷ 0 ∷ 0 ∷ 0 ∷ 0 ∷ 0 ∷ 0 ∷ 1 ∷ 0 ∷ 5 ∷ 0 ∷ []) ≡ None
 unfolding body_given classes_given with_given given_at given_size field wide_field fields table
 classes-past = refl
 
-byte_left : body_given (1 ∷ 0 ∷ 0 ∷ 0 ∷ 0 ∷ 0 ∷ 0 ∷ 0 ∷ 1 ∷ 0 ∷ 5 ∷ 0 ∷ 0 ∷ []) ≡ none
+byte_left : body_given (1 ∷ 0 ∷ 0 ∷ 0 ∷ 0 ∷ 0 ∷ 0 ∷ 0 ∷ 1 ∷ 0 ∷ 5 ∷ 0 ∷ 0 ∷ []) ≡ None
 unfolding body_given classes_given with_given given_at given_size field wide_field fields table
 byte_left = refl
 
 -- a record of no classes is a group of none
-none_read : group_given (2 ∷ 0 ∷ 16 ∷ 0 ∷ 0 ∷ 0 ∷ []) ≡ some []
+none_read : group_given (2 ∷ 0 ∷ 16 ∷ 0 ∷ 0 ∷ 0 ∷ []) ≡ Some []
 unfolding group_given is_whole body_of body_given classes_given with_given given_at given_size field wide_field fields table
 none_read = refl

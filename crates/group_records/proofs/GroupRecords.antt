@@ -1,9 +1,8 @@
 -- Promises of the reader of a group's record: what is read is a group that every call of the groups takes, of limit 256, with the classes of the record.
-use Rattle.std.specs.Prelude.{if◌then◌else◌}
+use Rattle.std.specs.Prelude.{if◌then◌else◌, Option, None, Some, Ok}
 use Prim.Native.Nat.{ℕ, ◌<◌, ◌≤◌}
 use mathlib.Core.Bool.{Bool, true, false, not, ◌&&◌, ◌||◌}
 use mathlib.Core.List.{List, [], map}
-use mathlib.Core.Option.{Option, none, some}
 use mathlib.Core.Path.{◌≡◌, refl, sym, ap, ◌∙◌, subst}
 use native.Mathlib.Omega.{arith}
 use borrow.Author.Tests.{leb-true, ltb-true, lt-ltb, eqb-true, eqb-false, not-true}
@@ -17,7 +16,9 @@ use Rattle.arena.specs.Layout.{lawful, decode as nodes}
 use Rattle.classes.specs.Class.{Class, is_uniform}
 use Rattle.classes.specs.Group.{among, class_at}
 use Rattle.classes.specs.Good.{Distinct, Good}
-use Rattle.classes.specs.Calls.{group_number}
+use Rattle.arena.specs.Refusals.{outcome, refusal}
+use Rattle.arena.proofs.Refusals.{Listed, listed-if, refused-number}
+use Rattle.classes.specs.Calls.{changed_number, group_number}
 use Rattle.classes.specs.Layout.{encode, decode, constant_from, known_flavour, fresh, is_literal}
 use Rattle.classes.specs.declared.Changed.{Changed}
 use Rattle.classes.proofs.Places.{length-flat, among-place, class-flat}
@@ -61,7 +62,7 @@ is-literal : (v : ℕ) → is_literal (literal v) ≡ true
 unfolding is_literal
 is-literal v = refl
 
-same-given : (gs hs : List Given) → ◌≡◌ {A = Option (List Given)} (some gs) (some hs) → gs ≡ hs
+same-given : (gs hs : List Given) → ◌≡◌ {A = Option (List Given)} (Some gs) (Some hs) → gs ≡ hs
 same-given gs hs e = cc
 
 module _ (cells : List ℕ) (gs : List Given) (e : given_number cells gs ≡ 0) where
@@ -152,17 +153,25 @@ module _ (cells : List ℕ) (gs : List Given) (e : given_number cells gs ≡ 0) 
 -- what a number of 0 says of a record that was read
 pub record Read (cells bytes : List ℕ) : Type 0 where
   pub gs : List Given
-  pub given : group_given bytes ≡ some gs
+  pub given : group_given bytes ≡ Some gs
   pub number : given_number cells gs ≡ 0
-  pub is : group_read cells bytes ≡ record { number = 0; answer = true; group = encode 256 (map class_meant gs) }
+  pub is : group_read cells bytes ≡ record { answer = Ok true; group = encode 256 (map class_meant gs) }
 
-module _ (cells bytes : List ℕ) (z : (group_read cells bytes).number ≡ 0) where
+-- the number of what was given stands in the table
+pub given-listed : (cells : List ℕ) (gs : List Given) → Listed (given_number cells gs)
+unfolding given_number outcome refusal
+given-listed cells gs =
+    listed-if (flavours_known gs) _ 12
+    (listed-if (lawful cells && (classes_filled gs && members_apart gs && literals_uniform (nodes cells) gs)) _ 11
+    (listed-if (members_known (nodes cells) gs) _ 1 (listed-if (leb (length gs) 64 && leb (length (members_given gs)) 256) 0 4 refl refl) refl) refl) refl
+
+module _ (cells bytes : List ℕ) (z : changed_number (group_read cells bytes) ≡ 0) where
   pub read : Read cells bytes
-  unfolding group_of no_group
+  unfolding group_of no_group refusal
   read = at (group_given bytes) refl z
     where
-      in_tests : (gs : List Given) → group_given bytes ≡ some gs → (b : Bool) → eqb (given_number cells gs) 0 ≡ b
-          → (if b then record { number = 0; answer = true; group = encode 256 (map class_meant gs) } else no_group (given_number cells gs)).number ≡ 0 → Read cells bytes
+      in_tests : (gs : List Given) → group_given bytes ≡ Some gs → (b : Bool) → eqb (given_number cells gs) 0 ≡ b
+          → changed_number (if b then record { answer = Ok true; group = encode 256 (map class_meant gs) } else no_group (given_number cells gs)) ≡ 0 → Read cells bytes
       in_tests gs p true q s =
           record {
             gs = gs;
@@ -170,11 +179,11 @@ module _ (cells bytes : List ℕ) (z : (group_read cells bytes).number ≡ 0) wh
             number = eqb-true (given_number cells gs) 0 q;
             is = ap (group_of cells) p ∙ rw q;
           }
-      in_tests gs p false q s = absurd (eqb-false (given_number cells gs) 0 q s)
+      in_tests gs p false q s = absurd (eqb-false (given_number cells gs) 0 q (sym (refused-number (given_number cells gs) (given-listed cells gs) q) ∙ s))
 
-      at : (o : Option (List Given)) → group_given bytes ≡ o → (group_of cells o).number ≡ 0 → Read cells bytes
-      at none p s = absurd (omega (arith, s))
-      at (some gs) p s = in_tests gs p (eqb (given_number cells gs) 0) refl s
+      at : (o : Option (List Given)) → group_given bytes ≡ o → changed_number (group_of cells o) ≡ 0 → Read cells bytes
+      at None p s = absurd (omega (arith, s))
+      at (Some gs) p s = in_tests gs p (eqb (given_number cells gs) 0) refl s
 
   -- a group that was read passes the check of every call that takes a group
   pub read_group-checked : group_number cells (group_read cells bytes).group ≡ 0
@@ -187,7 +196,7 @@ module _ (cells bytes : List ℕ) (z : (group_read cells bytes).number ≡ 0) wh
   read_group-limit = built-limit 256 (map class_meant read.gs) (group_read cells bytes).group (ap (λ (r : Changed). r.group) read.is)
 
   -- its classes are those of the record, in the record's order
-  pub read_group-classes : (gs : List Given) → group_given bytes ≡ some gs → decode (group_read cells bytes).group ≡ map class_meant gs
+  pub read_group-classes : (gs : List Given) → group_given bytes ≡ Some gs → decode (group_read cells bytes).group ≡ map class_meant gs
   read_group-classes gs p =
       ap (λ (r : Changed). decode r.group) read.is
       ∙ decode-encode 256 (map class_meant read.gs)

@@ -1,9 +1,8 @@
 -- A walk over the classes of a body: where it starts, what stands at its place, where it goes on, where it ends.
-use Rattle.std.specs.Prelude.{if◌then◌else◌}
+use Rattle.std.specs.Prelude.{if◌then◌else◌, Option, None, Some}
 use Prim.Native.Nat.{ℕ, zero, suc, ◌+◌, ◌-◌, ◌*◌, ◌<◌, ◌≤◌}
 use mathlib.Core.Bool.{Bool, true, false, not, ◌&&◌, ◌||◌}
 use mathlib.Core.List.{List, [], ◌∷◌}
-use mathlib.Core.Option.{Option, none, some}
 use mathlib.Core.Path.{◌≡◌, refl, sym, ap, ap₂, ◌∙◌}
 use native.Mathlib.Nat.{sub-zero}
 use native.Mathlib.Omega.{arith}
@@ -41,7 +40,7 @@ fields-drop at k n body =
     (λ i l. let e : at + (k + 2 * i) ≡ at + k + 2 * i = omega arith in field-drop at (k + 2 * i) body ∙ ap (field body) e)
 
 -- an answer that is there is no missing one
-some-none : {A : Type 0} {x : A} → ◌≡◌ {A = Option A} none (some x) → ⊥
+some-none : {A : Type 0} {x : A} → ◌≡◌ {A = Option A} None (Some x) → ⊥
 some-none e = let z : ◌≡◌ {A = ℕ} 0 1 = cc in omega arith
 
 -- what it says that a class and n more could be read
@@ -50,15 +49,15 @@ record Opened (n : ℕ) (bytes : List ℕ) (gs : List Given) : Type 0 where
   whole : given_size bytes ≤ length bytes
   rest : List Given
   is : gs ≡ given_at bytes ∷ rest
-  next : classes_given n (drop (given_size bytes) bytes) ≡ some rest
+  next : classes_given n (drop (given_size bytes) bytes) ≡ Some rest
 
-opened : (n : ℕ) (bytes : List ℕ) (gs : List Given) → classes_given (suc n) bytes ≡ some gs → Opened n bytes gs
+opened : (n : ℕ) (bytes : List ℕ) (gs : List Given) → classes_given (suc n) bytes ≡ Some gs → Opened n bytes gs
 unfolding classes_given with_given
 opened n bytes gs e = at (leb 8 (length bytes) && leb (given_size bytes) (length bytes)) refl e
   where
-    in_rest : (leb 8 (length bytes) && leb (given_size bytes) (length bytes)) ≡ true → (o : Option (List Given)) → classes_given n (drop (given_size bytes) bytes) ≡ o → with_given (given_at bytes) o ≡ some gs → Opened n bytes gs
-    in_rest q none p s = absurd (some-none s)
-    in_rest q (some hs) p s =
+    in_rest : (leb 8 (length bytes) && leb (given_size bytes) (length bytes)) ≡ true → (o : Option (List Given)) → classes_given n (drop (given_size bytes) bytes) ≡ o → with_given (given_at bytes) o ≡ Some gs → Opened n bytes gs
+    in_rest q None p s = absurd (some-none s)
+    in_rest q (Some hs) p s =
         record {
           long = leb-true 8 (length bytes) (and_left (leb 8 (length bytes)) (leb (given_size bytes) (length bytes)) q);
           whole = leb-true (given_size bytes) (length bytes) (and_right (leb 8 (length bytes)) (leb (given_size bytes) (length bytes)) q);
@@ -67,16 +66,16 @@ opened n bytes gs e = at (leb 8 (length bytes) && leb (given_size bytes) (length
           next = p;
         }
 
-    at : (b : Bool) → (leb 8 (length bytes) && leb (given_size bytes) (length bytes)) ≡ b → (if b then with_given (given_at bytes) (classes_given n (drop (given_size bytes) bytes)) else none) ≡ some gs → Opened n bytes gs
+    at : (b : Bool) → (leb 8 (length bytes) && leb (given_size bytes) (length bytes)) ≡ b → (if b then with_given (given_at bytes) (classes_given n (drop (given_size bytes) bytes)) else None) ≡ Some gs → Opened n bytes gs
     at true q s = in_rest q (classes_given n (drop (given_size bytes) bytes)) refl s
     at false q s = absurd (some-none s)
 
 -- there are as many classes as were asked for
-pub given-length : (n : ℕ) (bytes : List ℕ) (gs : List Given) → classes_given n bytes ≡ some gs → length gs ≡ n
+pub given-length : (n : ℕ) (bytes : List ℕ) (gs : List Given) → classes_given n bytes ≡ Some gs → length gs ≡ n
 unfolding classes_given
 given-length zero bytes gs e = at (eqb (length bytes) 0) e
   where
-    at : (b : Bool) → (if b then some [] else none) ≡ some gs → length gs ≡ 0
+    at : (b : Bool) → (if b then Some [] else None) ≡ Some gs → length gs ≡ 0
     at true s = let i : [] ≡ gs = cc in rw (sym i)
     at false s = absurd (some-none s)
 given-length (suc n) bytes gs e =
@@ -84,25 +83,25 @@ given-length (suc n) bytes gs e =
     rw o.is (ap (λ (k : ℕ). suc k) (given-length n (drop (given_size bytes) bytes) o.rest o.next))
 
 -- nothing is left after the last
-pub given_end : (bytes : List ℕ) (gs : List Given) → classes_given 0 bytes ≡ some gs → length bytes ≡ 0
+pub given_end : (bytes : List ℕ) (gs : List Given) → classes_given 0 bytes ≡ Some gs → length bytes ≡ 0
 unfolding classes_given
 given_end bytes gs e = at (eqb (length bytes) 0) refl e
   where
-    at : (b : Bool) → eqb (length bytes) 0 ≡ b → (if b then some [] else none) ≡ some gs → length bytes ≡ 0
+    at : (b : Bool) → eqb (length bytes) 0 ≡ b → (if b then Some [] else None) ≡ Some gs → length bytes ≡ 0
     at true q s = eqb-true (length bytes) 0 q
     at false q s = absurd (some-none s)
 
 -- the bytes of a body that could be read start with its number of classes
 record Body (body : List ℕ) : Type 0 where
   long : 2 ≤ length body
-  rest : classes_given (field body 0) (drop 2 body) ≡ some (given_of body)
+  rest : classes_given (field body 0) (drop 2 body) ≡ Some (given_of body)
 
 module _ (body : List ℕ) (s : Shaped body) where
   body_is : Body body
   unfolding body_given
   body_is = at (leb 2 (length body)) refl s.is
     where
-      at : (b : Bool) → leb 2 (length body) ≡ b → (if b then classes_given (field body 0) (drop 2 body) else none) ≡ some (given_of body) → Body body
+      at : (b : Bool) → leb 2 (length body) ≡ b → (if b then classes_given (field body 0) (drop 2 body) else None) ≡ Some (given_of body) → Body body
       at true q e = record { long = leb-true 2 (length body) q; rest = e }
       at false q e = absurd (some-none e)
 

@@ -2,7 +2,7 @@
 use Prim.Native.Nat.{ℕ, zero, suc, ◌+◌, ◌*◌, ◌/◌, ◌%◌, ◌<◌, ◌≤◌}
 use mathlib.Core.Bool.{Bool, true, false, not, ◌&&◌, ◌||◌}
 use mathlib.Core.List.{List, [], ◌∷◌, ◌++◌, map}
-use mathlib.Core.Option.{some}
+use Rattle.std.specs.Prelude.{Some, Ok}
 use mathlib.Core.Path.{◌≡◌, refl, sym, ap, ap₂, ◌∙◌, subst}
 use native.Mathlib.Omega.{arith}
 use borrow.Author.Tests.{le-leb, lt-ltb, eq-eqb, ne_eqb}
@@ -16,7 +16,9 @@ use Rattle.laws.proofs.Table.{table_is}
 use Rattle.arena.specs.Node.{Node, column, literal, operation, node_at}
 use Rattle.arena.specs.Layout.{lawful, decode as nodes}
 use Rattle.arena.proofs.Layouts.{lawful-holds}
-use Rattle.classes.specs.Class.{Constant, no_constant, heterogeneous, unknown, known, Class}
+use Rattle.classes.specs.declared.Constant.{Constant}
+use Rattle.classes.specs.declared.Constant.TheVariants.{NoConstant as no_constant, Heterogeneous as heterogeneous, Unknown as unknown, Known as known}
+use Rattle.classes.specs.Class.{Class}
 use Rattle.classes.specs.Group.{class_at, total}
 use Rattle.classes.specs.Good.{flat}
 use Rattle.classes.specs.Calls.{group_number}
@@ -98,12 +100,12 @@ module _ (c : Class) (rest : List ℕ) where
   class-passed = drop_at (class_bytes c) rest (given_size bytes) (sym class-size)
 
 one_more : (n : ℕ) (bytes : List ℕ) (g : Given) (gs : List Given) → (leb 8 (length bytes) && leb (given_size bytes) (length bytes)) ≡ true → given_at bytes ≡ g
-    → classes_given n (drop (given_size bytes) bytes) ≡ some gs → classes_given (suc n) bytes ≡ some (g ∷ gs)
+    → classes_given n (drop (given_size bytes) bytes) ≡ Some gs → classes_given (suc n) bytes ≡ Some (g ∷ gs)
 unfolding classes_given with_given
 one_more n bytes g gs q p r = rw (q, p, r)
 
 -- the bytes of classes are read as the classes
-classes-again : (cs : List Class) → classes_given (length cs) (classes_bytes cs) ≡ some (map given_for cs)
+classes-again : (cs : List Class) → classes_given (length cs) (classes_bytes cs) ≡ Some (map given_for cs)
 unfolding classes_given classes_bytes
 classes-again [] = refl
 classes-again (c ∷ cs) =
@@ -114,7 +116,7 @@ long_body : (body : List ℕ) → 2 ≤ length body → body_given body ≡ clas
 unfolding body_given
 long_body body l = rw (le-leb 2 (length body) l)
 
-body_again : (cs : List Class) → body_given (group_body cs) ≡ some (map given_for cs)
+body_again : (cs : List Class) → body_given (group_body cs) ≡ Some (map given_for cs)
 unfolding group_body field_bytes
 body_again cs =
     long_body (field_bytes (length cs) ++ classes_bytes cs) (omega arith)
@@ -146,7 +148,7 @@ module _ (cs : List Class) (more : List ℕ) where
       whole_from (group_bytes cs ++ more) (omega arith) (omega arith)
 
   -- the record of a group gives its classes
-  pub written-given : group_given (group_bytes cs ++ more) ≡ some (map given_for cs)
+  pub written-given : group_given (group_bytes cs ++ more) ≡ Some (map given_for cs)
   unfolding group_given
   written-given = rw (whole_again, eq-eqb (field (group_bytes cs ++ more) 2) 16 kind-again) (ap body_given body_kept ∙ body_again cs)
 
@@ -233,11 +235,11 @@ module _ (cells : List ℕ) (cs : List Class) (w : lawful cells ≡ true) (f : F
   passes = rw (flavours, w, filled, apart, uniform, inside, few, small)
 
   -- each group has a record, which is read as the group of limit 256 with these classes, whatever stands after: over a lawful arena, for classes that are a group
-  pub written_read : (more : List ℕ) → group_read cells (group_bytes cs ++ more) ≡ record { number = 0; answer = true; group = encode 256 cs }
+  pub written_read : (more : List ℕ) → group_read cells (group_bytes cs ++ more) ≡ record { answer = Ok true; group = encode 256 cs }
   unfolding group_of
   written_read more =
       ap (group_of cells) (written-given cs more)
-      ∙ rw passes (ap (λ (ds : List Class). record { number = 0; answer = true; group = encode 256 ds }) (meant_again cs))
+      ∙ rw passes (ap (λ (ds : List Class). record { answer = Ok true; group = encode 256 ds }) (meant_again cs))
 
 -- the bytes of numbers are bytes
 two_bytes : (x : ℕ) → length (field_bytes x) ≡ 2
@@ -311,7 +313,7 @@ module _ (cells : List ℕ) (cs : List Class) (w : lawful cells ≡ true) (f : F
       (classes_bytes-small cs (λ i l. record { value = v i l; count = class-count i l; members = members-low i l }))))
 
 -- a group that passes the check has a record, which is read as a group of limit 256 with its classes
-pub checked-written : (cells : List ℕ) (g : Group) → group_number cells g ≡ 0 → (more : List ℕ) → group_read cells (group_bytes (decode g) ++ more) ≡ record { number = 0; answer = true; group = encode 256 (decode g) }
+pub checked-written : (cells : List ℕ) (g : Group) → group_number cells g ≡ 0 → (more : List ℕ) → group_read cells (group_bytes (decode g) ++ more) ≡ record { answer = Ok true; group = encode 256 (decode g) }
 checked-written cells g e more =
     let f = number-fit cells g e in
     written_read cells (decode g) (number-lawful cells g e) (record { low = omega arith; high = omega arith; few = f.few; within = omega (arith, f.within, f.high); good = f.good }) more

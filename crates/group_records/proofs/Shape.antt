@@ -1,9 +1,8 @@
 -- The length of a body against what its counts say, class by class.
-use Rattle.std.specs.Prelude.{if◌then◌else◌}
+use Rattle.std.specs.Prelude.{if◌then◌else◌, Option, None, Some}
 use Prim.Native.Nat.{ℕ, suc, ◌+◌, ◌-◌, ◌*◌, ◌<◌, ◌≤◌}
 use mathlib.Core.Bool.{Bool, true, false, ◌&&◌}
 use mathlib.Core.List.{List, []}
-use mathlib.Core.Option.{Option, none, some}
 use mathlib.Core.Path.{◌≡◌, refl, sym, ap, ◌∙◌}
 use native.Mathlib.Nat.{sub-zero}
 use native.Mathlib.Omega.{arith}
@@ -20,13 +19,6 @@ use Rattle.group_records.proofs.GroupWalk.{field-drop}
 -- the class at a place doesn't run past the end
 abbrev pub FitsAt : List ℕ → ℕ → Bool
 FitsAt body at = leb (at + 8) (length body) && leb (at + 8 + 2 * field body (at + 6)) (length body)
-
--- by what is left from there on
-pub fits-left : (at n m f : ℕ) → at ≤ n → 8 ≤ n - at → m ≡ f → leb (2 * m) (n - at - 8) ≡ (leb (at + 8) n && leb (at + 8 + 2 * f) n)
-fits-left at n m f l h e =
-    same_test (leb (2 * m) (n - at - 8)) (leb (at + 8) n && leb (at + 8 + 2 * f) n)
-    (λ p. and_both (le-leb (at + 8) n (omega arith)) (le-leb (at + 8 + 2 * f) n (omega (arith, leb-true (2 * m) (n - at - 8) p))))
-    (λ p. le-leb (2 * m) (n - at - 8) (omega (arith, leb-true (at + 8 + 2 * f) n (and_right (leb (at + 8) n) (leb (at + 8 + 2 * f) n) p))))
 
 -- the definition's own test of what is left
 fits-drop : (body : List ℕ) (at : ℕ) → at ≤ length body → (leb 8 (length (drop at body)) && leb (given_size (drop at body)) (length (drop at body))) ≡ FitsAt body at
@@ -47,8 +39,8 @@ fits-drop body at l =
 -- a class before others changes nothing of whether they could be read
 with-given : (g : Given) (o : Option (List Given)) → is_given (with_given g o) ≡ is_given o
 unfolding with_given is_given
-with-given g none = refl
-with-given g (some gs) = refl
+with-given g None = refl
+with-given g (Some gs) = refl
 
 -- the n classes of some bytes could be read, by the test of the first
 turn-given : (n : ℕ) (bytes : List ℕ) (b : Bool) → (leb 8 (length bytes) && leb (given_size bytes) (length bytes)) ≡ b
@@ -97,7 +89,7 @@ shape_end body n at j l b = let e : n - j ≡ 0 = omega arith in rw e (same_end 
         (λ p. eq-eqb (length (drop at body)) 0 (omega (arith, eqb-true at (length body) p, length-drop at body)))
         (λ p. eq-eqb at (length body) (omega (arith, eqb-true (length (drop at body)) 0 p, length-drop at body)))
 
-    given-none : (t : Bool) → t ≡ is_given (if t then some [] else none)
+    given-none : (t : Bool) → t ≡ is_given (if t then Some [] else None)
     given-none true = refl
     given-none false = refl
 
@@ -106,6 +98,6 @@ pub shaped-is : (body : List ℕ) → length body ≤ 65535 → is_given (body_g
 unfolding is_given givens
 shaped-is body l q = record { short = l; is = at (body_given body) q }
   where
-    at : (o : Option (List Given)) → is_given o ≡ true → o ≡ some (givens o)
-    at none p = absurd (let z : ◌≡◌ {A = ℕ} 0 1 = cc in omega arith)
-    at (some gs) p = refl
+    at : (o : Option (List Given)) → is_given o ≡ true → o ≡ Some (givens o)
+    at None p = absurd (let z : ◌≡◌ {A = ℕ} 0 1 = cc in omega arith)
+    at (Some gs) p = refl

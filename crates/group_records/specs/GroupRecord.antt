@@ -1,6 +1,5 @@
 -- Kind 16, a group: class count, then for each class its flavour (0 none, 1 heterogeneous, 2 uniform unknown, 3 uniform with a value), a 32-bit value, its member count, its members.
-use Rattle.std.specs.Prelude.{ℕ, zero, suc, ◌+◌, ◌*◌, Bool, true, not, ◌&&◌, ◌||◌, List, [], ◌∷◌, ◌++◌, map, eqb, ltb, leb, length, get_or, drop, if◌then◌else◌}
-use Rattle.std.proofs.Math.Option.{Option, none, some}
+use Rattle.std.specs.Prelude.{ℕ, zero, suc, ◌+◌, ◌*◌, Bool, true, not, ◌&&◌, ◌||◌, List, [], ◌∷◌, ◌++◌, map, eqb, ltb, leb, length, get_or, drop, if◌then◌else◌, Option, None, Some, Ok}
 use Rattle.laws.specs.Tests.{each}
 use Rattle.arena.specs.Node.{Node, node_at}
 use Rattle.arena.specs.Layout.{lawful, decode as nodes}
@@ -27,23 +26,23 @@ given_size bytes = 8 + 2 * field bytes 6
 
 -- a class before others, if those could be read
 unfoldable pub with_given : Given → Option (List Given) → Option (List Given)
-with_given g none = none
-with_given g (some gs) = some (g ∷ gs)
+with_given g None = None
+with_given g (Some gs) = Some (g ∷ gs)
 
 -- n classes that take all of some bytes; none where the bytes are fewer or more than their counts say
 unfoldable pub classes_given : ℕ → List ℕ → Option (List Given)
-classes_given zero bytes = if eqb (length bytes) 0 then some [] else none
+classes_given zero bytes = if eqb (length bytes) 0 then Some [] else None
 classes_given (suc n) bytes =
     if leb 8 (length bytes) && leb (given_size bytes) (length bytes) then with_given (given_at bytes) (classes_given n (drop (given_size bytes) bytes))
-    else none
+    else None
 
 -- the classes of a body: their count, then they
 unfoldable pub body_given : List ℕ → Option (List Given)
-body_given body = if leb 2 (length body) then classes_given (field body 0) (drop 2 body) else none
+body_given body = if leb 2 (length body) then classes_given (field body 0) (drop 2 body) else None
 
 -- the classes of a group record; none (9) where it is malformed
 unfoldable pub group_given : List ℕ → Option (List Given)
-group_given bytes = if is_whole bytes && eqb (field bytes 2) 16 then body_given (body_of bytes) else none
+group_given bytes = if is_whole bytes && eqb (field bytes 2) 16 then body_given (body_of bytes) else None
 
 -- the class that is meant
 unfoldable pub class_meant : Given → Class
@@ -91,9 +90,9 @@ given_number cells gs =
 
 -- the group of a record, of limit 256, or the refusal
 unfoldable pub group_of : List ℕ → Option (List Given) → Changed
-group_of cells none = no_group 9
-group_of cells (some gs) =
-    if eqb (given_number cells gs) 0 then record { number = 0; answer = true; group = encode 256 (map class_meant gs) }
+group_of cells None = no_group 9
+group_of cells (Some gs) =
+    if eqb (given_number cells gs) 0 then record { answer = Ok true; group = encode 256 (map class_meant gs) }
     else no_group (given_number cells gs)
 
 -- the call on lent cells and a lent record

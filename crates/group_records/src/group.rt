@@ -11,8 +11,9 @@ ghost use Rattle.records.specs.Record.{AllBelow};
 ghost use Rattle.group_records.specs.GroupRecord.{body_given, flavours_known, classes_filled, members_given, literals_uniform, group_read, group_of};
 ghost use Rattle.group_records.specs.Inner.{is_given, given_of, Shaped, Listed, columns_of, built_of};
 
+use arena::Refusal;
 use arena::adding::all_below;
-use arena::cells::node_count;
+use arena::cells::{node_count, wide};
 use arena::checking::lawful_arena;
 use classes::building::empty;
 use classes::refusing::no_group;
@@ -35,10 +36,7 @@ fn class_fits(body: &[u8], at: usize) -> bool
     ensures { result ≡ (leb (at + 8) (length body.now) && leb (at + 8 + 2 * field_of body.now (at + 6)) (length body.now)) }
 {
     let left = body.len() - at;
-    if left < 8 {
-        return false;
-    }
-    2 * member_count(body, at) <= left - 8
+    8 <= left && 2 * member_count(body, at) <= left - 8
 }
 
 // The length of a body is what its counts say.
@@ -51,13 +49,11 @@ fn is_shaped(body: &[u8]) -> bool
     }
     let n = index(field(body, 0));
     let mut at = 2;
-    let mut j = 0;
-    while j < n {
+    for _j in 0..n {
         if !class_fits(body, at) {
             return false;
         }
         at += 8 + 2 * member_count(body, at);
-        j += 1;
     }
     at == body.len()
 }
@@ -77,13 +73,11 @@ fn flavours_known(body: &[u8]) -> bool
 {
     let n = class_count(body);
     let mut at = 2;
-    let mut j = 0;
-    while j < n {
-        if !known_flavour(field(body, at) as u32, wide_field(body, at + 2)) {
+    for _j in 0..n {
+        if !known_flavour(u32::from(field(body, at)), wide_field(body, at + 2)) {
             return false;
         }
         at += 8 + 2 * member_count(body, at);
-        j += 1;
     }
     true
 }
@@ -95,13 +89,11 @@ fn classes_filled(body: &[u8]) -> bool
 {
     let n = class_count(body);
     let mut at = 2;
-    let mut j = 0;
-    while j < n {
+    for _j in 0..n {
         if member_count(body, at) == 0 {
             return false;
         }
         at += 8 + 2 * member_count(body, at);
-        j += 1;
     }
     true
 }
@@ -111,15 +103,7 @@ fn members_fit(cells: &[u32; 11265], body: &[u8], at: usize, m: usize, flavour: 
     requires { Holds cells.now × (at + 2 * m ≤ length body.now) }
     ensures { result ≡ each (λ k. not (ltb (get_or (fields body.now at m) k 0) (length (nodes cells.now)) && is_literal (node_at (nodes cells.now) (get_or (fields body.now at m) k 0))) || leb 2 flavour) m }
 {
-    let mut k = 0;
-    while k < m {
-        let e = field(body, at + 2 * k) as u32;
-        if !member_fits(cells, e, flavour) {
-            return false;
-        }
-        k += 1;
-    }
-    true
+    (0..m).all(|k| member_fits(cells, u32::from(field(body, at + 2 * k)), flavour))
 }
 
 // A literal's class is uniform.
@@ -129,14 +113,12 @@ fn literals_uniform(cells: &[u32; 11265], body: &[u8]) -> bool
 {
     let n = class_count(body);
     let mut at = 2;
-    let mut j = 0;
-    while j < n {
+    for _j in 0..n {
         let m = member_count(body, at);
-        if !members_fit(cells, body, at + 8, m, field(body, at) as u32) {
+        if !members_fit(cells, body, at + 8, m, u32::from(field(body, at))) {
             return false;
         }
         at += 8 + 2 * m;
-        j += 1;
     }
     true
 }
@@ -146,7 +128,7 @@ fn member_at(body: &[u8], at: usize) -> u32
     requires { at + 1 < length body.now }
     ensures { (result ≡ field_of body.now at) × (result < 65536) }
 {
-    field(body, at) as u32
+    u32::from(field(body, at))
 }
 
 // Copies the m members from a place of a body on to the end of a list.
@@ -154,10 +136,8 @@ fn copy_members(list: &mut [u32; 32768], used: usize, body: &[u8], at: usize, m:
     requires { ((length list.old ≡ 32768) × (used + m ≤ 32768)) × (at + 2 * m ≤ length body.now) }
     ensures { (list.new ≡ paste list.old used (fields body.now at m) m) × AllBelow 65536 (fields body.now at m) }
 {
-    let mut k = 0;
-    while k < m {
+    for k in 0..m {
         list[used + k] = member_at(body, at + 2 * k);
-        k += 1;
     }
 }
 
@@ -169,13 +149,11 @@ fn copy_all(list: &mut [u32; 32768], body: &[u8]) -> usize
     let n = class_count(body);
     let mut used = 0;
     let mut at = 2;
-    let mut j = 0;
-    while j < n {
+    for _j in 0..n {
         let m = member_count(body, at);
         copy_members(list, used, body, at + 8, m);
         used += m;
         at += 8 + 2 * m;
-        j += 1;
     }
     used
 }
@@ -186,14 +164,12 @@ fn numbers_apart(numbers: &[u32]) -> bool
     ensures { result ≡ each (λ k. fresh numbers.now k) (length numbers.now) }
 {
     let mut seen = [0u8; 65536];
-    let mut k = 0;
-    while k < numbers.len() {
-        let e = numbers[k] as usize;
+    for x in numbers {
+        let e = wide(*x);
         if seen[e] != 0 {
             return false;
         }
         seen[e] = 1;
-        k += 1;
     }
     true
 }
@@ -206,14 +182,12 @@ fn columns(body: &[u8]) -> Group
     let n = class_count(body);
     let mut group = empty(256);
     let mut at = 2;
-    let mut j = 0;
-    while j < n {
+    for j in 0..n {
         let m = member_count(body, at);
         group.sizes[j] = m;
-        group.flavours[j] = field(body, at) as u32;
+        group.flavours[j] = u32::from(field(body, at));
         group.values[j] = wide_field(body, at + 2);
         at += 8 + 2 * m;
-        j += 1;
     }
     group.count = n;
     group
@@ -225,11 +199,7 @@ fn member_table(numbers: &[u32]) -> [u32; 256]
     ensures { result ≡ padded 256 numbers.now }
 {
     let mut members = [0u32; 256];
-    let mut k = 0;
-    while k < numbers.len() {
-        members[k] = numbers[k];
-        k += 1;
-    }
+    members[..numbers.len()].copy_from_slice(numbers);
     members
 }
 
@@ -238,20 +208,16 @@ fn build(body: &[u8], numbers: &[u32]) -> Changed
     requires { Shaped body.now × ((flavours_known (given_of body.now) ≡ true) × (numbers.now ≡ members_given (given_of body.now))) }
     ensures { result ≡ built_of (given_of body.now) }
 {
-    if 64 < class_count(body) {
-        return no_group(4);
-    }
-    if 256 < numbers.len() {
-        return no_group(4);
+    if 64 < class_count(body) || 256 < numbers.len() {
+        return no_group(Refusal::GroupFull);
     }
     let mut group = columns(body);
     let members = member_table(numbers);
     group.members = members;
     group.used = numbers.len();
     Changed {
-        number: 0,
-        answer: true,
-        group: group,
+        answer: Ok(true),
+        group,
     }
 }
 
@@ -260,14 +226,11 @@ fn listed_group(cells: &[u32; 11265], body: &[u8], numbers: &[u32]) -> Changed
     requires { Listed cells.now body.now numbers.now }
     ensures { result ≡ group_of cells.now (body_given body.now) }
 {
-    if !numbers_apart(numbers) {
-        return no_group(11);
-    }
-    if !literals_uniform(cells, body) {
-        return no_group(11);
+    if !numbers_apart(numbers) || !literals_uniform(cells, body) {
+        return no_group(Refusal::BadState);
     }
     if !all_below(numbers, node_count(cells)) {
-        return no_group(1);
+        return no_group(Refusal::UnknownExpression);
     }
     build(body, numbers)
 }
@@ -278,13 +241,10 @@ fn read_classes(cells: &[u32; 11265], body: &[u8]) -> Changed
     ensures { result ≡ group_of cells.now (body_given body.now) }
 {
     if !flavours_known(body) {
-        return no_group(12);
+        return no_group(Refusal::BadNumber);
     }
-    if !lawful_arena(cells) {
-        return no_group(11);
-    }
-    if !classes_filled(body) {
-        return no_group(11);
+    if !lawful_arena(cells) || !classes_filled(body) {
+        return no_group(Refusal::BadState);
     }
     let mut list = [0u32; 32768];
     let n = copy_all(&mut list, body);
@@ -296,11 +256,11 @@ pub fn read_group_in(cells: &[u32; 11265], bytes: &[u8]) -> Changed
     ensures { result ≡ group_read cells.now bytes.now }
 {
     if !is_group_record(bytes) {
-        return no_group(9);
+        return no_group(Refusal::Malformed);
     }
     let body = body_of(bytes);
     if !is_shaped(body) {
-        return no_group(9);
+        return no_group(Refusal::Malformed);
     }
     read_classes(cells, body)
 }

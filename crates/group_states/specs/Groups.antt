@@ -1,8 +1,8 @@
 -- A group in 451 cells: limit, classes, members; for each of 64 classes its size, its flavour, its value; 256 places for members.
-use Rattle.std.specs.Prelude.{ℕ, List, ◌∷◌, ◌++◌, eqb, get_or, if◌then◌else◌}
+use Rattle.std.specs.Prelude.{ℕ, List, ◌∷◌, ◌++◌, get_or}
 use Rattle.classes.specs.declared.Group.{Group}
 use Rattle.classes.specs.declared.Changed.{Changed}
-use Rattle.states.specs.Cells.{part}
+use Rattle.states.specs.Cells.{part, told}
 
 -- the struct in the cells
 unfoldable pub group_from : List ℕ → Group
@@ -23,4 +23,4 @@ group_cells g = g.limit ∷ g.count ∷ g.used ∷ (g.sizes ++ (g.flavours ++ (g
 
 -- what a call that hands back a group returns, and the cells afterwards: a refusal leaves them as they were
 unfoldable pub stored_group : List ℕ → Changed → ℕ × List ℕ
-stored_group cells c = if eqb c.number 0 then (0, group_cells c.group) else (c.number, cells)
+stored_group cells c = told (λ _. group_cells c.group) cells c.answer

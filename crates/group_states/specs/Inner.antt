@@ -1,4 +1,5 @@
 -- What the functions that write a group ask: every number fits its cell.
+use Rattle.classes.specs.Calls.{changed_number}
 use Rattle.std.specs.Prelude.{ℕ, ◌<◌, List, ◌≡◌, get_or}
 use Rattle.classes.specs.declared.Group.{Group}
 use Rattle.classes.specs.declared.Changed.{Changed}
@@ -16,4 +17,4 @@ pub record GroupFits (g : Group) : Type 0 where
 
 -- so do those of a group that is handed back, unless it is refused
 abbrev pub FitsIfDone : Changed → Type 0
-FitsIfDone c = c.number ≡ 0 → GroupFits c.group
+FitsIfDone c = changed_number c ≡ 0 → GroupFits c.group

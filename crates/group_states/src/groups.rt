@@ -11,63 +11,37 @@ use states::{
     GROUP_CELLS, GROUP_COUNT, GROUP_FLAVOURS, GROUP_LIMIT, GROUP_MEMBERS, GROUP_SIZES, GROUP_USED,
     GROUP_VALUES,
 };
+use std::array;
 
 // The sizes of the classes.
 fn sizes_from(cells: &[u32; GROUP_CELLS]) -> [usize; 64]
     ensures { result ≡ part cells.now 3 64 }
 {
-    let mut sizes = [0usize; 64];
-    let mut k = 0;
-    while k < 64 {
-        sizes[k] = wide(cells[GROUP_SIZES + k]);
-        k += 1;
-    }
-    sizes
+    array::from_fn(|k| wide(cells[GROUP_SIZES + k]))
 }
 
-// The table of 64 numbers from a cell on.
-fn table_from(cells: &[u32; GROUP_CELLS], at: usize) -> [u32; 64]
-    requires { at + 64 ≤ 451 }
-    ensures { result ≡ part cells.now at 64 }
+// The table of N numbers from a cell on.
+fn table_from<const N: usize>(cells: &[u32; GROUP_CELLS], at: usize) -> [u32; N]
+    requires { at + N ≤ 451 }
+    ensures { result ≡ part cells.now at N }
 {
-    let mut numbers = [0u32; 64];
-    let mut k = 0;
-    while k < 64 {
-        numbers[k] = cells[at + k];
-        k += 1;
-    }
+    let mut numbers = [0u32; N];
+    numbers.copy_from_slice(&cells[at..at + N]);
     numbers
-}
-
-// The members of all classes.
-fn members_from(cells: &[u32; GROUP_CELLS]) -> [u32; 256]
-    ensures { result ≡ part cells.now 195 256 }
-{
-    let mut members = [0u32; 256];
-    let mut k = 0;
-    while k < 256 {
-        members[k] = cells[GROUP_MEMBERS + k];
-        k += 1;
-    }
-    members
 }
 
 // The group in its cells.
 pub fn load_group(cells: &[u32; GROUP_CELLS]) -> Group
     ensures { result ≡ group_from cells.now }
 {
-    let sizes = sizes_from(cells);
-    let flavours = table_from(cells, GROUP_FLAVOURS);
-    let values = table_from(cells, GROUP_VALUES);
-    let members = members_from(cells);
     Group {
         limit: wide(cells[GROUP_LIMIT]),
         count: wide(cells[GROUP_COUNT]),
         used: wide(cells[GROUP_USED]),
-        sizes: sizes,
-        flavours: flavours,
-        values: values,
-        members: members,
+        sizes: sizes_from(cells),
+        flavours: table_from(cells, GROUP_FLAVOURS),
+        values: table_from(cells, GROUP_VALUES),
+        members: table_from(cells, GROUP_MEMBERS),
     }
 }
 
@@ -86,10 +60,8 @@ fn put_widths(sizes: [usize; 64], cells: &mut [u32])
     requires { (67 ≤ length cells.old) × AllBelow 4294967296 sizes }
     ensures { take 67 cells.new ≡ take 3 cells.old ++ sizes }
 {
-    let mut k = 0;
-    while k < 64 {
+    for k in 0..64 {
         cells[GROUP_SIZES + k] = narrow(sizes[k]);
-        k += 1;
     }
 }
 
@@ -98,11 +70,7 @@ fn put_numbers(numbers: &[u32], cells: &mut [u32], at: usize)
     requires { at + length numbers.now ≤ length cells.old }
     ensures { take (at + length numbers.now) cells.new ≡ take at cells.old ++ numbers.now }
 {
-    let mut k = 0;
-    while k < numbers.len() {
-        cells[at + k] = numbers[k];
-        k += 1;
-    }
+    cells[at..at + numbers.len()].copy_from_slice(numbers);
 }
 
 // Writes the sizes of the classes.
@@ -133,31 +101,30 @@ fn put_group(group: Group, cells: &mut [u32; GROUP_CELLS])
     requires { GroupFits group }
     ensures { cells.new ≡ group_cells group }
 {
-    let sizes = group.sizes;
-    let flavours = group.flavours;
-    let values = group.values;
-    let members = group.members;
     put_counts(
         narrow(group.limit),
         narrow(group.count),
         narrow(group.used),
         cells,
     );
-    put_sizes(sizes, cells);
-    put_table(flavours, cells, GROUP_FLAVOURS);
-    put_table(values, cells, GROUP_VALUES);
-    put_members(members, cells);
+    put_sizes(group.sizes, cells);
+    put_table(group.flavours, cells, GROUP_FLAVOURS);
+    put_table(group.values, cells, GROUP_VALUES);
+    put_members(group.members, cells);
 }
 
 // Writes the group that a call hands back, unless it was refused. The answer is the refusal's number or 0.
+#[tactic(auto, unfolding(crate::specs::Groups::stored_group, states::specs::Cells::told))]
 pub fn store_group(changed: Changed, cells: &mut [u32; GROUP_CELLS]) -> u32
     requires { FitsIfDone changed }
     ensures { (result, cells.new) ≡ stored_group cells.old changed }
 {
-    if changed.number != 0 {
-        return changed.number;
+    match changed.answer {
+        Ok(_) => {
+            let group = changed.group;
+            put_group(group, cells);
+            0
+        }
+        Err(why) => u32::from(why),
     }
-    let group = changed.group;
-    put_group(group, cells);
-    0
 }

@@ -1,4 +1,5 @@
 -- Pairs with other right sides by their places, and pairs as equal conditions from a place on.
+use Rattle.std.specs.Prelude.{None, Some}
 use Prim.Native.Nat.{ℕ, zero, suc, ◌+◌, ◌<◌, ◌≤◌}
 use mathlib.Core.Bool.{true, false}
 use mathlib.Core.List.{List, [], ◌∷◌}
@@ -46,11 +47,11 @@ module _ (ns : List Node) (qs : List (ℕ × ℕ)) (cs : List Class) (k : ℕ) w
     equated-next f = ap (λ (l : List (ℕ × ℕ)). equated_all ns l cs) rest ∙ rw f
 
     -- it doesn't
-    pub equated-over : fits 256 (after a b) ≡ false → equated_all ns (drop k qs) cs ≡ mathlib.Core.Option.none
+    pub equated-over : fits 256 (after a b) ≡ false → equated_all ns (drop k qs) cs ≡ None
     unfolding equated_all
     equated-over f = ap (λ (l : List (ℕ × ℕ)). equated_all ns l cs) rest ∙ rw f
 
   -- none is left
-  pub equated_end : length qs ≤ k → equated_all ns (drop k qs) cs ≡ mathlib.Core.Option.some cs
+  pub equated_end : length qs ≤ k → equated_all ns (drop k qs) cs ≡ Some cs
   unfolding equated_all
   equated_end l = ap (λ (l : List (ℕ × ℕ)). equated_all ns l cs) (drop_of_length-le qs l)

@@ -1,12 +1,15 @@
 -- A join, step by step: the pairs, the nodes and the list by a lift, the shift by a number of columns, the kinds, and the call.
-use Rattle.std.specs.Prelude.{if◌then◌else◌}
+use Rattle.arena.specs.declared.Refusal.{Refusal}
+use Rattle.arena.specs.declared.Refusal.TheVariants.{ArenaFull, GroupFull, IndexOutOfRange}
+use Rattle.arena.specs.Refusals.{Added, refusal, outcome}
+use Rattle.arena.proofs.Refusals.{ok-not-err, ok-zero, err-refusal, Listed, listed-if}
+use Rattle.std.specs.Prelude.{if◌then◌else◌, Option, None, Some, Result, Err, Ok}
 use Prim.Native.Nat.{ℕ, zero, suc, ◌+◌, ◌*◌, ◌/◌, ◌<◌, ◌≤◌}
 use mathlib.Core.Bool.{Bool, true, false, ◌&&◌}
 use mathlib.Core.List.{List, [], ◌∷◌, ◌++◌, append-nil}
-use mathlib.Core.Option.{Option, none, some}
 use mathlib.Core.Path.{◌≡◌, refl, sym, ap, ap₂, ◌∙◌, subst}
 use native.Mathlib.Omega.{arith}
-use borrow.Author.Tests.{eq-eqb, ne_eqb, ltb-true, leb-true, le-leb, lt-leb}
+use borrow.Author.Tests.{ltb-true, leb-true, le-leb, lt-leb}
 use denote.Laws.{Is}
 use mir.Val.{Val}
 use lib.Dec.{ltb, leb}
@@ -25,8 +28,6 @@ use Rattle.arena.specs.Layout.{lawful, encode as encode_nodes, decode as nodes}
 use Rattle.arena.specs.Calls.{in_cells}
 use Rattle.arena.specs.Inner.{Holds, Known, Memo, Walked, told}
 use Rattle.shifting.specs.Inner.{Ready, lifted, shifted_by}
-use Rattle.arena.specs.declared.Added.{Added}
-use Rattle.arena.specs.declared.Added.TheVariants.{Number, Refused}
 use Rattle.arena.proofs.Nodes.{extends-none, extends-both, extends-longer}
 use Rattle.arena.proofs.Layouts.{length-decode as nodes-count, coded-cells, lawful-holds}
 use Rattle.arena.proofs.Walking.{memo-none, prefixed}
@@ -35,7 +36,7 @@ use Rattle.classes.specs.Group.{total, equal_condition}
 use Rattle.classes.specs.Good.{flat, Good}
 use Rattle.classes.specs.Steps.{fits, judged, refused}
 use Rattle.classes.specs.Layout.{encode, decode, in_set, lawful_group, members_inside}
-use Rattle.classes.specs.Calls.{group_number, changed}
+use Rattle.classes.specs.Calls.{group_number, answer_of, changed}
 use Rattle.classes.specs.Inner.{Coded, Held}
 use Rattle.classes.specs.declared.Group.{Group}
 use Rattle.classes.specs.declared.Changed.{Changed}
@@ -67,6 +68,10 @@ use Rattle.joins.proofs.EquatedPairs.{length-with, with_at, equated-next, equate
 use Rattle.shifted_classes.proofs.ShiftedParts.{length-shifted, shifted-front}
 
 -- ---- the pairs
+
+-- an answer beside a group
+abbrev handed : Result Bool Refusal → Group → Changed
+handed a g = record { answer = a; group = g }
 
 -- the layout of good classes, few of them, is a group of limit 256
 held-made : (ns : List Node) (g : Group) (cs : List Class) → g ≡ encode 256 cs → length cs ≤ 64 → total cs ≤ 256 → Good ns cs → Held ns g
@@ -173,11 +178,11 @@ module _ (lift : ℕ) (s memo : List ℕ) (g : Group) (numbers : List ℕ) (pre 
             ∙ numbers-there lift (nodes s) d.holds.sound (rights_lent numbers) d.known d.moves (nodes s) d.holds.sound rights has k place
 
         -- it is no refusal
-        pub equate-never : (j : ℕ) → a ≡ Refused j → ⊥
+        pub equate-never : (j : Refusal) → a ≡ Err j → ⊥
         unfolding told
         equate-never j q = let e : full ≡ placed (get_or rights k 0) (nodes s) = ap (λ (b : Added). told b (nodes u)) (sym q) ∙ answer in let y : ◌≡◌ {A = ℕ} 0 1 = cc in omega arith
 
-        module _ (e : ℕ) (q : a ≡ Number e) where
+        module _ (e : ℕ) (q : a ≡ Ok e) where
           -- the number and the arena
           found : placed e (nodes u) ≡ placed (get_or rights k 0) (nodes s)
           unfolding told
@@ -219,11 +224,11 @@ module _ (lift : ℕ) (s memo : List ℕ) (g : Group) (numbers : List ℕ) (pre 
             after = (equal_condition (nodes s) (decode out) (get_or numbers (2 * k) 0) e).1
 
             -- what the step comes to
-            abbrev outcome : Changed
-            outcome = changed 256 (judged 256 (decode out) (equal_condition (nodes s) (decode out) (get_or numbers (2 * k) 0) e))
+            abbrev step : Changed
+            step = changed 256 (judged 256 (decode out) (equal_condition (nodes s) (decode out) (get_or numbers (2 * k) 0) e))
 
             -- the code makes the same
-            next-is : next ≡ outcome
+            next-is : next ≡ step
             next-is = z ∙ ap₂ {C = Changed} (λ (m : ℕ) (ns : List Node). changed m (judged m (decode out) (equal_condition ns (decode out) (get_or numbers (2 * k) 0) e))) h.limit nodes-same
 
             -- the pair, with the number that was answered
@@ -231,23 +236,23 @@ module _ (lift : ℕ) (s memo : List ℕ) (g : Group) (numbers : List ℕ) (pre 
             pair-here = pair_is ∙ ap (λ (x : ℕ). (get_or numbers (2 * k) 0, x)) (sym number_is)
 
             -- it exceeds the bounds
-            pub equate-over : (next.number ≡ 0 → ⊥) → handed_back 4 g ≡ equated_of lift s g numbers
-            unfolding equated_of made_or changed judged
-            equate-over n = go (fits 256 after) refl
+            pub equate-over : (why : Refusal) → next.answer ≡ Err why → handed_back why g ≡ equated_of lift s g numbers
+            unfolding equated_of made_or changed answer_of judged refused refusal
+            equate-over why n = go (fits 256 after) refl
               where
-                go : (b : Bool) → fits 256 after ≡ b → handed_back 4 g ≡ equated_of lift s g numbers
-                go true f = absurd (let y : outcome.number ≡ 0 = rw f in n (ap (λ (c : Changed). c.number) next-is ∙ y))
-                go false f = sym (ap (made_or g) (h.goes ∙ equated-over (nodes s) pairs (decode out) k (get_or numbers (2 * k) 0) e (omega (arith, pairs-many)) pair-here f))
+                go : (b : Bool) → fits 256 after ≡ b → handed_back why g ≡ equated_of lift s g numbers
+                go true f = absurd (let y : step.answer ≡ Ok (equal_condition (nodes s) (decode out) (get_or numbers (2 * k) 0) e).0 = rw f in ok-not-err (sym y ∙ sym (ap (λ (c : Changed). c.answer) next-is) ∙ n))
+                go false f = (let y : step.answer ≡ Err GroupFull = rw f in ap (λ (a : Result Bool Refusal). handed a g) (sym n ∙ ap (λ (c : Changed). c.answer) next-is ∙ y)) ∙ sym (ap (made_or g) (h.goes ∙ equated-over (nodes s) pairs (decode out) k (get_or numbers (2 * k) 0) e (omega (arith, pairs-many)) pair-here f))
 
             -- one more is done
-            pub equate-more : next.number ≡ 0 → EquatedTo lift s g numbers u memo₂ next.group (k + 1)
-            unfolding changed judged refused
-            equate-more n = go (fits 256 after) refl
+            pub equate-more : (done : Bool) → next.answer ≡ Ok done → EquatedTo lift s g numbers u memo₂ next.group (k + 1)
+            unfolding changed answer_of judged refused refusal
+            equate-more done n = go (fits 256 after) refl
               where
                 go : (b : Bool) → fits 256 after ≡ b → EquatedTo lift s g numbers u memo₂ next.group (k + 1)
-                go false f = absurd (let y : outcome.number ≡ 4 = rw f in let x = ap (λ (c : Changed). c.number) next-is in omega (arith, x, y, n))
+                go false f = absurd (let y : step.answer ≡ Err GroupFull = rw f in ok-not-err (sym n ∙ ap (λ (c : Changed). c.answer) next-is ∙ y))
                 go true f =
-                    let y : outcome.group ≡ encode 256 after = rw f in
+                    let y : step.group ≡ encode 256 after = rw f in
                     let x : next.group ≡ encode 256 after = ap (λ (c : Changed). c.group) next-is ∙ y in
                     let p = fits-parts after f in
                     record {
@@ -282,16 +287,16 @@ to-shift rs numbers = refl
 joined_case : (lift : ℕ) (s u : List ℕ) (left right : Group) (numbers : List ℕ) (f : Group) (o : Changed) → Holds u → (m : Option (List Class)) → o ≡ made_or f m
     → join_placed left (decode right) (pairs_lent numbers) (nodes s) (shifted_numbers (lifted lift) (nodes s) (to_shift (decode right) (pairs_lent numbers)) (nodes s)) ≡ made_or_refused left (nodes s) (nodes u) m
     → Joined lift s u left right numbers o
-unfolding made_or made_or_refused refused_group made_group
-joined_case lift s u left right numbers f o h (some cs) x y = record {
+unfolding made_or made_or_refused refused_group made_group refusal
+joined_case lift s u left right numbers f o h (Some cs) x y = record {
   holds = h;
-  done = λ z. ap (λ (c : Changed). (c, nodes u)) x ∙ sym y;
-  refused = λ z. absurd (z (ap (λ (c : Changed). c.number) x));
+  done = λ b z. ap (λ (c : Changed). (c, nodes u)) x ∙ sym y;
+  refused = λ why z. absurd (ok-not-err (sym (ap (λ (c : Changed). c.answer) x) ∙ z));
 }
-joined_case lift s u left right numbers f o h none x y = record {
+joined_case lift s u left right numbers f o h None x y = record {
   holds = h;
-  done = λ z. absurd (let n = ap (λ (c : Changed). c.number) x in omega (arith, n, z));
-  refused = λ z. ap (λ (n : ℕ). (handed_back n left, nodes s)) (ap (λ (c : Changed). c.number) x) ∙ sym y;
+  done = λ b z. absurd (ok-not-err (sym z ∙ ap (λ (c : Changed). c.answer) x));
+  refused = λ why z. ap (λ (a : Result Bool Refusal). (handed a left, nodes s)) (sym z ∙ ap (λ (c : Changed). c.answer) x) ∙ sym y;
 }
 
 module _ (lift : ℕ) (s : List ℕ) (left right : Group) (numbers : List ℕ) (d : JoinReady lift s left right numbers) where
@@ -334,17 +339,17 @@ module _ (lift : ℕ) (s : List ℕ) (left right : Group) (numbers : List ℕ) (
       ∙ numbers-append (lifted lift) (nodes s) (flat (decode right)) (rights_lent numbers) (nodes s)
 
   -- there was no room
-  refused_full : (t : List ℕ) → Holds t → whole ≡ full → Joined lift s t left right numbers (handed_back 3 left)
-  unfolding join_placed refused_group
+  refused_full : (t : List ℕ) → Holds t → whole ≡ full → Joined lift s t left right numbers (handed_back ArenaFull left)
+  unfolding join_placed refused_group refusal
   refused_full t h e = record {
     holds = h;
-    done = λ z. absurd (omega arith);
-    refused = λ z. sym (ap (join_placed left (decode right) (pairs_lent numbers) (nodes s)) e);
+    done = λ b z. absurd (ok-not-err (sym z));
+    refused = λ why z. ap (λ (a : Result Bool Refusal). (handed a left, nodes s)) (sym z) ∙ sym (ap (join_placed left (decode right) (pairs_lent numbers) (nodes s)) e);
   }
 
   module _ (t memo₁ : List ℕ) (all : Bool) (ks : List ℕ) (a : ShiftedAll lift s t memo₁ (flat (decode right)) all ks) where
     -- for the members
-    pub members-full : all ≡ false → Joined lift s t left right numbers (handed_back 3 left)
+    pub members-full : all ≡ false → Joined lift s t left right numbers (handed_back ArenaFull left)
     unfolding told_numbers and_then
     members-full f =
         refused_full t a.holds
@@ -377,7 +382,7 @@ module _ (lift : ℕ) (s : List ℕ) (left right : Group) (numbers : List ℕ) (
         told_is = rest-is ∙ ap (prefixed ks) (sym (grown-numbers (lifted lift) a.extends (rights_lent numbers) rights-known (nodes t)) ∙ sym b.is)
 
         -- for the right sides
-        pub rights-full : both ≡ false → Joined lift s u left right numbers (handed_back 3 left)
+        pub rights-full : both ≡ false → Joined lift s u left right numbers (handed_back ArenaFull left)
         unfolding told_numbers prefixed
         rights-full g = refused_full u b.holds (told_is ∙ ap (λ (x : Bool). prefixed ks (told_numbers x js (nodes u))) g)
 
@@ -449,21 +454,21 @@ module _ (lift : ℕ) (s : List ℕ) (left right : Group) (numbers : List ℕ) (
               (shifted-total lift (nodes s) (nodes t) (nodes u) (decode right) ks sound d.held.right-held.good members_move_lem members-are ∙ used-is right d.held.right-held.coded)
 
           -- the list exceeds the bounds
-          refused_over : fits 256 list ≡ false → Joined lift s u left right numbers (handed_back 4 left)
-          unfolding joined_classes made_or_refused refused_group
+          refused_over : fits 256 list ≡ false → Joined lift s u left right numbers (handed_back GroupFull left)
+          unfolding joined_classes made_or_refused refused_group refusal
           refused_over f = record {
             holds = b.holds;
-            done = λ z. absurd (omega arith);
-            refused = λ z. sym (outcome-is ∙ ap (λ (x : Bool). made_or_refused left (nodes s) (nodes u) (if x then equated_all (nodes u) shifted-pairs (from_classes list) else none)) f);
+            done = λ c z. absurd (ok-not-err (sym z));
+            refused = λ why z. ap (λ (a : Result Bool Refusal). (handed a left, nodes s)) (sym z) ∙ sym (outcome-is ∙ ap (λ (x : Bool). made_or_refused left (nodes s) (nodes u) (if x then equated_all (nodes u) shifted-pairs (from_classes list) else None)) f);
           }
 
           -- too many classes
-          pub classes-over : 64 < left.count + right.count → Joined lift s u left right numbers (handed_back 4 left)
+          pub classes-over : 64 < left.count + right.count → Joined lift s u left right numbers (handed_back GroupFull left)
           unfolding fits
           classes-over l = refused_over (and_fails_right (leb (total list) 256) (leb (length list) 64) (lt-leb (length list) 64 (omega (arith, list-many))))
 
           -- too many members
-          pub members-over : 256 < left.used + right.used → Joined lift s u left right numbers (handed_back 4 left)
+          pub members-over : 256 < left.used + right.used → Joined lift s u left right numbers (handed_back GroupFull left)
           unfolding fits
           members-over l = refused_over (and_fails_left (leb (total list) 256) (leb (length list) 64) (lt-leb (total list) 256 (omega (arith, list-total))))
 
@@ -530,7 +535,7 @@ module _ (lift : ℕ) (s : List ℕ) (left right : Group) (numbers : List ℕ) (
                   -- what document 01 says, once the list fits
                   result-is : join_placed left (decode right) (pairs_lent numbers) (nodes s) whole ≡ made_or_refused left (nodes s) (nodes u) equated-pairs
                   unfolding joined_classes
-                  result-is = outcome-is ∙ ap (λ (x : Bool). made_or_refused left (nodes s) (nodes u) (if x then equated_all (nodes u) shifted-pairs (from_classes list) else none)) list-fits
+                  result-is = outcome-is ∙ ap (λ (x : Bool). made_or_refused left (nodes s) (nodes u) (if x then equated_all (nodes u) shifted-pairs (from_classes list) else None)) list-fits
 
                   -- the join
                   pub join-done : (v : List ℕ) → v ≡ u → (o : Changed) → o ≡ equated_of lift u made numbers → Joined lift s v left right numbers o
@@ -563,16 +568,16 @@ module _ (s : List ℕ) (left right : Group) (numbers : List ℕ) (size lift : �
 
   -- something can't move
   shift-out : (all_move (lifted lift) (nodes s) (flat (decode right)) && all_move (lifted lift) (nodes s) (rights_lent numbers)) ≡ false
-      → ◌≡◌ {A = Outcome} (handed_back 10 left, s) (in_cells (join_shifted left (decode right) size (pairs_lent numbers) (nodes s)))
-  unfolding join_shifted refused_group in_cells
-  shift-out e = rw (test-is ∙ e) (ap (λ (c : List ℕ). (handed_back 10 left, c)) (sym (coded-cells s h.holds)))
+      → ◌≡◌ {A = Outcome} (handed_back IndexOutOfRange left, s) (in_cells (join_shifted left (decode right) size (pairs_lent numbers) (nodes s)))
+  unfolding join_shifted refused_group in_cells refusal
+  shift-out e = rw (test-is ∙ e) (ap (λ (c : List ℕ). (handed_back IndexOutOfRange left, c)) (sym (coded-cells s h.holds)))
 
   -- a member
-  pub members-out : all_move (lifted lift) (nodes s) (flat (decode right)) ≡ false → ◌≡◌ {A = Outcome} (handed_back 10 left, s) (in_cells (join_shifted left (decode right) size (pairs_lent numbers) (nodes s)))
+  pub members-out : all_move (lifted lift) (nodes s) (flat (decode right)) ≡ false → ◌≡◌ {A = Outcome} (handed_back IndexOutOfRange left, s) (in_cells (join_shifted left (decode right) size (pairs_lent numbers) (nodes s)))
   members-out e = shift-out (and_fails_left (all_move (lifted lift) (nodes s) (flat (decode right))) (all_move (lifted lift) (nodes s) (rights_lent numbers)) e)
 
   -- a right side
-  pub rights-out : all_move (lifted lift) (nodes s) (rights_lent numbers) ≡ false → ◌≡◌ {A = Outcome} (handed_back 10 left, s) (in_cells (join_shifted left (decode right) size (pairs_lent numbers) (nodes s)))
+  pub rights-out : all_move (lifted lift) (nodes s) (rights_lent numbers) ≡ false → ◌≡◌ {A = Outcome} (handed_back IndexOutOfRange left, s) (in_cells (join_shifted left (decode right) size (pairs_lent numbers) (nodes s)))
   rights-out e = shift-out (and_fails_right (all_move (lifted lift) (nodes s) (flat (decode right))) (all_move (lifted lift) (nodes s) (rights_lent numbers)) e)
 
   -- all can
@@ -597,14 +602,14 @@ module _ (s : List ℕ) (left right : Group) (numbers : List ℕ) (size lift : �
 
     module _ (t : List ℕ) (r : Changed) (j : Joined lift s t left right numbers r) where
       -- it is done
-      pub shift-done : r.number ≡ 0 → ◌≡◌ {A = Outcome} (r, t) (in_cells (join_shifted left (decode right) size (pairs_lent numbers) (nodes s)))
+      pub shift-done : (b : Bool) → r.answer ≡ Ok b → ◌≡◌ {A = Outcome} (r, t) (in_cells (join_shifted left (decode right) size (pairs_lent numbers) (nodes s)))
       unfolding in_cells
-      shift-done z = ap (λ (c : List ℕ). (r, c)) (sym (coded-cells t j.holds)) ∙ ap in_cells (j.done z ∙ sym shift_in)
+      shift-done b z = ap (λ (c : List ℕ). (r, c)) (sym (coded-cells t j.holds)) ∙ ap in_cells (j.done b z ∙ sym shift_in)
 
       -- it is refused
-      pub shift-refused : (r.number ≡ 0 → ⊥) → ◌≡◌ {A = Outcome} (handed_back r.number left, s) (in_cells (join_shifted left (decode right) size (pairs_lent numbers) (nodes s)))
+      pub shift-refused : (why : Refusal) → r.answer ≡ Err why → ◌≡◌ {A = Outcome} (handed_back why left, s) (in_cells (join_shifted left (decode right) size (pairs_lent numbers) (nodes s)))
       unfolding in_cells
-      shift-refused z = ap (λ (c : List ℕ). (handed_back r.number left, c)) (sym (coded-cells s h.holds)) ∙ ap in_cells (j.refused z ∙ sym shift_in)
+      shift-refused why z = ap (λ (c : List ℕ). (handed_back why left, c)) (sym (coded-cells s h.holds)) ∙ ap in_cells (j.refused why z ∙ sym shift_in)
 
 -- the tests of members and right sides, by a table of the nodes that can move
 module _ (s : List ℕ) (left right : Group) (numbers : List ℕ) (lift n : ℕ) (h : BothHeld s left right numbers) (count : n ≡ length (nodes s)) (table : List Bool)
@@ -767,12 +772,21 @@ module _ (cells : List ℕ) (left right : Group) (kind : ℕ) (numbers : List �
       }
 
   -- the call, where the check passes, and where it refuses
-  pub join-passed : (size : ℕ) → join_number cells left right kind numbers ≡ 0 → join_answer cells left right kind size numbers ≡ in_cells (join_by left right kind size (pairs_lent numbers) (nodes cells))
+  pub join-passed : (size : ℕ) → outcome (join_number cells left right kind numbers) ≡ Ok tt → join_answer cells left right kind size numbers ≡ in_cells (join_by left right kind size (pairs_lent numbers) (nodes cells))
   unfolding join_answer
-  join-passed size z = rw (eq-eqb (join_number cells left right kind numbers) 0 z)
+  join-passed size z = rw (ok-zero _ z)
 
   -- the refusal
-  pub join-refused : (size k : ℕ) → k ≡ join_number cells left right kind numbers → (k ≡ 0 → ⊥) → ◌≡◌ {A = Outcome} (handed_back k left, cells) (join_answer cells left right kind size numbers)
+  pub join-refused : (size : ℕ) (why : Refusal) → outcome (join_number cells left right kind numbers) ≡ Err why → ◌≡◌ {A = Outcome} (handed_back why left, cells) (join_answer cells left right kind size numbers)
   unfolding join_answer
-  join-refused size k e n =
-      ap (λ (m : ℕ). (handed_back m left, cells)) e ∙ rw (ne_eqb (join_number cells left right kind numbers) 0 (λ z. n (e ∙ z)))
+  join-refused size why n = let e = err-refusal _ why n in rw (e.0, e.1)
+
+  -- its number stands in the table
+  pub join-listed : Listed (join_number cells left right kind numbers)
+  unfolding join_number outcome refusal
+  join-listed =
+      listed-if (leb kind 9 && in_set left && in_set right) _ 12
+      (listed-if (lawful cells && (lawful_group (nodes cells) left && lawful_group (nodes cells) right && paired numbers)) _ 11
+      (listed-if (members_inside (nodes cells) left && members_inside (nodes cells) right && sides_below (length (nodes cells)) numbers) 0 1 refl refl)
+      refl)
+      refl

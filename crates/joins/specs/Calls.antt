@@ -1,6 +1,7 @@
 -- What the public call answers and what it leaves in the arena, in document 01's order of refusals.
 -- A refusal is a case that hands back what came in.
-use Rattle.std.specs.Prelude.{ℕ, false, ◌&&◌, List, [], ◌++◌, eqb, leb, pos, length, if◌then◌else◌}
+use Rattle.std.specs.Prelude.{ℕ, Err, ◌&&◌, List, [], ◌++◌, eqb, leb, pos, length, if◌then◌else◌}
+use Rattle.arena.specs.Refusals.{refusal}
 use Rattle.arena.specs.Node.{Node}
 use Rattle.arena.specs.Arena.{Placed, placed, full}
 use Rattle.shifting.specs.Shift.{moved}
@@ -46,4 +47,4 @@ join_by left right kind size ps ns =
 unfoldable pub join_answer : List ℕ → Group → Group → ℕ → ℕ → List ℕ → Changed × List ℕ
 join_answer cells left right kind size numbers =
     if eqb (join_number cells left right kind numbers) 0 then in_cells (join_by left right kind size (pairs_lent numbers) (nodes cells))
-    else (record { number = join_number cells left right kind numbers; answer = false; group = left }, cells)
+    else (record { answer = Err (refusal (join_number cells left right kind numbers)); group = left }, cells)

@@ -1,6 +1,7 @@
 -- What the inner functions ask and promise each other. The public contract cites nothing of this file.
-use Rattle.std.specs.Prelude.{ℕ, ◌≤◌, true, false, ◌&&◌, List, [], ◌≡◌, length, if◌then◌else◌}
-use Rattle.std.proofs.Math.Option.{Option, none, some}
+use Rattle.std.specs.Prelude.{ℕ, ◌≤◌, Bool, true, Ok, Err, ◌&&◌, List, [], ◌≡◌, length, if◌then◌else◌, Option, None, Some}
+use Rattle.arena.specs.declared.Refusal.{Refusal}
+use Rattle.arena.specs.declared.Refusal.TheVariants.{GroupFull}
 use Rattle.arena.specs.Node.{Node}
 use Rattle.arena.specs.Arena.{Placed, placed, full}
 use Rattle.arena.specs.Layout.{decode as nodes}
@@ -38,8 +39,8 @@ There lift s es = shifted_numbers (lifted lift) (nodes s) es (nodes s) ≡ place
 
 -- the classes as a group that was made, or 4 with the group as it was
 unfoldable pub made_or : Group → Option (List Class) → Changed
-made_or g (some cs) = made_group cs
-made_or g none = record { number = 4; answer = false; group = g }
+made_or g (Some cs) = made_group cs
+made_or g None = record { answer = Err GroupFull; group = g }
 
 -- a group after lent pairs with their right sides shifted
 unfoldable pub equated_of : ℕ → List ℕ → Group → List ℕ → Changed
@@ -61,5 +62,5 @@ pub record JoinReady (lift : ℕ) (s : List ℕ) (left right : Group) (numbers :
 -- what a join by a lift promises: what document 01 says of it; after a refusal the arena may have grown
 pub record Joined (lift : ℕ) (s t : List ℕ) (left right : Group) (numbers : List ℕ) (r : Changed) : Type 0 where
   pub holds : Holds t
-  pub done : r.number ≡ 0 → (r, nodes t) ≡ join_placed left (decode right) (pairs_lent numbers) (nodes s) (shifted_numbers (lifted lift) (nodes s) (to_shift (decode right) (pairs_lent numbers)) (nodes s))
-  pub refused : (r.number ≡ 0 → ⊥) → (record { number = r.number; answer = false; group = left }, nodes s) ≡ join_placed left (decode right) (pairs_lent numbers) (nodes s) (shifted_numbers (lifted lift) (nodes s) (to_shift (decode right) (pairs_lent numbers)) (nodes s))
+  pub done : (b : Bool) → r.answer ≡ Ok b → (r, nodes t) ≡ join_placed left (decode right) (pairs_lent numbers) (nodes s) (shifted_numbers (lifted lift) (nodes s) (to_shift (decode right) (pairs_lent numbers)) (nodes s))
+  pub refused : (why : Refusal) → r.answer ≡ Err why → (record { answer = Err why; group = left }, nodes s) ≡ join_placed left (decode right) (pairs_lent numbers) (nodes s) (shifted_numbers (lifted lift) (nodes s) (to_shift (decode right) (pairs_lent numbers)) (nodes s))

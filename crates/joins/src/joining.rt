@@ -2,6 +2,7 @@
 ghost use Rattle.std.specs.Prelude.{◌≡◌, ◌≤◌, ◌<◌, length};
 ghost use Rattle.arena.specs.Layout.{decode as nodes};
 ghost use Rattle.arena.specs.Calls.{in_cells};
+ghost use Rattle.arena.specs.Refusals.{outcome};
 ghost use Rattle.arena.specs.Inner.{Holds};
 ghost use Rattle.classes.specs.Layout.{decode};
 ghost use Rattle.classes.specs.Inner.{Coded, Held};
@@ -12,7 +13,7 @@ ghost use Rattle.shifted_classes.specs.Inner.{rights_lent, ReadyAll};
 ghost use Rattle.joins.specs.Inner.{sides_number, There, BothHeld, JoinReady, equated_of, Joined};
 
 use crate::kinds::kind_of;
-use arena::Added;
+use arena::Refusal;
 use arena::adding::all_below;
 use arena::cells::{node_count, wide};
 use arena::checking::lawful_arena;
@@ -27,52 +28,61 @@ use shifted_classes::right_side::{
 };
 use shifting::shifting::{movable, shift};
 
-// The check of two groups, a kind and pairs: 0, or 12, 11 or 1, whichever is first.
-pub fn join_number(cells: &[u32; 11265], left: Group, right: Group, kind: u32, pairs: &[u32]) -> u32
-    ensures { result ≡ join_number cells.now left right kind pairs.now }
+// The check of two groups, a kind and pairs. Refusals: 12, 11, 1, whichever is first.
+pub fn join_number(
+    cells: &[u32; 11265],
+    left: Group,
+    right: Group,
+    kind: u32,
+    pairs: &[u32],
+) -> Result<(), Refusal>
+    ensures { result ≡ outcome (join_number cells.now left right kind pairs.now) }
 {
     if 9 < kind {
-        return 12;
+        return Err(Refusal::BadNumber);
     }
     if !in_set(left) {
-        return 12;
+        return Err(Refusal::BadNumber);
     }
     if !in_set(right) {
-        return 12;
+        return Err(Refusal::BadNumber);
     }
     if !lawful_arena(cells) {
-        return 11;
+        return Err(Refusal::BadState);
     }
     if !lawful_group(cells, left) {
-        return 11;
+        return Err(Refusal::BadState);
     }
     if !lawful_group(cells, right) {
-        return 11;
+        return Err(Refusal::BadState);
     }
     if pairs.len() % 2 != 0 {
-        return 11;
+        return Err(Refusal::BadState);
     }
     sides_number(cells, left, right, pairs)
 }
 
-// The check of members and sides: 0, or 1 where one is not below the node count.
-fn sides_number(cells: &[u32; 11265], left: Group, right: Group, pairs: &[u32]) -> u32
+// The check of members and sides. Refusal: 1 where one is not below the node count.
+fn sides_number(
+    cells: &[u32; 11265],
+    left: Group,
+    right: Group,
+    pairs: &[u32],
+) -> Result<(), Refusal>
     requires { Holds cells.now × ((left.used ≤ 256) × (right.used ≤ 256)) }
-    ensures { result ≡ sides_number (nodes cells.now) left right pairs.now }
+    ensures { result ≡ outcome (sides_number (nodes cells.now) left right pairs.now) }
 {
     let n = node_count(cells);
-    let lefts = left.members;
-    if !members_below(lefts, left.used, n) {
-        return 1;
+    if !members_below(&left.members, left.used, n) {
+        return Err(Refusal::UnknownExpression);
     }
-    let rights = right.members;
-    if !members_below(rights, right.used, n) {
-        return 1;
+    if !members_below(&right.members, right.used, n) {
+        return Err(Refusal::UnknownExpression);
     }
     if !all_below(pairs, n) {
-        return 1;
+        return Err(Refusal::UnknownExpression);
     }
-    0
+    Ok(())
 }
 
 // The pairs as equal conditions, one after the other: their right sides shifted, which the arena has by now.
@@ -87,19 +97,16 @@ fn equate_pairs(
     requires { (Held (nodes cells.old) g × (g.limit ≡ 256)) × (AllBelow (length (nodes cells.old)) pairs.now × (ReadyAll lift cells.old memo.old (rights_lent pairs.now) × There lift cells.old (rights_lent pairs.now))) }
     ensures { (cells.new ≡ cells.old) × (result ≡ equated_of lift cells.old g pairs.now) }
 {
-    let n = pairs.len() / 2;
     let mut out = g;
-    let mut k = 0;
-    while k < n {
-        let Added::Number(e) = shift(cells, memo, pairs[2 * k + 1], lift) else {
-            return refusal(4, g);
+    for k in 0..pairs.len() / 2 {
+        let Ok(e) = shift(cells, memo, pairs[2 * k + 1], lift) else {
+            return refusal(Refusal::GroupFull, g);
         };
         let next = equal_condition_in(cells, out, pairs[2 * k], e);
-        if next.number != 0 {
-            return refusal(4, g);
+        if let Err(why) = next.answer {
+            return refusal(why, g);
         }
         out = next.group;
-        k += 1;
     }
     made(out)
 }
@@ -117,23 +124,26 @@ fn join_placed(
     ensures { Joined lift cells.old cells.new left right pairs.now result }
 {
     let mut memo = [0u32; 1024];
-    let shifted = shift_members(cells, &mut memo, right, lift);
-    if !shifted.fits {
-        return refusal(3, left);
-    }
-    if !shift_rights(cells, &mut memo, pairs, lift) {
-        return refusal(3, left);
+    let Ok(members) = shift_members(cells, &mut memo, right, lift) else {
+        return refusal(Refusal::ArenaFull, left);
+    };
+    if shift_rights(cells, &mut memo, pairs, lift).is_err() {
+        return refusal(Refusal::ArenaFull, left);
     }
     if 64 < left.count + right.count {
-        return refusal(4, left);
+        return refusal(Refusal::GroupFull, left);
     }
     if 256 < left.used + right.used {
-        return refusal(4, left);
+        return refusal(Refusal::GroupFull, left);
     }
-    let members = shifted.members;
     let list = add_shifted(cells, left, right, members);
-    let all = made(list);
-    equate_pairs(cells, &mut memo, from_classes(all.group), pairs, lift)
+    equate_pairs(
+        cells,
+        &mut memo,
+        from_classes(made(list).group),
+        pairs,
+        lift,
+    )
 }
 
 // A join that shifts the right side by the number of left columns. Refusals: 10, 3, 4, with group and cells as they
@@ -151,16 +161,16 @@ fn join_shifted(
     let lift = lift_of_size(left_size);
     let table = movable(cells, node_count(cells), lift);
     if !members_move(&table, right) {
-        return refusal(10, left);
+        return refusal(Refusal::IndexOutOfRange, left);
     }
     if !rights_move(&table, pairs) {
-        return refusal(10, left);
+        return refusal(Refusal::IndexOutOfRange, left);
     }
     let saved = *cells;
     let joined = join_placed(cells, left, right, lift, pairs);
-    if joined.number != 0 {
+    if let Err(why) = joined.answer {
         *cells = saved;
-        return refusal(joined.number, left);
+        return refusal(why, left);
     }
     joined
 }

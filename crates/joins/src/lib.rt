@@ -40,9 +40,8 @@ pub fn join(
 ) -> Changed
     ensures { (result, cells.new) ≡ join_answer cells.old left right kind left_size pairs.now }
 {
-    let number = join_number(cells, left, right, kind, pairs);
-    if number != 0 {
-        return refusal(number, left);
+    if let Err(why) = join_number(cells, left, right, kind, pairs) {
+        return refusal(why, left);
     }
     join_by(cells, left, right, kind, left_size, pairs)
 }

@@ -4,3 +4,8 @@ pub mod First
 pub mod Table
 pub mod Booleans
 pub mod Determined
+pub mod Runs
+pub mod RunsD
+pub mod RunsC
+pub mod RunsA
+pub mod RunsB

@@ -1,5 +1,5 @@
 -- A list by its places, and the equality of two lists of numbers.
-use Prim.Native.Nat.{ℕ, zero, suc, ◌<◌}
+use Prim.Native.Nat.{ℕ, zero, suc, ◌+◌, ◌<◌, ◌≤◌}
 use mathlib.Core.Bool.{true}
 use mathlib.Core.List.{List, [], ◌∷◌, ◌++◌}
 use mathlib.Core.Path.{◌≡◌, refl, sym, ap₂, ◌∙◌}
@@ -8,7 +8,8 @@ use native.Mathlib.Numerals.{add-one}
 use native.Mathlib.Omega.{arith}
 use borrow.Author.Tests.{eqb-true, eq-eqb}
 use lib.Dec.{eqb}
-use lib.ListN.{length, get_or, length-append, get_or-append}
+use lib.ListN.{length, get_or, take, drop, length-append, get_or-append}
+use Rattle.std.proofs.lemmas.List.{length-drop, length-take-le, get_or-take, get_or-drop}
 use lib.Seq.{get_or_at, ext_get_or}
 use Rattle.laws.specs.Lists.{table, same_numbers}
 use Rattle.laws.proofs.Booleans.{and_left, and_right, and_both}
@@ -57,3 +58,10 @@ pub numbers-same : (xs : List ℕ) → same_numbers xs xs ≡ true
 unfolding same_numbers
 numbers-same [] = refl
 numbers-same (x ∷ xs) = and_both (eq-eqb x x refl) (numbers-same xs)
+
+-- n elements of a list from a place on, as a table
+pub part_is : {A : Type 0} (l : List A) (start n : ℕ) (d : A) → start + n ≤ length l → take n (drop start l) ≡ table (λ k. get_or l (start + k) d) n
+part_is l start n d le =
+    let b : n ≤ length (drop start l) = omega (arith, length-drop start l) in
+    table_is (λ k. get_or l (start + k) d) n (take n (drop start l)) d (length-take-le n (drop start l) b)
+    (λ i h. get_or-take n (drop start l) i d h ∙ get_or-drop start l i d)

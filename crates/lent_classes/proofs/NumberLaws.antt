@@ -7,7 +7,9 @@ use mathlib.Core.Path.{◌≡◌, refl, sym, ap, ◌∙◌}
 use native.Mathlib.Omega.{arith}
 use lib.ListN.{length}
 use Rattle.arena.specs.Layout.{count, lawful, decode as nodes}
+use Rattle.arena.specs.Refusals.{outcome, refusal, number_of}
 use Rattle.arena.proofs.Layouts.{length-decode}
+use Rattle.arena.proofs.Refusals.{Listed, listed-if}
 use Rattle.classes.specs.Steps.{fits}
 use Rattle.lent_classes.specs.Lent.{flavours_known, whole, members_apart, literals_uniform, members_below, classes_lent}
 use Rattle.lent_classes.specs.Check.{new_number}
@@ -47,6 +49,16 @@ module _ (cells numbers : List ℕ) where
     new-fits u n e m t q =
         let b : members_below (length (nodes cells)) numbers ≡ true = ap (λ (k : ℕ). members_below k numbers) (length-decode cells ∙ sym e) ∙ m in
         rw (f, a, w, p, u, b, q)
+
+  -- its number stands in the table
+  pub new-listed : Listed (new_number cells numbers)
+  unfolding new_number outcome refusal
+  new-listed =
+      listed-if (flavours_known numbers) _ 12
+      (listed-if (lawful cells && (whole numbers && members_apart numbers && literals_uniform (nodes cells) numbers)) _ 11
+      (listed-if (members_below (length (nodes cells)) numbers) _ 1 (listed-if (fits 256 (classes_lent numbers)) 0 4 refl refl) refl)
+      refl)
+      refl
 
 -- its number by its tests
 abbrev new_by : Bool → Bool → Bool → Bool → ℕ

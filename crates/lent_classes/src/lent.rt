@@ -3,6 +3,7 @@ ghost use Rattle.std.specs.Prelude.{true, ◌&&◌, [], ◌∷◌, ◌++◌, ◌
 ghost use Rattle.std.proofs.Math.Seq.{paste};
 ghost use Rattle.arena.specs.Layout.{decode as nodes};
 ghost use Rattle.arena.specs.Inner.{Holds};
+ghost use Rattle.arena.specs.Refusals.{outcome};
 ghost use Rattle.classes.specs.Steps.{fits};
 ghost use Rattle.classes.specs.Layout.{encode, decode};
 ghost use Rattle.classes.specs.Inner.{Coded};
@@ -10,6 +11,7 @@ ghost use Rattle.lent_classes.specs.Lent.{flavour_lent, value_lent, size_lent, m
 ghost use Rattle.lent_classes.specs.Check.{new_number};
 ghost use Rattle.lent_classes.specs.Inner.{At};
 
+use arena::Refusal;
 use arena::cells::{node_count, wide};
 use arena::checking::lawful_arena;
 use classes::Group;
@@ -20,7 +22,7 @@ use group_checks::checking::{known_flavour, member_fits};
 pub fn number_at(numbers: &[u32], i: usize) -> u32
     ensures { result ≡ get_or numbers.now i 0 }
 {
-    if i < numbers.len() { numbers[i] } else { 0 }
+    numbers.get(i).copied().unwrap_or(0)
 }
 
 // How many members the class at a place has.
@@ -37,6 +39,7 @@ fn flavours_known(numbers: &[u32]) -> bool
 {
     let n = numbers.len();
     let mut at = 0;
+    // The size of a class decides where the next one begins.
     while at < n {
         if !known_flavour(number_at(numbers, at), number_at(numbers, at + 1)) {
             return false;
@@ -52,6 +55,7 @@ fn is_whole(numbers: &[u32]) -> bool
 {
     let n = numbers.len();
     let mut at = 0;
+    // The size of a class decides where the next one begins.
     while at < n {
         at += 3 + size_at(numbers, at);
         if n < at {
@@ -66,15 +70,7 @@ fn fresh_lent(numbers: &[u32], at: usize, k: usize) -> bool
     requires { At numbers.now at × (k < size_lent numbers.now at) }
     ensures { result ≡ fresh_lent numbers.now at k }
 {
-    let e = numbers[at + 3 + k];
-    let mut i = 0;
-    while i < k {
-        if numbers[at + 3 + i] == e {
-            return false;
-        }
-        i += 1;
-    }
-    true
+    (0..k).all(|i| numbers[at + 3 + i] != numbers[at + 3 + k])
 }
 
 // No member of the class at a place stands twice.
@@ -82,15 +78,7 @@ fn apart_at(numbers: &[u32], at: usize) -> bool
     requires { At numbers.now at }
     ensures { result ≡ apart_at numbers.now at }
 {
-    let n = size_at(numbers, at);
-    let mut k = 0;
-    while k < n {
-        if !fresh_lent(numbers, at, k) {
-            return false;
-        }
-        k += 1;
-    }
-    true
+    (0..size_at(numbers, at)).all(|k| fresh_lent(numbers, at, k))
 }
 
 // No class has a member twice.
@@ -100,6 +88,7 @@ fn members_apart(numbers: &[u32]) -> bool
 {
     let n = numbers.len();
     let mut at = 0;
+    // The size of a class decides where the next one begins.
     while at < n {
         if !apart_at(numbers, at) {
             return false;
@@ -115,15 +104,7 @@ fn uniform_at(cells: &[u32; 11265], numbers: &[u32], at: usize) -> bool
     ensures { result ≡ uniform_lent (nodes cells.now) numbers.now at }
 {
     let flavour = number_at(numbers, at);
-    let n = size_at(numbers, at);
-    let mut k = 0;
-    while k < n {
-        if !member_fits(cells, numbers[at + 3 + k], flavour) {
-            return false;
-        }
-        k += 1;
-    }
-    true
+    (0..size_at(numbers, at)).all(|k| member_fits(cells, numbers[at + 3 + k], flavour))
 }
 
 // A literal's class is uniform.
@@ -133,6 +114,7 @@ fn literals_uniform(cells: &[u32; 11265], numbers: &[u32]) -> bool
 {
     let n = numbers.len();
     let mut at = 0;
+    // The size of a class decides where the next one begins.
     while at < n {
         if !uniform_at(cells, numbers, at) {
             return false;
@@ -147,15 +129,7 @@ fn below_at(numbers: &[u32], at: usize, m: usize) -> bool
     requires { At numbers.now at }
     ensures { result ≡ below_at m numbers.now at }
 {
-    let n = size_at(numbers, at);
-    let mut k = 0;
-    while k < n {
-        if m <= wide(numbers[at + 3 + k]) {
-            return false;
-        }
-        k += 1;
-    }
-    true
+    (0..size_at(numbers, at)).all(|k| wide(numbers[at + 3 + k]) < m)
 }
 
 // Every member is below m.
@@ -165,6 +139,7 @@ fn members_below(numbers: &[u32], m: usize) -> bool
 {
     let n = numbers.len();
     let mut at = 0;
+    // The size of a class decides where the next one begins.
     while at < n {
         if !below_at(numbers, at, m) {
             return false;
@@ -183,12 +158,10 @@ fn list_fits(numbers: &[u32]) -> bool
     let mut count = 0usize;
     let mut used = 0;
     let mut at = 0;
+    // The size of a class decides where the next one begins.
     while at < n {
         let size = size_at(numbers, at);
-        if 64 <= count {
-            return false;
-        }
-        if 256 < used + size {
+        if 64 <= count || 256 < used + size {
             return false;
         }
         count += 1;
@@ -198,32 +171,32 @@ fn list_fits(numbers: &[u32]) -> bool
     true
 }
 
-// The check of a list of classes: 0, or 12, 11, 1 or 4, whichever is first.
-pub fn new_number(cells: &[u32; 11265], numbers: &[u32]) -> u32
-    ensures { result ≡ new_number cells.now numbers.now }
+// The check of a list of classes. Refusals: 12, 11, 1, 4, whichever is first.
+pub fn new_number(cells: &[u32; 11265], numbers: &[u32]) -> Result<(), Refusal>
+    ensures { result ≡ outcome (new_number cells.now numbers.now) }
 {
     if !flavours_known(numbers) {
-        return 12;
+        return Err(Refusal::BadNumber);
     }
     if !lawful_arena(cells) {
-        return 11;
+        return Err(Refusal::BadState);
     }
     if !is_whole(numbers) {
-        return 11;
+        return Err(Refusal::BadState);
     }
     if !members_apart(numbers) {
-        return 11;
+        return Err(Refusal::BadState);
     }
     if !literals_uniform(cells, numbers) {
-        return 11;
+        return Err(Refusal::BadState);
     }
     if !members_below(numbers, node_count(cells)) {
-        return 1;
+        return Err(Refusal::UnknownExpression);
     }
     if !list_fits(numbers) {
-        return 4;
+        return Err(Refusal::GroupFull);
     }
-    0
+    Ok(())
 }
 
 // A table with n numbers of a list, from a place on, after its first `used` places.
@@ -232,11 +205,7 @@ fn copy_numbers(to: [u32; 256], used: usize, numbers: &[u32], start: usize, n: u
     ensures { result ≡ paste to used (drop start numbers.now) n }
 {
     let mut out = to;
-    let mut k = 0;
-    while k < n {
-        out[used + k] = numbers[start + k];
-        k += 1;
-    }
+    out[used..used + n].copy_from_slice(&numbers[start..start + n]);
     out
 }
 
@@ -270,6 +239,7 @@ pub fn lent_classes(numbers: &[u32]) -> Group
     let n = numbers.len();
     let mut out = empty(256);
     let mut at = 0;
+    // The size of a class decides where the next one begins.
     while at < n {
         let next = at + 3 + size_at(numbers, at);
         out = add_lent(out, numbers, at);

@@ -1,5 +1,6 @@
 // Lines of text, written into lent bytes: a word, then numbers in decimal, each after a space, then a line end. Each
 // function asks for room, writes from a place on and answers the place after what it wrote.
+// Written by hand: the library's `write!` into a lent slice promises nothing of the bytes, and the contracts here say each byte.
 #![tactic(auto)]
 
 ghost use Rattle.std.specs.Prelude.{◌∷◌, [], ◌++◌};

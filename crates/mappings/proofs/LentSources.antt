@@ -4,36 +4,18 @@ use mathlib.Core.Bool.{true, false}
 use mathlib.Core.List.{List, [], ◌∷◌}
 use mathlib.Core.Path.{◌≡◌, refl, sym, ap, ◌∙◌}
 use native.Mathlib.Omega.{arith}
-use borrow.Author.Tests.{lt-ltb, le-ltb, le-leb, lt-leb}
-use lib.Dec.{eqb, leb}
+use borrow.Author.Tests.{le-leb, lt-leb}
+use lib.Dec.{leb}
 use lib.ListN.{length}
 use Rattle.laws.specs.Parts.{parts_end, parts_next}
 use Rattle.mappings.specs.Mapping.{Mapped}
-use Rattle.mappings.specs.Lent.{target_count, next_source, next-after, empty_at, whole_at, mapped_lent, mapping_from, mapping_lent}
+use Rattle.mappings.specs.Lent.{target_count, next_source, next-after, mapped_lent, mapping_from, mapping_lent}
 
 module _ (numbers : List ℕ) (at : ℕ) where
   -- the place after a source, as the code counts it
   pub next_place : (count : ℕ) → count ≡ target_count numbers at → at + (2 + count) ≡ next_source numbers at
   unfolding next_source
   next_place count e = omega arith
-
-  -- a count that is not there says nothing, and one that is there says what it is
-  pub empty-past : length numbers ≤ at + 1 → false ≡ empty_at numbers at
-  unfolding empty_at
-  empty-past l = rw (le-ltb (at + 1) (length numbers) l)
-
-  pub empty-there : at + 1 < length numbers → (count : ℕ) → count ≡ target_count numbers at → eqb count 0 ≡ empty_at numbers at
-  unfolding empty_at
-  empty-there l count e = rw (lt-ltb (at + 1) (length numbers) l, e)
-
-  -- a source that is cut, and one that is not
-  pub whole-cut : (count : ℕ) → count ≡ target_count numbers at → length numbers < at + 2 + count → false ≡ whole_at numbers at
-  unfolding whole_at next_source
-  whole-cut count e l = rw (lt-leb (at + 2 + target_count numbers at) (length numbers) (omega arith))
-
-  pub whole-there : (count : ℕ) → count ≡ target_count numbers at → at + 2 + count ≤ length numbers → leb count 8 ≡ whole_at numbers at
-  unfolding whole_at next_source
-  whole-there count e l = rw (le-leb (at + 2 + target_count numbers at) (length numbers) (omega arith), e)
 
   -- the sources from a place on: at the end, and by one source
   pub sources_end : length numbers ≤ at → mapping_from numbers at ≡ []

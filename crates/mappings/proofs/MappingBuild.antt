@@ -3,11 +3,10 @@ use Prim.Native.Nat.{ℕ, ◌+◌, ◌<◌, ◌≤◌}
 use mathlib.Core.Bool.{true}
 use mathlib.Core.List.{List, [], ◌∷◌, ◌++◌, append_assoc, append-nil}
 use mathlib.Core.Path.{◌≡◌, refl, sym, ap, ◌∙◌}
-use native.Mathlib.Decide.{ℕ_discrete}
 use native.Mathlib.Numerals.{add-one}
 use native.Mathlib.Omega.{arith}
-use lib.ListN.{length, get_or, set, replicate, length-set, length-append, length-replicate}
-use lib.Seq.{get_or-set_same, get_or-set_other}
+use lib.ListN.{length, get_or, set, take, drop, replicate, length-set, length-append, length-drop, length-replicate, get_or-append}
+use lib.Seq.{get_or-set_same, get_or-set_other, length-take-le, get_or-take, get_or-drop}
 use Rattle.laws.specs.Lists.{table}
 use Rattle.laws.proofs.Table.{table_cong}
 use Rattle.mappings.specs.Mapping.{Mapped}
@@ -19,30 +18,17 @@ use Rattle.mappings.proofs.Walks.{passes-here, passes_on}
 use Rattle.mappings.proofs.Targets.{decode-length}
 use Rattle.mappings.proofs.LentSources.{sources_end, sources_next, count_next}
 
--- the first k targets of the source at a place are in the table
-pub record Written (numbers : List ℕ) (at : ℕ) (targets : List ℕ) (k : ℕ) : Type 0 where
-  pub long : length targets ≡ 8
-  pub same : (j : ℕ) → j < k → get_or targets j 0 ≡ target_lent numbers at j
-
--- none yet
-pub written-begins : (numbers : List ℕ) (at : ℕ) → Written numbers at (replicate {A = ℕ} 8 0) 0
-written-begins numbers at = record { long = length-replicate {A = ℕ} 8 0; same = λ j l. absurd (omega arith) }
-
-module _ (numbers : List ℕ) (at : ℕ) (targets : List ℕ) (k : ℕ) (v : Written numbers at targets k) where
-  -- one more
-  pub written_on : k < 8 → Written numbers at (set targets k (target_lent numbers at k)) (k + 1)
-  written_on l = record { long = length-set targets k (target_lent numbers at k) ∙ v.long; same = λ j b. here j b (ℕ_discrete j k) }
-    where
-      here : (j : ℕ) → j < k + 1 → Dec (j ≡ k) → get_or (set targets k (target_lent numbers at k)) j 0 ≡ target_lent numbers at j
-      here j b (yes q) = rw q (get_or-set_same targets k (target_lent numbers at k) 0 (omega (arith, v.long)))
-      here j b (no q) = get_or-set_other targets k j (target_lent numbers at k) 0 q ∙ v.same j (omega arith)
-
-  -- all of them: the source
-  pub written-ends : (size : ℕ) → size ≡ target_count numbers at → size ≤ k → mapped_of (record { expr = get_or numbers at 0; size = size; targets = targets }) ≡ mapped_lent numbers at
-  unfolding mapped_of mapped_lent
-  written-ends size e l =
-      ap (λ (ts : List ℕ). record { source = get_or numbers at 0; targets = ts })
-      (table_cong (λ j. get_or targets j 0) (λ j. target_lent numbers at j) size (λ j b. v.same j (omega arith)) ∙ ap (table (λ j. target_lent numbers at j)) e)
+-- the targets of the source at a place, copied to the front of a table: the source
+pub targets-copied : (numbers : List ℕ) (at size : ℕ) → size ≡ target_count numbers at → at + 2 + size ≤ length numbers → (ts rest : List ℕ) → ts ≡ take size (drop (at + 2) numbers) → mapped_of (record { expr = get_or numbers at 0; size = size; targets = ts ++ rest }) ≡ mapped_lent numbers at
+unfolding mapped_of mapped_lent
+targets-copied numbers at size e l ts rest c =
+    ap (λ (xs : List ℕ). record { source = get_or numbers at 0; targets = xs })
+    (table_cong (λ j. get_or (ts ++ rest) j 0) (λ j. target_lent numbers at j) size here ∙ ap (table (λ j. target_lent numbers at j)) e)
+  where
+    here : (j : ℕ) → j < size → get_or (ts ++ rest) j 0 ≡ target_lent numbers at j
+    here j b =
+        let long : length ts ≡ size = ap (λ (xs : List ℕ). length xs) c ∙ length-take-le size (drop (at + 2) numbers) (omega (arith, length-drop (at + 2) numbers)) in
+        get_or-append ts rest 0 j (omega arith) ∙ ap (λ (xs : List ℕ). get_or xs j 0) c ∙ get_or-take size (drop (at + 2) numbers) j 0 b ∙ get_or-drop (at + 2) numbers j 0
 
 -- a struct with one source more at its end
 module _ (out : Mapping) (r : Source) where

@@ -4,19 +4,18 @@ use mathlib.Core.Bool.{Bool, true, false, not, ◌&&◌}
 use mathlib.Core.List.{[]}
 use mathlib.Core.Path.{◌≡◌, sym, ap, ap₂, ◌∙◌}
 use native.Mathlib.Omega.{arith}
-use borrow.Author.Tests.{ltb-true, lt-ltb, le-ltb, eq-eqb, ne_eqb}
+use borrow.Author.Tests.{ltb-true, le-ltb}
 use lib.Dec.{eqb, ltb}
 use lib.ListN.{get_or}
 use Rattle.laws.specs.Tests.{each}
-use Rattle.laws.proofs.Booleans.{and_left, and_right, and_both, and_fails_left, and_fails_right}
-use Rattle.laws.proofs.Each.{each_cong, each_holds, each_fails}
+use Rattle.laws.proofs.Booleans.{and_left, and_right, and_fails_left}
+use Rattle.laws.proofs.Each.{each_cong, each_holds}
 use Rattle.classes.specs.Layout.{fresh}
 use Rattle.mappings.specs.Mapping.{Mapped, sources, sources_apart, mapped_below, mapping_below}
 use Rattle.mappings.specs.Layout.{place_in, mapped_of, decode}
 use Rattle.mappings.specs.declared.Source.{Source}
 use Rattle.mappings.specs.declared.Mapping.{Mapping}
 use Rattle.mappings.proofs.Targets.{mapped-length, mapped-source, mapped-target, decode-length, decode-at, decode-source}
-use Rattle.mappings.proofs.PlaceReads.{read_in, read_mapped, read-expr}
 
 -- target k of a source is below n
 abbrev pub TargetBelow : ℕ → Source → ℕ → Bool
@@ -38,16 +37,9 @@ below_of n r =
     (ap (each (λ k. ltb (get_or (mapped_of r).targets k 0) n)) (mapped-length r)
     ∙ each_cong (λ k. ltb (get_or (mapped_of r).targets k 0) n) (TargetBelow n r) r.size (λ k l. ap (λ (e : ℕ). ltb e n) (mapped-target r k l)))
 
--- a source that is not, a target that is not, and all of them that are
+-- a source that is not
 pub source-outside : (n : ℕ) (r : Source) → n ≤ r.expr → false ≡ mapped_below n (mapped_of r)
 source-outside n r l = sym (below_of n r ∙ and_fails_left (ltb r.expr n) (each (TargetBelow n r) r.size) (le-ltb r.expr n l))
-
-pub target-outside : (n : ℕ) (r : Source) (k : ℕ) → k < r.size → n ≤ get_or r.targets k 0 → false ≡ mapped_below n (mapped_of r)
-target-outside n r k b l =
-    sym (below_of n r ∙ and_fails_right (ltb r.expr n) (each (TargetBelow n r) r.size) (each_fails (TargetBelow n r) r.size k b (le-ltb (get_or r.targets k 0) n l)))
-
-pub source-inside : (n : ℕ) (r : Source) → r.expr < n → each (TargetBelow n r) r.size ≡ true → true ≡ mapped_below n (mapped_of r)
-source-inside n r l h = sym (below_of n r ∙ and_both (lt-ltb r.expr n l) h)
 
 -- what it says
 pub below-expr : (n : ℕ) (r : Source) → mapped_below n (mapped_of r) ≡ true → r.expr < n
@@ -77,13 +69,3 @@ module _ (m : Mapping) where
   pub apart_of : sources_apart (decode m) ≡ each (λ k. fresh (sources (decode m)) k) m.count
   unfolding sources_apart
   apart_of = ap (each (λ k. fresh (sources (decode m)) k)) (decode-length m)
-
-  -- the tests of what the code reads
-  pub like-read : (k i : ℕ) → (read_in m i).expr ≡ (read_in m k).expr → Unlike m k i ≡ false
-  like-read k i e = ap not (eq-eqb (place_in m i).expr (place_in m k).expr (sym (read-expr m i) ∙ e ∙ read-expr m k))
-
-  pub unlike-read : (k i : ℕ) → ((read_in m i).expr ≡ (read_in m k).expr → ⊥) → Unlike m k i ≡ true
-  unlike-read k i n = ap not (ne_eqb (place_in m i).expr (place_in m k).expr (λ e. n (read-expr m i ∙ e ∙ sym (read-expr m k))))
-
-  pub below-read : (n i : ℕ) (t : Bool) → mapped_below n (mapped_of (read_in m i)) ≡ t → SourceBelow n m i ≡ t
-  below-read n i t e = ap (λ (p : Mapped). mapped_below n p) (sym (read_mapped m i)) ∙ e

@@ -1,6 +1,5 @@
 -- A projection mapping: sources in their order, each with its targets. What a source becomes stands in an output schema, and its first target is what an expression is projected to.
-use Rattle.std.specs.Prelude.{ℕ, Bool, ◌&&◌, List, [], ◌∷◌, map, ltb, length, get_or, if◌then◌else◌}
-use Rattle.std.proofs.Math.Option.{Option, none, some}
+use Rattle.std.specs.Prelude.{ℕ, Bool, ◌&&◌, List, [], ◌∷◌, map, ltb, length, get_or, if◌then◌else◌, Option, None, Some}
 use Rattle.laws.specs.Tests.{each}
 use Rattle.classes.specs.Layout.{fresh}
 
@@ -19,8 +18,8 @@ sources ps = map (λ (p : Mapped). p.source) ps
 
 -- the first target of the first source that passes a test
 unfoldable pub target_for : (ℕ → Bool) → List Mapped → Option ℕ
-target_for test [] = none
-target_for test (p ∷ ps) = if test p.source then some (first_target p) else target_for test ps
+target_for test [] = None
+target_for test (p ∷ ps) = if test p.source then Some (first_target p) else target_for test ps
 
 -- the source at a place with its targets; past the end, which no call asks for, one without
 abbrev pub mapped_at : List Mapped → ℕ → Mapped

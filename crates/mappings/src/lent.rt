@@ -1,6 +1,7 @@
 // A mapping that is lent as numbers: for each source the source, its target count and its targets.
 ghost use Rattle.std.specs.Prelude.{true, not, ◌&&◌, ◌≡◌, ℕ, ◌≤◌, ◌<◌, ◌+◌, leb, length, get_or};
 ghost use Rattle.laws.specs.Tests.{each};
+ghost use Rattle.arena.specs.Refusals.{outcome};
 ghost use Rattle.classes.specs.Layout.{fresh};
 ghost use Rattle.mappings.specs.Mapping.{sources, sources_apart, mapped_below, mapping_below};
 ghost use Rattle.mappings.specs.Lent.{target_count, empty_at, targets_given, whole_at, whole, mapped_lent, mapping_lent, lawful_mapping};
@@ -8,9 +9,10 @@ ghost use Rattle.mappings.specs.Layout.{unused, place_in, mapped_of, decode, Bou
 ghost use Rattle.mappings.specs.Calls.{project_number};
 
 use crate::{Mapping, Source};
+use arena::Refusal;
 use arena::cells::{node_count, wide};
 use classes::Group;
-use group_checks::checking::check_group;
+use group_checks::checking::{check_group, in_set};
 use lent_classes::lent::number_at;
 
 // How many targets the source at a place has.
@@ -22,14 +24,12 @@ fn count_at(numbers: &[u32], at: usize) -> usize
 }
 
 // The source at a place says that it has no targets.
+#[tactic(auto, unfolding(crate::specs::Lent::empty_at))]
 fn empty_at(numbers: &[u32], at: usize) -> bool
     requires { at < length numbers.now }
     ensures { result ≡ empty_at numbers.now at }
 {
-    if numbers.len() <= at + 1 {
-        return false;
-    }
-    count_at(numbers, at) == 0
+    at + 1 < numbers.len() && count_at(numbers, at) == 0
 }
 
 // No source says that it has no targets.
@@ -38,6 +38,7 @@ fn targets_given(numbers: &[u32]) -> bool
 {
     let n = numbers.len();
     let mut at = 0;
+    // The count of a source decides where the next one begins.
     while at < n {
         if empty_at(numbers, at) {
             return false;
@@ -48,15 +49,13 @@ fn targets_given(numbers: &[u32]) -> bool
 }
 
 // The source at a place has at most 8 targets, and they are there.
+#[tactic(auto, unfolding(crate::specs::Lent::whole_at, crate::specs::Lent::next_source))]
 fn whole_at(numbers: &[u32], at: usize) -> bool
     requires { at < length numbers.now }
     ensures { result ≡ whole_at numbers.now at }
 {
     let size = count_at(numbers, at);
-    if numbers.len() < at + 2 + size {
-        return false;
-    }
-    size <= 8
+    at + 2 + size <= numbers.len() && size <= 8
 }
 
 // Each source has at most 8 targets, and they are there.
@@ -65,6 +64,7 @@ fn is_whole(numbers: &[u32]) -> bool
 {
     let n = numbers.len();
     let mut at = 0;
+    // The count of a source decides where the next one begins.
     while at < n {
         if !whole_at(numbers, at) {
             return false;
@@ -81,6 +81,7 @@ fn sources_few(numbers: &[u32]) -> bool
     let n = numbers.len();
     let mut count = 0usize;
     let mut at = 0;
+    // The count of a source decides where the next one begins.
     while at < n {
         if 64 <= count {
             return false;
@@ -98,11 +99,7 @@ fn source_at(numbers: &[u32], at: usize) -> Source
 {
     let size = count_at(numbers, at);
     let mut targets = [0u32; 8];
-    let mut k = 0;
-    while k < size {
-        targets[k] = numbers[at + 2 + k];
-        k += 1;
-    }
+    targets[..size].copy_from_slice(&numbers[at + 2..at + 2 + size]);
     Source {
         expr: numbers[at],
         size: size,
@@ -132,6 +129,7 @@ pub fn read_mapping(numbers: &[u32]) -> Mapping
         list: [nothing(); 64],
     };
     let mut at = 0;
+    // The count of a source decides where the next one begins.
     while at < n {
         let end = out.count;
         out.list[end] = source_at(numbers, at);
@@ -146,14 +144,7 @@ fn source_fresh(m: Mapping, k: usize) -> bool
     requires { (m.count ≤ 64) × (k < m.count) }
     ensures { result ≡ fresh (sources (decode m)) k }
 {
-    let mut i = 0;
-    while i < k {
-        if m.list[i].expr == m.list[k].expr {
-            return false;
-        }
-        i += 1;
-    }
-    true
+    (0..k).all(|i| m.list[i].expr != m.list[k].expr)
 }
 
 // No source stands twice.
@@ -161,28 +152,15 @@ fn sources_apart(m: Mapping) -> bool
     requires { m.count ≤ 64 }
     ensures { result ≡ sources_apart (decode m) }
 {
-    let n = m.count;
-    let mut k = 0;
-    while k < n {
-        if !source_fresh(m, k) {
-            return false;
-        }
-        k += 1;
-    }
-    true
+    (0..m.count).all(|k| source_fresh(m, k))
 }
 
 // The mapping keeps document 01's rules.
+#[tactic(auto, unfolding(crate::specs::Lent::lawful_mapping))]
 fn lawful_mapping(numbers: &[u32]) -> bool
     ensures { result ≡ lawful_mapping numbers.now }
 {
-    if !is_whole(numbers) {
-        return false;
-    }
-    if !sources_few(numbers) {
-        return false;
-    }
-    sources_apart(read_mapping(numbers))
+    is_whole(numbers) && sources_few(numbers) && sources_apart(read_mapping(numbers))
 }
 
 // A source and its targets are below n.
@@ -190,18 +168,7 @@ fn source_below(source: Source, n: usize) -> bool
     requires { source.size ≤ 8 }
     ensures { result ≡ mapped_below n (mapped_of source) }
 {
-    if n <= wide(source.expr) {
-        return false;
-    }
-    let size = source.size;
-    let mut k = 0;
-    while k < size {
-        if n <= wide(source.targets[k]) {
-            return false;
-        }
-        k += 1;
-    }
-    true
+    wide(source.expr) < n && (0..source.size).all(|k| wide(source.targets[k]) < n)
 }
 
 // Every source and target is below n.
@@ -209,36 +176,25 @@ fn mapping_below(m: Mapping, n: usize) -> bool
     requires { (m.count ≤ 64) × ((i : ℕ) → i < m.count → (place_in m i).size ≤ 8) }
     ensures { result ≡ mapping_below n (decode m) }
 {
-    let count = m.count;
-    let mut i = 0;
-    while i < count {
-        if !source_below(m.list[i], n) {
-            return false;
-        }
-        i += 1;
-    }
-    true
+    (0..m.count).all(|i| source_below(m.list[i], n))
 }
 
-// The check of what a projection is lent: 0, or 12, 11 or 1, whichever is first.
-pub fn project_number(cells: &[u32; 11265], g: Group, numbers: &[u32]) -> u32
-    ensures { result ≡ project_number cells.now g numbers.now }
+// The check of what a projection is lent. Refusals: 12, 11, 1, whichever is first.
+pub fn project_number(cells: &[u32; 11265], g: Group, numbers: &[u32]) -> Result<(), Refusal>
+    ensures { result ≡ outcome (project_number cells.now g numbers.now) }
 {
     if !targets_given(numbers) {
-        return 12;
+        return Err(Refusal::BadNumber);
     }
-    let number = check_group(cells, g);
-    if number == 12 {
-        return 12;
+    if !in_set(g) {
+        return Err(Refusal::BadNumber);
     }
     if !lawful_mapping(numbers) {
-        return 11;
+        return Err(Refusal::BadState);
     }
-    if number != 0 {
-        return number;
-    }
+    check_group(cells, g)?;
     if !mapping_below(read_mapping(numbers), node_count(cells)) {
-        return 1;
+        return Err(Refusal::UnknownExpression);
     }
-    0
+    Ok(())
 }

@@ -7,6 +7,7 @@
 pub mod lent;
 
 // A source: its expression, how many targets it has, and the targets; unused places are 0.
+// Flat arrays with counts: the project works in fixed memory, without a heap.
 #[derive(Clone, Copy)]
 pub struct Source {
     pub expr: u32,
@@ -15,6 +16,7 @@ pub struct Source {
 }
 
 // A mapping: how many sources it has, and the sources in their order; unused places have none.
+// Flat arrays with counts: the project works in fixed memory, without a heap.
 #[derive(Clone, Copy)]
 pub struct Mapping {
     pub count: usize,

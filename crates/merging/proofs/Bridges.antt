@@ -1,7 +1,7 @@
 -- Steps of bridging: a class takes in one that overlaps with it, or is passed, and what is left to do is less.
 use Prim.Native.Nat.{ℕ, ◌+◌, ◌<◌, ◌≤◌}
 use mathlib.Core.List.{List}
-use mathlib.Core.Option.{none, some}
+use Rattle.std.specs.Prelude.{None, Some}
 use mathlib.Core.Path.{◌≡◌, refl, sym, ap, ◌∙◌}
 use native.Mathlib.Omega.{arith}
 use lib.ListN.{length}
@@ -26,15 +26,15 @@ bridged-small cs i j a b =
 
 module _ (g : Group) (v : Coded g) (i : ℕ) (l : i < g.count) where
   -- where the class that overlaps stands
-  pub meets-inside : (j : ℕ) → last_meeting (decode g) i ≡ some j → (i < j) × (j < g.count)
+  pub meets-inside : (j : ℕ) → last_meeting (decode g) i ≡ Some j → (i < j) × (j < g.count)
   meets-inside j q = let m = meeting_is (decode g) i j q in (m.0, omega (arith, m.1.0, length-decode g))
 
   -- the class is passed
-  pub step-passed : last_meeting (decode g) i ≡ none → Stepped g i g (i + 1)
+  pub step-passed : last_meeting (decode g) i ≡ None → Stepped g i g (i + 1)
   step-passed q = record { coded = v; limit = refl; goes = sym (bridge_next i (decode g) (omega (arith, length-decode g)) q); less = omega arith }
 
   -- it takes in another
-  pub step-meets : (j : ℕ) → last_meeting (decode g) i ≡ some j → (h : Group) → h ≡ encode g.limit (bridged (decode g) i j) → Stepped g i h i
+  pub step-meets : (j : ℕ) → last_meeting (decode g) i ≡ Some j → (h : Group) → h ≡ encode g.limit (bridged (decode g) i j) → Stepped g i h i
   step-meets j q h p =
       let cs = bridged (decode g) i j in
       let m = meeting_is (decode g) i j q in

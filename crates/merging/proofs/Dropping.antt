@@ -7,7 +7,9 @@ use native.Mathlib.Omega.{arith}
 use borrow.Author.Tests.{eq-eqb, ne_eqb}
 use lib.Dec.{eqb}
 use lib.ListN.{length, get_or}
-use Rattle.classes.specs.Class.{Constant, no_constant, heterogeneous, unknown, known, Class, is_constant}
+use Rattle.classes.specs.declared.Constant.{Constant}
+use Rattle.classes.specs.declared.Constant.TheVariants.{NoConstant as no_constant, Heterogeneous as heterogeneous, Unknown as unknown, Known as known}
+use Rattle.classes.specs.Class.{Class, is_constant}
 use Rattle.classes.specs.Group.{class_at, total, removed, length_removed}
 use Rattle.classes.specs.Layout.{flavour_of, encode, decode}
 use Rattle.classes.specs.Inner.{Coded}

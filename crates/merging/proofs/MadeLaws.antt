@@ -1,4 +1,5 @@
 -- A group that was made: the same classes, with limit 256.
+use Rattle.std.specs.Prelude.{Ok}
 use mathlib.Core.Bool.{true}
 use mathlib.Core.Path.{◌≡◌, sym, ap}
 use Rattle.classes.specs.Layout.{encode, decode}
@@ -11,16 +12,14 @@ use Rattle.merging.specs.Calls.{made_group}
 pub made-is : (g : Group) → Coded g
     → ◌≡◌ {A = Changed}
     (record {
-      number = 0;
-      answer = true;
+      answer = Ok true;
       group = record { limit = 256; count = g.count; used = g.used; sizes = g.sizes; flavours = g.flavours; values = g.values; members = g.members };
     })
     (made_group (decode g))
 unfolding made_group encode
 made-is g v =
     let f : Group → Changed = λ h. record {
-      number = 0;
-      answer = true;
+      answer = Ok true;
       group = record { limit = 256; count = h.count; used = h.used; sizes = h.sizes; flavours = h.flavours; values = h.values; members = h.members };
     } in
     ap f (sym v.coded)

@@ -10,14 +10,14 @@ use lib.ListN.{length, get_or, take, set}
 use lib.Seq.{take-suc, take_all, length-take-le}
 use Rattle.laws.proofs.Table.{get_or-table}
 use Rattle.arena.specs.Node.{Node, node_at}
-use Rattle.classes.specs.Class.{Constant, no_constant, Class, taken, carried, single, merged}
+use Rattle.classes.specs.declared.Constant.{Constant}
+use Rattle.classes.specs.declared.Constant.TheVariants.{NoConstant as no_constant}
+use Rattle.classes.specs.Class.{Class, taken, carried, single, merged}
 use Rattle.classes.specs.Group.{among, class_at, total, removed, length_removed, merged_at, constant_at}
 use Rattle.classes.specs.Good.{flat}
-use Rattle.classes.specs.Layout.{flavour_of, value_of, constant_from, padded, encode, sum_to, decode}
-use Rattle.classes.specs.Inner.{Coded, Room, mark_of}
+use Rattle.classes.specs.Layout.{flavour_of, value_of, padded, encode, sum_to, decode}
+use Rattle.classes.specs.Inner.{Coded, Room}
 use Rattle.classes.specs.declared.Group.{Group}
-use Rattle.classes.specs.declared.Mark.{Mark}
-use Rattle.classes.proofs.Marks.{mark-constant}
 use Rattle.classes.proofs.Codec.{snoc_padded, size-encode, built-count, built-used, built-limit, built-classes, built-coded, length-decode, used-is, size_is, class-inside, members-part}
 use Rattle.classes.proofs.Places.{total-removed}
 use Rattle.classes.proofs.OneClass.{alone, one-coded, one-count, one_size, one-is}
@@ -94,18 +94,18 @@ module _ (k : ℕ) (c d : Class) where
   some-all l = rw (take_all k d.members l)
 
 -- the stores into the empty group: a class with a constant and no member
-pub empty-built : (g : Group) (m : Mark) (k : Constant) → g ≡ encode 256 [] → m ≡ mark_of k
-    → ◌≡◌ {A = Group} (record { limit = g.limit; count = 1; used = g.used; sizes = g.sizes; flavours = set g.flavours 0 m.flavour; values = set g.values 0 m.value; members = g.members })
+pub empty-built : (g : Group) (f v : ℕ) (k : Constant) → g ≡ encode 256 [] → f ≡ flavour_of k → v ≡ value_of k
+    → ◌≡◌ {A = Group} (record { limit = g.limit; count = 1; used = g.used; sizes = g.sizes; flavours = set g.flavours 0 f; values = set g.values 0 v; members = g.members })
     (encode 256 (record { members = []; constant = k } ∷ []))
 unfolding encode total flat padded
-empty-built g m k p q =
+empty-built g f v k p a b =
     let l : g.limit ≡ 256 = ap (λ (h : Group). h.limit) p in
     let u : g.used ≡ 0 = ap (λ (h : Group). h.used) p in
     let s : g.sizes ≡ padded 64 (0 ∷ []) = ap (λ (h : Group). h.sizes) p in
-    let f : set g.flavours 0 m.flavour ≡ padded 64 (flavour_of k ∷ []) = ap (λ (h : Group). set h.flavours 0 m.flavour) p ∙ ap (λ (n : Mark). set (padded 64 []) 0 n.flavour) q ∙ snoc_padded 64 [] (flavour_of k) (omega arith) in
-    let w : set g.values 0 m.value ≡ padded 64 (value_of k ∷ []) = ap (λ (h : Group). set h.values 0 m.value) p ∙ ap (λ (n : Mark). set (padded 64 []) 0 n.value) q ∙ snoc_padded 64 [] (value_of k) (omega arith) in
+    let fs : set g.flavours 0 f ≡ padded 64 (flavour_of k ∷ []) = ap (λ (h : Group). set h.flavours 0 f) p ∙ ap (λ (n : ℕ). set (padded 64 []) 0 n) a ∙ snoc_padded 64 [] (flavour_of k) (omega arith) in
+    let vs : set g.values 0 v ≡ padded 64 (value_of k ∷ []) = ap (λ (h : Group). set h.values 0 v) p ∙ ap (λ (n : ℕ). set (padded 64 []) 0 n) b ∙ snoc_padded 64 [] (value_of k) (omega arith) in
     let x : g.members ≡ padded 256 [] = ap (λ (h : Group). h.members) p in
-    (λ i. record { limit = l i; count = 1; used = u i; sizes = s i; flavours = f i; values = w i; members = x i })
+    (λ i. record { limit = l i; count = 1; used = u i; sizes = s i; flavours = fs i; values = vs i; members = x i })
 
 -- an expression at the end of the last class
 module _ (out : Group) (v : Coded out) (some : 0 < out.count) (room : out.used < 256) (one : Group) (e : ℕ) (c : Constant) (p : one ≡ encode 256 (alone e c ∷ [])) where
@@ -196,9 +196,9 @@ module _ (g : Group) (v : Coded g) (i j k : ℕ) (l : k < get_or g.sizes j 0) (o
       (only-coded out c p (omega (arith, few, small)), (omega (arith, only-count out c p), omega (arith, only-used out c p, few, small)))
 
 -- the class before the first member, and after the last
-pub missing-begins : (c d : Class) (m : Mark) (out : Group) → m ≡ mark_of d.constant → out ≡ encode 256 (record { members = []; constant = constant_from m.flavour m.value } ∷ []) → out ≡ encode 256 (missing_some 0 c d ∷ [])
+pub missing-begins : (c d : Class) (k : Constant) (out : Group) → k ≡ d.constant → out ≡ encode 256 (record { members = []; constant = k } ∷ []) → out ≡ encode 256 (missing_some 0 c d ∷ [])
 unfolding missing_some without
-missing-begins c d m out p q = q ∙ ap (λ (k : Constant). encode 256 (record { members = []; constant = k } ∷ [])) (mark-constant m d.constant p)
+missing-begins c d k out p q = q ∙ ap (λ (x : Constant). encode 256 (record { members = []; constant = x } ∷ [])) p
 
 pub missing-ends : (g : Group) → Coded g → (i j k : ℕ) (out : Group) → get_or g.sizes j 0 ≤ k → out ≡ encode 256 (missing_some k (class_at (decode g) i) (class_at (decode g) j) ∷ [])
     → out ≡ encode 256 (missing (class_at (decode g) i) (class_at (decode g) j) ∷ [])
@@ -253,12 +253,12 @@ module _ (ns : List Node) (c : Class) (e : ℕ) where
   pushed-new q = λ i. record { members = without-new c.members e q i; constant = carried (node_at ns e) }
 
 module _ (ns : List Node) (out : Group) (at e : ℕ) (b : Bool) (t : b ≡ among e (class_at (decode out) at).members) where
-  pub push-held : b ≡ true → (m : Mark) (r : Group) → m ≡ mark_of (carried (node_at ns e)) → r ≡ encode out.limit (constant_at (decode out) at (constant_from m.flavour m.value))
+  pub push-held : b ≡ true → (k : Constant) (r : Group) → k ≡ carried (node_at ns e) → r ≡ encode out.limit (constant_at (decode out) at k)
       → r ≡ encode out.limit (merged_at (decode out) at (missing (class_at (decode out) at) (single ns e)))
   unfolding constant_at merged_at
-  push-held h m r p q =
+  push-held h k r p q =
       q
-      ∙ ap (λ (k : Constant). encode out.limit (constant_at (decode out) at k)) (mark-constant m (carried (node_at ns e)) p)
+      ∙ ap (λ (x : Constant). encode out.limit (constant_at (decode out) at x)) p
       ∙ ap (λ (c : Class). encode out.limit (set (decode out) at c)) (sym (pushed-held ns (class_at (decode out) at) e (sym t ∙ h)))
 
   pub push-new : b ≡ false → (r : Group) → r ≡ encode out.limit (merged_at (decode out) at (single ns e))

@@ -2,9 +2,12 @@
 use Prim.Native.Nat.{ℕ}
 use mathlib.Core.Bool.{true}
 use mathlib.Core.List.{List}
-use mathlib.Core.Path.{◌≡◌, sym, ap, ◌∙◌}
+use mathlib.Core.Path.{◌≡◌, ap, ◌∙◌}
 use native.Mathlib.Omega.{arith}
-use borrow.Author.Tests.{ne_eqb, eq-eqb}
+use Rattle.std.specs.Prelude.{Ok, Err}
+use Rattle.arena.specs.declared.Refusal.{Refusal}
+use Rattle.arena.specs.Refusals.{outcome, refusal_number}
+use Rattle.arena.proofs.Refusals.{ok-zero, done-zero, err-refusal, refused-number}
 use lib.ListN.{length}
 use Rattle.classes.specs.Class.{Class}
 use Rattle.classes.specs.Group.{total}
@@ -21,18 +24,20 @@ use Rattle.merging.specs.Calls.{made_group, new_answer}
 use Rattle.lent_classes.specs.Check.{new_number}
 use Rattle.merging.proofs.Smaller.{from-few, from-small}
 use Rattle.lent_classes.proofs.ListCounts.{fits-few, fits-small}
-use Rattle.lent_classes.proofs.NumberLaws.{new-passes}
+use Rattle.lent_classes.proofs.NumberLaws.{new-passes, new-listed}
 
-module _ (cells numbers : List ℕ) (n : ℕ) (e : n ≡ new_number cells numbers) where
+module _ (cells numbers : List ℕ) where
   -- a list that is refused
-  pub new-refused : (n ≡ 0 → ⊥) → (r : Changed) → r ≡ no_group n → r ≡ new_answer cells numbers
+  pub new-refused : (why : Refusal) → outcome (new_number cells numbers) ≡ Err why → no_group (refusal_number why) ≡ new_answer cells numbers
   unfolding new_answer
-  new-refused z r p = p ∙ rw (ne_eqb (new_number cells numbers) 0 (λ q. z (e ∙ q))) (ap no_group e)
+  new-refused why h =
+      let e = err-refusal _ why h in
+      rw e.0 (ap no_group (ap refusal_number e.1 ∙ refused-number _ (new-listed cells numbers) e.0))
 
   -- one that passes
-  module _ (z : n ≡ 0) (list : Group) (l : list ≡ encode 256 (classes_lent numbers)) where
+  module _ (z : outcome (new_number cells numbers) ≡ Ok tt) (list : Group) (l : list ≡ encode 256 (classes_lent numbers)) where
     passed : fits 256 (classes_lent numbers) ≡ true
-    passed = (new-passes cells numbers (sym e ∙ z)).1.1
+    passed = (new-passes cells numbers (done-zero _ z)).1.1
 
     -- the list is a group's, and so is what is made of it
     pub list-coded : Coded list
@@ -53,4 +58,4 @@ module _ (cells numbers : List ℕ) (n : ℕ) (e : n ≡ new_number cells number
     pub new-made : (g : Group) → g ≡ encode list.limit (from_classes (decode list)) → (r : Changed) → r ≡ made_group (decode g) → r ≡ new_answer cells numbers
     unfolding new_answer
     new-made g p r q =
-        q ∙ ap made_group (built-classes list.limit made g p ∙ ap from_classes classes) ∙ rw (eq-eqb (new_number cells numbers) 0 (sym e ∙ z))
+        q ∙ ap made_group (built-classes list.limit made g p ∙ ap from_classes classes) ∙ rw (ok-zero _ z)

@@ -1,10 +1,9 @@
 -- Bridging and the kept list: what holds of each class of a list holds of each class of the result, and no two classes of the result have an expression in common.
-use Rattle.std.specs.Prelude.{if◌then◌else◌}
+use Rattle.std.specs.Prelude.{if◌then◌else◌, Option, None, Some}
 use Prim.Native.Nat.{ℕ, zero, suc, ◌+◌, ◌-◌, ◌<◌, ◌≤◌}
 use mathlib.Core.Bool.{Bool, true, false, ◌&&◌, ◌||◌}
 use mathlib.Core.List.{List, [], ◌∷◌, ◌++◌}
 use mathlib.Core.Logic.{◌⊎◌, inl, inr}
-use mathlib.Core.Option.{Option, none, some}
 use mathlib.Core.Path.{◌≡◌, refl, sym, ap, ◌∙◌, subst}
 use native.Mathlib.Decide.{ℕ_discrete, dec_lt}
 use native.Mathlib.Omega.{arith}
@@ -139,13 +138,13 @@ pub record Meets (cs : List Class) (i j : ℕ) : Type 0 where
 
 module _ (cs : List Class) (i : ℕ) where
   -- one that was found among the first n
-  meeting_some : (n j : ℕ) → meeting_below cs i n ≡ some j → (i < j) × (j < n) × (contains_any (class_at cs i) (class_at cs j) ≡ true)
+  meeting_some : (n j : ℕ) → meeting_below cs i n ≡ Some j → (i < j) × (j < n) × (contains_any (class_at cs i) (class_at cs j) ≡ true)
   unfolding meeting_below
   meeting_some zero j h = absurd (let z : ◌≡◌ {A = ℕ} 0 1 = cc in omega arith)
   meeting_some (suc k) j h = go (ltb i k) (contains_any (class_at cs i) (class_at cs k)) refl refl h (meeting_some k j)
     where
-      go : (b c : Bool) → ltb i k ≡ b → contains_any (class_at cs i) (class_at cs k) ≡ c → (if b && c then some k else meeting_below cs i k) ≡ some j
-          → (meeting_below cs i k ≡ some j → (i < j) × (j < k) × (contains_any (class_at cs i) (class_at cs j) ≡ true)) → (i < j) × (j < suc k) × (contains_any (class_at cs i) (class_at cs j) ≡ true)
+      go : (b c : Bool) → ltb i k ≡ b → contains_any (class_at cs i) (class_at cs k) ≡ c → (if b && c then Some k else meeting_below cs i k) ≡ Some j
+          → (meeting_below cs i k ≡ Some j → (i < j) × (j < k) × (contains_any (class_at cs i) (class_at cs j) ≡ true)) → (i < j) × (j < suc k) × (contains_any (class_at cs i) (class_at cs j) ≡ true)
       go true true p q s r =
           let t : k ≡ j = cc in
           (omega (arith, ltb-true i k p), omega arith, subst (λ (x : ℕ). contains_any (class_at cs i) (class_at cs x) ≡ true) t q)
@@ -153,13 +152,13 @@ module _ (cs : List Class) (i : ℕ) where
       go false c p q s r = let u = r s in (u.0, omega (arith, u.1), u.2)
 
   -- none was found among the first n
-  meeting_none : (n : ℕ) → meeting_below cs i n ≡ none → (j : ℕ) → i < j → j < n → contains_any (class_at cs i) (class_at cs j) ≡ false
+  meeting_none : (n : ℕ) → meeting_below cs i n ≡ None → (j : ℕ) → i < j → j < n → contains_any (class_at cs i) (class_at cs j) ≡ false
   unfolding meeting_below
   meeting_none zero h j a b = absurd (omega arith)
   meeting_none (suc k) h j a b = go (ltb i k) (contains_any (class_at cs i) (class_at cs k)) refl refl h (meeting_none k) (ℕ_discrete j k)
     where
-      go : (b c : Bool) → ltb i k ≡ b → contains_any (class_at cs i) (class_at cs k) ≡ c → (if b && c then some k else meeting_below cs i k) ≡ none
-          → (meeting_below cs i k ≡ none → (j : ℕ) → i < j → j < k → contains_any (class_at cs i) (class_at cs j) ≡ false) → Dec (j ≡ k) → contains_any (class_at cs i) (class_at cs j) ≡ false
+      go : (b c : Bool) → ltb i k ≡ b → contains_any (class_at cs i) (class_at cs k) ≡ c → (if b && c then Some k else meeting_below cs i k) ≡ None
+          → (meeting_below cs i k ≡ None → (j : ℕ) → i < j → j < k → contains_any (class_at cs i) (class_at cs j) ≡ false) → Dec (j ≡ k) → contains_any (class_at cs i) (class_at cs j) ≡ false
       go true true p q s r d = absurd (let z : ◌≡◌ {A = ℕ} 0 1 = cc in omega arith)
       go true false p q s r (yes t) = subst (λ (x : ℕ). contains_any (class_at cs i) (class_at cs x) ≡ false) (sym t) q
       go true false p q s r (no t) = r s j a (omega arith)
@@ -167,12 +166,12 @@ module _ (cs : List Class) (i : ℕ) where
       go false c p q s r (no t) = r s j a (omega arith)
 
   -- the last class after i that meets it
-  pub last_some : (j : ℕ) → last_meeting cs i ≡ some j → Meets cs i j
+  pub last_some : (j : ℕ) → last_meeting cs i ≡ Some j → Meets cs i j
   unfolding last_meeting
   last_some j h = let m = meeting_some (length cs) j h in record { after = m.0; below = m.1; common = m.2 }
 
   -- none after i meets it
-  pub last_none : last_meeting cs i ≡ none → (j : ℕ) → i < j → j < length cs → contains_any (class_at cs i) (class_at cs j) ≡ false
+  pub last_none : last_meeting cs i ≡ None → (j : ℕ) → i < j → j < length cs → contains_any (class_at cs i) (class_at cs j) ≡ false
   unfolding last_meeting
   last_none h j a b = meeting_none (length cs) h j a b
 
@@ -180,7 +179,7 @@ module _ (cs : List Class) (i : ℕ) where
 
 -- what the two steps keep, bridging keeps, and it comes to the end
 module _ (P : ℕ → List Class → Type 0)
-    (next : (i : ℕ) (cs : List Class) → i < length cs → last_meeting cs i ≡ none → P i cs → P (i + 1) cs)
+    (next : (i : ℕ) (cs : List Class) → i < length cs → last_meeting cs i ≡ None → P i cs → P (i + 1) cs)
     (meets : (i j : ℕ) (cs : List Class) → i < length cs → Meets cs i j → P i cs → P i (bridged cs i j)) where
   -- from a place on, n classes before the end
   rest-keeps : (n i : ℕ) (cs : List Class) → length cs - i ≡ n → P i cs → (k : ℕ) × (length (bridge_rest i cs) ≤ k) × P k (bridge_rest i cs)
@@ -192,8 +191,8 @@ module _ (P : ℕ → List Class → Type 0)
 
       go : (o : Option ℕ) → last_meeting cs i ≡ o → ((i : ℕ) (cs : List Class) → length cs - i ≡ n → P i cs → (k : ℕ) × (length (bridge_rest i cs) ≤ k) × P k (bridge_rest i cs))
           → (k : ℕ) × (length (bridge_rest i cs) ≤ k) × P k (bridge_rest i cs)
-      go none q r = rw (bridge_next i cs l q) (r (i + 1) cs (omega arith) (next i cs l q p))
-      go (some j) q r = rw (bridge_meets i cs j l q) (r i (bridged cs i j) (omega (arith, length-bridged cs i j)) (meets i j cs l (last_some cs i j q) p))
+      go None q r = rw (bridge_next i cs l q) (r (i + 1) cs (omega arith) (next i cs l q p))
+      go (Some j) q r = rw (bridge_meets i cs j l q) (r i (bridged cs i j) (omega (arith, length-bridged cs i j)) (meets i j cs l (last_some cs i j q) p))
 
   -- from the first place on
   pub bridge_keeps : (cs : List Class) → P 0 cs → (k : ℕ) × (length (bridge_classes cs) ≤ k) × P k (bridge_classes cs)
@@ -357,7 +356,7 @@ abbrev pub ApartBelow : ℕ → List Class → Type 0
 ApartBelow i cs = (e a b : ℕ) → a < i → a < b → b < length cs → among e (class_at cs a).members ≡ true → among e (class_at cs b).members ≡ true → ⊥
 
 -- class i has nothing in common with any later one
-apart_next : (i : ℕ) (cs : List Class) → i < length cs → last_meeting cs i ≡ none → ApartBelow i cs → ApartBelow (i + 1) cs
+apart_next : (i : ℕ) (cs : List Class) → i < length cs → last_meeting cs i ≡ None → ApartBelow i cs → ApartBelow (i + 1) cs
 unfolding contains_any
 apart_next i cs l q h e a b la lb lc p r = at (ℕ_discrete a i)
   where

@@ -13,7 +13,8 @@ use Rattle.laws.proofs.Booleans.{true_not_false}
 use Rattle.arena.specs.Node.{Node, literal, node_at}
 use Rattle.arena.specs.Arena.{Extends}
 use Rattle.arena.proofs.Nodes.{extends-longer, extends-node}
-use Rattle.classes.specs.Class.{Constant, Class, is_uniform, taken, carried, single, merged}
+use Rattle.classes.specs.declared.Constant.{Constant}
+use Rattle.classes.specs.Class.{Class, is_uniform, taken, carried, single, merged}
 use Rattle.classes.specs.Group.{among, class_at}
 use Rattle.classes.specs.Good.{flat, Distinct, Good}
 use Rattle.classes.proofs.Places.{count, count-append, count_same, count-other, never-among, among_one, get_or-among, distinct-count, count-distinct, nothing, All, distinct-once, once-distinct, class-flat, flat-class, sum-at}

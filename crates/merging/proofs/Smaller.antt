@@ -1,7 +1,7 @@
 -- Dropping and bridging make no class and no member more.
 use Prim.Native.Nat.{ℕ, zero, suc, ◌+◌, ◌-◌, ◌≤◌}
 use mathlib.Core.List.{List}
-use mathlib.Core.Option.{Option, none, some}
+use Rattle.std.specs.Prelude.{Option, None, Some}
 use mathlib.Core.Path.{◌≡◌, refl, ap, ◌∙◌}
 use native.Mathlib.Omega.{arith}
 use lib.ListN.{length}
@@ -38,11 +38,11 @@ kept_small cs = below-small (length cs) cs (omega arith)
 
 -- one step of bridging
 module _ (n i : ℕ) (cs : List Class) where
-  step-none : last_meeting cs i ≡ none → bridge_from (suc n) i cs ≡ bridge_from n (i + 1) cs
+  step-none : last_meeting cs i ≡ None → bridge_from (suc n) i cs ≡ bridge_from n (i + 1) cs
   unfolding bridge_from
   step-none q = rw (q, bridge_from)
 
-  step-some : (j : ℕ) → last_meeting cs i ≡ some j → bridge_from (suc n) i cs ≡ bridge_from n i (bridged cs i j)
+  step-some : (j : ℕ) → last_meeting cs i ≡ Some j → bridge_from (suc n) i cs ≡ bridge_from n i (bridged cs i j)
   unfolding bridge_from
   step-some j q = rw (q, bridge_from)
 
@@ -53,8 +53,8 @@ steps-few zero i cs = omega arith
 steps-few (suc n) i cs = go (last_meeting cs i) refl (λ k ds. steps-few n k ds)
   where
     go : (o : Option ℕ) → last_meeting cs i ≡ o → ((k : ℕ) (ds : List Class) → length (bridge_from n k ds) ≤ length ds) → length (bridge_from (suc n) i cs) ≤ length cs
-    go none q r = rw (step-none n i cs q) (r (i + 1) cs)
-    go (some j) q r = rw (step-some n i cs j q) (omega (arith, r i (bridged cs i j), length-bridged cs i j))
+    go None q r = rw (step-none n i cs q) (r (i + 1) cs)
+    go (Some j) q r = rw (step-some n i cs j q) (omega (arith, r i (bridged cs i j), length-bridged cs i j))
 
 steps-small : (n i : ℕ) (cs : List Class) → total (bridge_from n i cs) ≤ total cs
 unfolding bridge_from
@@ -62,8 +62,8 @@ steps-small zero i cs = omega arith
 steps-small (suc n) i cs = go (last_meeting cs i) refl (λ k ds. steps-small n k ds)
   where
     go : (o : Option ℕ) → last_meeting cs i ≡ o → ((k : ℕ) (ds : List Class) → total (bridge_from n k ds) ≤ total ds) → total (bridge_from (suc n) i cs) ≤ total cs
-    go none q r = rw (step-none n i cs q) (r (i + 1) cs)
-    go (some j) q r =
+    go None q r = rw (step-none n i cs q) (r (i + 1) cs)
+    go (Some j) q r =
         let m = meeting_is cs i j q in
         rw (step-some n i cs j q) (omega (arith, r i (bridged cs i j), bridged-small cs i j m.0 m.1.0))
 

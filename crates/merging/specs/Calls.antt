@@ -1,8 +1,8 @@
 -- What the public call answers, in document 01's order of refusals. A refusal makes no group.
 -- At the end, what calls answer that make a group of a lent one: their refusal is a case that hands back what came in.
-use Rattle.std.specs.Prelude.{ℕ, true, false, List, eqb, if◌then◌else◌}
-use Rattle.std.proofs.Math.Option.{Option, none, some}
+use Rattle.std.specs.Prelude.{ℕ, true, List, eqb, if◌then◌else◌, Option, None, Some, Ok, Err}
 use Rattle.arena.specs.Node.{Node}
+use Rattle.arena.specs.Refusals.{refusal}
 use Rattle.classes.specs.Class.{Class}
 use Rattle.classes.specs.Layout.{encode}
 use Rattle.classes.specs.Calls.{no_group}
@@ -14,7 +14,7 @@ use Rattle.lent_classes.specs.Lent.{classes_lent}
 
 -- a group that was made, of limit 256
 unfoldable pub made_group : List Class → Changed
-made_group cs = record { number = 0; answer = true; group = encode 256 cs }
+made_group cs = record { answer = Ok true; group = encode 256 cs }
 
 -- the group of a list of classes, or the refusal
 unfoldable pub new_answer : List ℕ → List ℕ → Changed
@@ -22,9 +22,9 @@ new_answer cells numbers = if eqb (new_number cells numbers) 0 then made_group (
 
 -- a refusal of a call that is lent a group: the group as it was, and the arena
 unfoldable pub refused_group : ℕ → Group → List Node → Changed × List Node
-refused_group k g ns = (record { number = k; answer = false; group = g }, ns)
+refused_group k g ns = (record { answer = Err (refusal k); group = g }, ns)
 
 -- the classes as a group that was made, or 4, and then the arena is as it was
 unfoldable pub made_or_refused : Group → List Node → List Node → Option (List Class) → Changed × List Node
-made_or_refused g ns ms (some cs) = (made_group cs, ms)
-made_or_refused g ns ms none = refused_group 4 g ns
+made_or_refused g ns ms (Some cs) = (made_group cs, ms)
+made_or_refused g ns ms None = refused_group 4 g ns

@@ -1,7 +1,8 @@
 -- The class functions of the text: extend, push, a class of expressions, contains_any, is_trivial.
 use Rattle.std.specs.Prelude.{ℕ, Bool, false, not, ◌&&◌, ◌||◌, List, [], ◌∷◌, eqb, length, if◌then◌else◌}
 use Rattle.arena.specs.Node.{Node}
-use Rattle.classes.specs.Class.{Class, no_constant, single, merged, is_constant}
+use Rattle.classes.specs.declared.Constant.TheVariants.{NoConstant as no_constant}
+use Rattle.classes.specs.Class.{Class, single, merged, is_constant}
 use Rattle.classes.specs.Group.{among}
 
 -- the second list without what stands in the first

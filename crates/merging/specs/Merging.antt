@@ -1,7 +1,6 @@
 -- `new`: a list of classes that may be empty, say nothing or overlap becomes a group.
 use Prim.Native.Nat.{ℕ, zero, suc, ◌+◌, ◌-◌, ◌<◌, ◌≤◌}
-use Rattle.std.specs.Prelude.{◌&&◌, List, ◌≡◌, ltb, if◌then◌else◌}
-use Rattle.std.proofs.Math.Option.{Option, none, some}
+use Rattle.std.specs.Prelude.{◌&&◌, List, ◌≡◌, ltb, if◌then◌else◌, Option, None, Some}
 use Rattle.std.proofs.Math.Path.{ap}
 use Rattle.std.proofs.Common.{◌∙◌}
 use native.Mathlib.Omega.{arith}
@@ -26,8 +25,8 @@ kept_classes cs = drop_below (length cs) cs
 
 -- the last class after i, among the first n, that has an expression in common with class i
 unfoldable pub meeting_below : List Class → ℕ → ℕ → Option ℕ
-meeting_below cs i zero = none
-meeting_below cs i (suc j) = if ltb i j && contains_any (class_at cs i) (class_at cs j) then some j else meeting_below cs i j
+meeting_below cs i zero = None
+meeting_below cs i (suc j) = if ltb i j && contains_any (class_at cs i) (class_at cs j) then Some j else meeting_below cs i j
 
 -- the last class after i that has an expression in common with class i
 unfoldable pub last_meeting : List Class → ℕ → Option ℕ
@@ -47,8 +46,8 @@ unfoldable pub bridge_from : ℕ → ℕ → List Class → List Class
 bridge_from zero i cs = cs
 bridge_from (suc n) i cs =
     elim (last_meeting cs i) [
-      | none ↦ bridge_from n (i + 1) cs
-      | some j ↦ bridge_from n i (bridged cs i j)
+      | None ↦ bridge_from n (i + 1) cs
+      | Some j ↦ bridge_from n i (bridged cs i j)
     ]
 
 -- bridging from a place to the end: each step passes one class or takes one in, so there are as many as classes from there on
@@ -61,13 +60,13 @@ module _ (i : ℕ) (cs : List Class) where
   unfolding bridge_rest bridge_from
   bridge_end l = let e : length cs - i ≡ 0 = omega arith in ap (λ (n : ℕ). bridge_from n i cs) e
 
-  pub bridge_next : i < length cs → last_meeting cs i ≡ none → bridge_rest i cs ≡ bridge_rest (i + 1) cs
+  pub bridge_next : i < length cs → last_meeting cs i ≡ None → bridge_rest i cs ≡ bridge_rest (i + 1) cs
   unfolding bridge_rest bridge_from
   bridge_next l q =
       let e : length cs - i ≡ suc (length cs - (i + 1)) = omega arith in
       ap (λ (n : ℕ). bridge_from n i cs) e ∙ rw (q, bridge_from)
 
-  pub bridge_meets : (j : ℕ) → i < length cs → last_meeting cs i ≡ some j → bridge_rest i cs ≡ bridge_rest i (bridged cs i j)
+  pub bridge_meets : (j : ℕ) → i < length cs → last_meeting cs i ≡ Some j → bridge_rest i cs ≡ bridge_rest i (bridged cs i j)
   unfolding bridge_rest bridge_from
   bridge_meets j l q =
       let e : length cs - i ≡ suc (length (bridged cs i j) - i) = omega (arith, length-bridged cs i j) in

@@ -2,7 +2,7 @@
 // become one; and the answer of a call that made a group.
 ghost use Rattle.std.specs.Prelude.{◌≡◌, ◌≤◌, ◌<◌};
 ghost use Rattle.classes.specs.Layout.{encode, decode};
-ghost use Rattle.classes.specs.Inner.{Coded, place_of};
+ghost use Rattle.classes.specs.Inner.{Coded};
 ghost use Rattle.merging.specs.Merging.{dropped_at, kept_classes, last_meeting, bridge_classes, from_classes};
 ghost use Rattle.merging.specs.Calls.{made_group};
 ghost use Rattle.merging.specs.Inner.{Stepped};
@@ -10,7 +10,7 @@ ghost use Rattle.merging.specs.Inner.{Stepped};
 use crate::Bridged;
 use crate::extending::{contains_any, extend, is_trivial};
 use classes::building::remove_class_at_idx;
-use classes::{Changed, Group, Place};
+use classes::{Changed, Group};
 
 // The class at a place goes if it says nothing.
 fn drop_at(g: Group, i: usize) -> Group
@@ -18,9 +18,10 @@ fn drop_at(g: Group, i: usize) -> Group
     ensures { result ≡ encode g.limit (dropped_at (decode g) i) }
 {
     if is_trivial(g, i) {
-        return remove_class_at_idx(g, i);
+        remove_class_at_idx(g, i)
+    } else {
+        g
     }
-    g
 }
 
 // The classes that say nothing go, back to front.
@@ -29,27 +30,23 @@ pub fn drop_trivial(g: Group) -> Group
     ensures { result ≡ encode g.limit (kept_classes (decode g)) }
 {
     let mut out = g;
-    let mut i = g.count;
-    while 0 < i {
-        i -= 1;
+    for i in (0..g.count).rev() {
         out = drop_at(out, i);
     }
     out
 }
 
 // The last class after i that has an expression in common with class i.
-fn last_meeting(g: Group, i: usize) -> Place
+fn last_meeting(g: Group, i: usize) -> Option<usize>
     requires { Coded g × (i < g.count) }
-    ensures { result ≡ place_of (last_meeting (decode g) i) }
+    ensures { result ≡ last_meeting (decode g) i }
 {
-    let mut j = g.count;
-    while i + 1 < j {
-        j -= 1;
+    for j in (i + 1..g.count).rev() {
         if contains_any(g, i, j) {
-            return Place::At(j);
+            return Some(j);
         }
     }
-    Place::Nowhere
+    None
 }
 
 // One step of bridging: class i takes in the last class that overlaps with it, or is passed.
@@ -58,11 +55,11 @@ fn bridge_step(g: Group, i: usize) -> Bridged
     ensures { Stepped g i result.group result.next }
 {
     match last_meeting(g, i) {
-        Place::At(j) => Bridged {
+        Some(j) => Bridged {
             group: extend(g, i, j),
             next: i,
         },
-        Place::Nowhere => Bridged {
+        None => Bridged {
             group: g,
             next: i + 1,
         },
@@ -76,6 +73,7 @@ pub fn bridge_classes(g: Group) -> Group
 {
     let mut out = g;
     let mut i = 0;
+    // A step decides whether it goes on at the same class or at the next.
     while i < out.count {
         let step = bridge_step(out, i);
         out = step.group;
@@ -97,11 +95,8 @@ pub fn made(g: Group) -> Changed
     requires { Coded g }
     ensures { result ≡ made_group (decode g) }
 {
-    let mut group = g;
-    group.limit = 256;
     Changed {
-        number: 0,
-        answer: true,
-        group: group,
+        answer: Ok(true),
+        group: Group { limit: 256, ..g },
     }
 }

@@ -2,7 +2,8 @@
 ghost use Rattle.std.specs.Prelude.{[], ◌∷◌, ◌++◌, ◌≡◌, ◌≤◌, ◌<◌, ◌+◌, ◌-◌, length, get_or};
 ghost use Rattle.arena.specs.Layout.{decode as nodes};
 ghost use Rattle.arena.specs.Inner.{Known};
-ghost use Rattle.classes.specs.Class.{no_constant, single};
+ghost use Rattle.classes.specs.declared.Constant.TheVariants.{NoConstant as no_constant};
+ghost use Rattle.classes.specs.Class.{single};
 ghost use Rattle.classes.specs.Group.{among, class_at, merged_at};
 ghost use Rattle.classes.specs.Layout.{encode, decode, constant_from};
 ghost use Rattle.classes.specs.Inner.{Coded};
@@ -12,11 +13,11 @@ ghost use Rattle.merging.specs.Inner.{missing_some};
 
 use arena::cells::wide;
 use classes::building::{
-    class_start, empty, mark_from, mark_of, merge_class_at_idx, merge_last, remove_class_at_idx,
+    class_start, constant_of, empty, merge_class_at_idx, merge_last, remove_class_at_idx,
     set_constant,
 };
-use classes::single::{carried_mark, one_class, single_group};
-use classes::{Group, Mark};
+use classes::single::{carried, one_class, single_group};
+use classes::{Constant, Group};
 
 // Class i holds an expression.
 pub fn class_holds(g: Group, i: usize, e: u32) -> bool
@@ -25,15 +26,7 @@ pub fn class_holds(g: Group, i: usize, e: u32) -> bool
 {
     let sizes = g.sizes;
     let start = class_start(sizes, i);
-    let n = g.sizes[i];
-    let mut k = 0;
-    while k < n {
-        if g.members[start + k] == e {
-            return true;
-        }
-        k += 1;
-    }
-    false
+    g.members[start..start + g.sizes[i]].contains(&e)
 }
 
 // Two classes have an expression in common.
@@ -43,15 +36,9 @@ pub fn contains_any(g: Group, i: usize, j: usize) -> bool
 {
     let sizes = g.sizes;
     let start = class_start(sizes, i);
-    let n = g.sizes[i];
-    let mut k = 0;
-    while k < n {
-        if class_holds(g, j, g.members[start + k]) {
-            return true;
-        }
-        k += 1;
-    }
-    false
+    g.members[start..start + g.sizes[i]]
+        .iter()
+        .any(|e| class_holds(g, j, *e))
 }
 
 // A class says nothing: it is empty, or has one member and no constant.
@@ -60,23 +47,16 @@ pub fn is_trivial(g: Group, i: usize) -> bool
     ensures { result ≡ is_trivial (class_at (decode g) i) }
 {
     let size = g.sizes[i];
-    if size == 0 {
-        return true;
-    }
-    if size != 1 {
-        return false;
-    }
-    g.flavours[i] == 0
+    size == 0 || size == 1 && g.flavours[i] == 0
 }
 
 // A group of one class that has a constant and no member yet.
-pub fn one_empty(mark: Mark) -> Group
-    ensures { result ≡ encode 256 (record { members = []; constant = constant_from mark.flavour mark.value } ∷ []) }
+pub fn one_empty(constant: Constant) -> Group
+    ensures { result ≡ encode 256 (record { members = []; constant = constant } ∷ []) }
 {
-    let said = mark_from(mark);
     let mut g = empty(256);
-    g.flavours[0] = said.flavour;
-    g.values[0] = said.value;
+    g.flavours[0] = constant.flavour();
+    g.values[0] = constant.value();
     g.count = 1;
     g
 }
@@ -86,11 +66,7 @@ fn append_member(out: Group, e: u32) -> Group
     requires { Coded out × ((0 < out.count) × (out.used < 256)) }
     ensures { result ≡ encode out.limit (merged_at (decode out) (out.count - 1) (record { members = e ∷ []; constant = no_constant })) }
 {
-    let none = Mark {
-        flavour: 0,
-        value: 0,
-    };
-    let one = one_class(e, none);
+    let one = one_class(e, Constant::NoConstant);
     merge_last(out, one, 0)
 }
 
@@ -113,12 +89,9 @@ fn missing_class(g: Group, i: usize, j: usize) -> Group
     requires { Coded g × ((i < g.count) × (j < g.count)) }
     ensures { result ≡ encode 256 (missing (class_at (decode g) i) (class_at (decode g) j) ∷ []) }
 {
-    let n = g.sizes[j];
-    let mut out = one_empty(mark_of(g, j));
-    let mut k = 0;
-    while k < n {
+    let mut out = one_empty(constant_of(g, j));
+    for k in 0..g.sizes[j] {
         out = add_missing(out, g, i, j, k);
-        k += 1;
     }
     out
 }
@@ -140,7 +113,7 @@ pub fn push(cells: &[u32; 11265], out: Group, e: u32) -> Group
 {
     let last = out.count - 1;
     if class_holds(out, last, e) {
-        return set_constant(out, last, carried_mark(cells, e));
+        return set_constant(out, last, carried(cells, e));
     }
     let one = single_group(cells, e);
     merge_last(out, one, 0)

@@ -29,9 +29,8 @@ pub struct Bridged {
 pub fn new(cells: &[u32; 11265], list: &[u32]) -> Changed
     ensures { result ≡ new_answer cells.now list.now }
 {
-    let number = new_number(cells, list);
-    if number != 0 {
-        return no_group(number);
+    if let Err(why) = new_number(cells, list) {
+        return no_group(why);
     }
     made(from_classes(lent_classes(list)))
 }

@@ -1,16 +1,17 @@
 -- The definitions of specs/, tried on small lists and joins by computing them.
+use Rattle.std.specs.Prelude.{Err}
 use Prim.Native.Nat.{ℕ}
-use mathlib.Core.Bool.{false}
 use mathlib.Core.List.{List, [], ◌∷◌, ◌++◌}
 use mathlib.Core.Path.{◌≡◌, refl}
-use Rattle.laws.specs.Tests.{first, first_from, is_some}
+use Rattle.laws.specs.Tests.{first, first_from}
 use Rattle.laws.specs.Parts.{parts, parts_from}
 use Rattle.laws.specs.Lists.{table}
 use Rattle.arena.specs.Node.{Node, column, literal, made, made_after, same_node}
 use Rattle.arena.specs.Expression.{expressions, over, those}
 use Rattle.arena.specs.Arena.{and_then, find, placed_at, add, add_expression}
 use Rattle.shifting.specs.Shift.{within, moved, can_move, shifted}
-use Rattle.classes.specs.Class.{no_constant, heterogeneous, unknown, known, Class, is_uniform, taken, carried, single, merged, is_constant}
+use Rattle.classes.specs.declared.Constant.TheVariants.{NoConstant as no_constant, Heterogeneous as heterogeneous, Unknown as unknown, Known as known}
+use Rattle.classes.specs.Class.{Class, is_uniform, taken, carried, single, merged, is_constant}
 use Rattle.classes.specs.Group.{among, class_of, total, removed, merged_at, joined, equated, equal_condition}
 use Rattle.classes.specs.Good.{flat}
 use Rattle.classes.specs.Steps.{fits}
@@ -18,6 +19,8 @@ use Rattle.classes.specs.Layout.{constant_from, flavour_of, value_of, padded, su
 use Rattle.merging.specs.Extending.{without, missing, extended, pushed, pushed_all, class_from, any_among, contains_any, is_trivial}
 use Rattle.merging.specs.Merging.{dropped_at, drop_below, kept_classes, meeting_below, last_meeting, bridged, bridge_from, bridge_rest, bridge_classes, from_classes}
 use Rattle.lent_classes.specs.Lent.{next_class, class_lent, classes_lent}
+use Rattle.arena.specs.declared.Refusal.TheVariants.{IndexOutOfRange}
+use Rattle.arena.specs.Refusals.{refusal}
 use Rattle.merging.specs.Calls.{made_group, refused_group, made_or_refused}
 use Rattle.joins.specs.Kinds.{join_kind}
 use Rattle.shifted_classes.specs.Shifting.{all_move, shifted_numbers, shifted_classes}
@@ -77,18 +80,18 @@ rights = varying (2 ∷ 3 ∷ []) ∷ record { members = 4 ∷ []; constant = un
 -- Left, over two left columns: the right constants go with the shift, the literal's is its own, the class of one says nothing any more, and its shifted node is there all the same
 left_join : join_by (encode 256 lefts) (encode 256 rights) 1 2 ((1, 2) ∷ []) arena
     ≡ (made_group (plain (0 ∷ 1 ∷ []) ∷ plain (6 ∷ 7 ∷ []) ∷ record { members = 5 ∷ []; constant = known 7 } ∷ []), arena ++ (column 2 2 ∷ column 3 3 ∷ column 4 4 ∷ []))
-unfolding join_by join_kind join_shifted join_placed made_or_refused joined_over joined_classes equated_all equal_condition equated class_of first first_from joined to_shift flat all_move shifted_numbers can_move shifted moved within is_some expressions made made_after over those add_expression and_then add placed_at find same_node shifted_classes class_from pushed_all pushed extended merged missing without among single carried taken is_uniform with_rights fits total from_classes kept_classes drop_below dropped_at is_trivial is_constant removed bridge_classes bridge_rest bridge_from last_meeting meeting_below bridged merged_at contains_any any_among decode encode class_in padded flavour_of value_of constant_from sum_to table
+unfolding join_by join_kind join_shifted join_placed made_or_refused joined_over joined_classes equated_all equal_condition equated class_of first first_from joined to_shift flat all_move shifted_numbers can_move shifted moved within expressions made made_after over those add_expression and_then add placed_at find same_node shifted_classes class_from pushed_all pushed extended merged missing without among single carried taken is_uniform with_rights fits total from_classes kept_classes drop_below dropped_at is_trivial is_constant removed bridge_classes bridge_rest bridge_from last_meeting meeting_below bridged merged_at contains_any any_among decode encode class_in padded flavour_of value_of constant_from sum_to table
 left_join = refl
 
 -- Inner, over two left columns: the pair of 1 and 2, whose shifted node is 6, brings the two classes together
 inner_join : join_by (encode 256 lefts) (encode 256 (varying (2 ∷ 3 ∷ []) ∷ [])) 0 2 ((1, 2) ∷ []) arena
     ≡ (made_group (plain (0 ∷ 1 ∷ 6 ∷ 7 ∷ []) ∷ []), arena ++ (column 2 2 ∷ column 3 3 ∷ []))
-unfolding join_by join_kind join_shifted join_placed made_or_refused joined_over joined_classes equated_all equal_condition equated class_of first first_from joined to_shift flat all_move shifted_numbers can_move shifted moved within is_some expressions made made_after over those add_expression and_then add placed_at find same_node shifted_classes class_from pushed_all pushed extended merged missing without among single carried taken is_uniform with_rights fits total from_classes kept_classes drop_below dropped_at is_trivial is_constant removed bridge_classes bridge_rest bridge_from last_meeting meeting_below bridged merged_at contains_any any_among decode encode class_in padded flavour_of value_of constant_from sum_to table
+unfolding join_by join_kind join_shifted join_placed made_or_refused joined_over joined_classes equated_all equal_condition equated class_of first first_from joined to_shift flat all_move shifted_numbers can_move shifted moved within expressions made made_after over those add_expression and_then add placed_at find same_node shifted_classes class_from pushed_all pushed extended merged missing without among single carried taken is_uniform with_rights fits total from_classes kept_classes drop_below dropped_at is_trivial is_constant removed bridge_classes bridge_rest bridge_from last_meeting meeting_below bridged merged_at contains_any any_among decode encode class_in padded flavour_of value_of constant_from sum_to table
 inner_join = refl
 
 -- over 65,535 left columns index 1 leaves its range: 10, the left group as it was, and the arena
-join-leaves : join_by (encode 5 lefts) (encode 256 rights) 2 65535 [] arena ≡ (record { number = 10; answer = false; group = encode 5 lefts }, arena)
-unfolding join_by join_kind join_shifted refused_group to_shift flat all_move can_move moved within is_some expressions made made_after over decode encode class_in padded flavour_of value_of constant_from sum_to table
+join-leaves : join_by (encode 5 lefts) (encode 256 rights) 2 65535 [] arena ≡ (record { answer = Err IndexOutOfRange; group = encode 5 lefts }, arena)
+unfolding join_by join_kind join_shifted refused_group refusal to_shift flat all_move can_move moved within expressions made made_after over decode encode class_in padded flavour_of value_of constant_from sum_to table
 join-leaves = refl
 
 -- LeftSemi keeps the left classes and RightMark the right ones, each as they are but with limit 256

@@ -1,15 +1,14 @@
 -- What `new` and join hand back passes the check again, beside the cells as they are left; a refusal leaves what was lent as it was.
-use Rattle.std.specs.Prelude.{if◌then◌else◌}
+use Rattle.std.specs.Prelude.{if◌then◌else◌, Option, None, Some, Err}
 use Prim.Native.Nat.{ℕ, zero, suc, ◌+◌, ◌*◌, ◌/◌, ◌<◌, ◌≤◌}
 use mathlib.Core.Bool.{Bool, true, false, ◌&&◌}
 use mathlib.Core.List.Memᴰ
 use mathlib.Core.List.{List, [], ◌∷◌, ◌++◌, Memᴰ}
 use mathlib.Core.Logic.{◌⊎◌, inl, inr}
-use mathlib.Core.Option.{Option, none, some}
 use mathlib.Core.Path.{◌≡◌, refl, sym, ap, ◌∙◌, subst}
 use native.Mathlib.Decide.{dec_lt}
 use native.Mathlib.Omega.{arith}
-use borrow.Author.Tests.{eqb-true, eqb-false, ltb-true, leb-true, le-leb}
+use borrow.Author.Tests.{eqb-true, ltb-true, leb-true, le-leb}
 use lib.Dec.{eqb, ltb, leb}
 use lib.IntN.{pos}
 use lib.ListN.{length, get_or}
@@ -27,7 +26,8 @@ use Rattle.classes.specs.Group.{total}
 use Rattle.classes.specs.Good.{Good}
 use Rattle.classes.specs.Steps.{fits}
 use Rattle.classes.specs.Layout.{encode, decode, in_set, lawful_group, members_inside}
-use Rattle.classes.specs.Calls.{group_number, no_group}
+use Rattle.arena.specs.Refusals.{refusal}
+use Rattle.classes.specs.Calls.{changed_number, group_number, no_group}
 use Rattle.classes.specs.declared.Group.{Group}
 use Rattle.classes.specs.declared.Changed.{Changed}
 use Rattle.group_checks.proofs.HeldLaws.{Fit, number-fit, held_number}
@@ -43,7 +43,7 @@ use Rattle.shifted_classes.specs.Shifting.{all_move, shifted_numbers}
 use Rattle.joins.specs.Joining.{to_shift, joined_over}
 use Rattle.joins.specs.Calls.{join_number, join_placed, join_shifted, join_by, join_answer}
 use Rattle.merging_laws.proofs.FairLent.{list-checked, lent_fair}
-use Rattle.merging_laws.proofs.JoinLaws.{from-fits, SidesBelow, made-to, made-good}
+use Rattle.merging_laws.proofs.JoinLaws.{number-positive, from-fits, SidesBelow, made-to, made-good}
 use Rattle.merging_laws.proofs.JoinTheorems.{used, kinds-left, kinds-right, used-below, kinds-made}
 
 -- ---- `new`
@@ -59,30 +59,30 @@ fit_of ns cs g f = record {
 }
 
 -- a group that `new` made is valid
-pub new_valid : (cells numbers : List ℕ) → (new_answer cells numbers).number ≡ 0 → group_number cells (new_answer cells numbers).group ≡ 0
+pub new_valid : (cells numbers : List ℕ) → changed_number (new_answer cells numbers) ≡ 0 → group_number cells (new_answer cells numbers).group ≡ 0
 unfolding new_answer made_group no_group
 new_valid cells numbers = go (eqb (new_number cells numbers) 0) refl
   where
     out : Bool → Changed
     out b = if b then made_group (from_classes (classes_lent numbers)) else no_group (new_number cells numbers)
 
-    go : (b : Bool) → eqb (new_number cells numbers) 0 ≡ b → (out b).number ≡ 0 → group_number cells (out b).group ≡ 0
+    go : (b : Bool) → eqb (new_number cells numbers) 0 ≡ b → changed_number (out b) ≡ 0 → group_number cells (out b).group ≡ 0
     go true q z =
         let e = eqb-true (new_number cells numbers) 0 q in
         let c = list-checked cells numbers e in
         held_number cells c.cells-lawful 256 (from_classes (classes_lent numbers))
         (fit_of (nodes cells) (from_classes (classes_lent numbers)) (from-good (nodes cells) (classes_lent numbers) (lent_fair cells numbers e)) (from-fits 256 (classes_lent numbers) c.fitting))
-    go false q z = absurd (eqb-false (new_number cells numbers) 0 q z)
+    go false q z = absurd (omega (arith, z, number-positive (refusal (new_number cells numbers))))
 
 -- a refusal of `new` makes no group
-pub refusal-makes-none : (cells numbers : List ℕ) → ((new_answer cells numbers).number ≡ 0 → ⊥) → new_answer cells numbers ≡ no_group (new_number cells numbers)
+pub refusal-makes-none : (cells numbers : List ℕ) → (changed_number (new_answer cells numbers) ≡ 0 → ⊥) → new_answer cells numbers ≡ no_group (new_number cells numbers)
 unfolding new_answer made_group no_group
 refusal-makes-none cells numbers = go (eqb (new_number cells numbers) 0)
   where
     out : Bool → Changed
     out b = if b then made_group (from_classes (classes_lent numbers)) else no_group (new_number cells numbers)
 
-    go : (b : Bool) → ((out b).number ≡ 0 → ⊥) → out b ≡ no_group (new_number cells numbers)
+    go : (b : Bool) → (changed_number (out b) ≡ 0 → ⊥) → out b ≡ no_group (new_number cells numbers)
     go true z = absurd (z refl)
     go false z = refl
 
@@ -182,7 +182,7 @@ module _ (cells : List ℕ) (left right : Group) (kind size : ℕ) (numbers : Li
       }
 
   -- a join of any kind
-  pub kinds_handed : (r : Changed) (ms : List Node) → join_by left right kind size (pairs_lent numbers) (nodes cells) ≡ (r, ms) → r.number ≡ 0 → Handed r ms
+  pub kinds_handed : (r : Changed) (ms : List Node) → join_by left right kind size (pairs_lent numbers) (nodes cells) ≡ (r, ms) → changed_number r ≡ 0 → Handed r ms
   kinds_handed r ms e z = go (dec_lt kind 4) (dec_lt kind 7)
     where
       go : Dec (kind < 4) → Dec (kind < 7) → Handed r ms
@@ -219,30 +219,30 @@ module _ (cells : List ℕ) (left right : Group) (kind size : ℕ) (numbers : Li
   abbrev pub join_out : Bool → Changed × List ℕ
   join_out b =
       if b then in_cells (join_by left right kind size (pairs_lent numbers) (nodes cells))
-      else (record { number = join_number cells left right kind numbers; answer = false; group = left }, cells)
+      else (record { answer = Err (refusal (join_number cells left right kind numbers)); group = left }, cells)
 
   -- a group that join made is valid beside the cells as they are left
-  pub join_valid : (join_answer cells left right kind size numbers).0.number ≡ 0 → group_number (join_answer cells left right kind size numbers).1 (join_answer cells left right kind size numbers).0.group ≡ 0
+  pub join_valid : changed_number (join_answer cells left right kind size numbers).0 ≡ 0 → group_number (join_answer cells left right kind size numbers).1 (join_answer cells left right kind size numbers).0.group ≡ 0
   unfolding join_answer in_cells
   join_valid = go (eqb (join_number cells left right kind numbers) 0) refl
     where
-      go : (b : Bool) → eqb (join_number cells left right kind numbers) 0 ≡ b → (join_out b).0.number ≡ 0 → group_number (join_out b).1 (join_out b).0.group ≡ 0
+      go : (b : Bool) → eqb (join_number cells left right kind numbers) 0 ≡ b → changed_number (join_out b).0 ≡ 0 → group_number (join_out b).1 (join_out b).0.group ≡ 0
       go true q z =
           let o = join_by left right kind size (pairs_lent numbers) (nodes cells) in
           let c = both-checked cells left right kind numbers (eqb-true (join_number cells left right kind numbers) 0 q) in
           handed_valid o.0 o.1 (kinds_handed cells left right kind size numbers c o.0 o.1 refl z)
-      go false q z = absurd (eqb-false (join_number cells left right kind numbers) 0 q z)
+      go false q z = absurd (omega (arith, z, number-positive (refusal (join_number cells left right kind numbers))))
 
 -- what a refusal of a join over nodes hands back
 abbrev Kept : Group → List Node → Changed × List Node → Type 0
-Kept left ns o = (o.0.number ≡ 0 → ⊥) → (o.0.group ≡ left) × (o.1 ≡ ns)
+Kept left ns o = (changed_number o.0 ≡ 0 → ⊥) → (o.0.group ≡ left) × (o.1 ≡ ns)
 
 module _ (left : Group) (ns : List Node) where
   -- where the classes exceed the bounds
   made_kept : (ms : List Node) (o : Option (List Class)) → Kept left ns (made_or_refused left ns ms o)
   unfolding made_or_refused refused_group made_group
-  made_kept ms (some cs) z = absurd (z refl)
-  made_kept ms none z = (refl, refl)
+  made_kept ms (Some cs) z = absurd (z refl)
+  made_kept ms None z = (refl, refl)
 
   -- or the arena has no room
   placed-kept : (rs : List Class) (ps : List (ℕ × ℕ)) (o : Placed (List ℕ)) → Kept left ns (join_placed left rs ps ns o)
@@ -275,12 +275,12 @@ module _ (left : Group) (ns : List Node) where
       go false z = absurd (z refl)
 
 -- a refusal of join hands back the left group and leaves every cell as it was
-pub refusal-keeps-join : (cells : List ℕ) (left right : Group) (kind size : ℕ) (numbers : List ℕ) → ((join_answer cells left right kind size numbers).0.number ≡ 0 → ⊥)
+pub refusal-keeps-join : (cells : List ℕ) (left right : Group) (kind size : ℕ) (numbers : List ℕ) → (changed_number (join_answer cells left right kind size numbers).0 ≡ 0 → ⊥)
     → ((join_answer cells left right kind size numbers).0.group ≡ left) × ((join_answer cells left right kind size numbers).1 ≡ cells)
 unfolding join_answer in_cells
 refusal-keeps-join cells left right kind size numbers = go (eqb (join_number cells left right kind numbers) 0) refl
   where
-    go : (b : Bool) → eqb (join_number cells left right kind numbers) 0 ≡ b → ((join_out cells left right kind size numbers b).0.number ≡ 0 → ⊥)
+    go : (b : Bool) → eqb (join_number cells left right kind numbers) 0 ≡ b → (changed_number (join_out cells left right kind size numbers b).0 ≡ 0 → ⊥)
         → ((join_out cells left right kind size numbers b).0.group ≡ left) × ((join_out cells left right kind size numbers b).1 ≡ cells)
     go true q z =
         let k = kinds_kept left (nodes cells) right kind size (pairs_lent numbers) z in

@@ -1,11 +1,10 @@
 -- A join that was made: what was shifted, which list reached `new`, what came of it; that it is a good group within the bounds, and on which rows its classes agree.
-use Rattle.std.specs.Prelude.{if◌then◌else◌}
+use Rattle.std.specs.Prelude.{if◌then◌else◌, Option, None, Some, is_some}
 use Prim.Native.Nat.{ℕ, zero, suc, ◌+◌, ◌-◌, ◌<◌, ◌≤◌}
 use mathlib.Core.Bool.{Bool, true, false}
 use mathlib.Core.List.Memᴰ
 use mathlib.Core.List.{List, [], ◌∷◌, ◌++◌, map, Memᴰ}
 use mathlib.Core.Logic.{◌⊎◌, inl, inr}
-use mathlib.Core.Option.{Option, none, some}
 use mathlib.Core.Path.{◌≡◌, refl, sym, ap, ap₂, ◌∙◌, subst}
 use native.Mathlib.Decide.{dec_lt}
 use native.Mathlib.Omega.{arith}
@@ -14,7 +13,6 @@ use lib.Dec.{leb, ltb}
 use lib.IntN.{pos}
 use lib.ListN.{length, get_or, take, drop, length-append, length-take, get_or-append}
 use lib.Seq.{get_or-take, get_or-drop, get_or-append-add}
-use Rattle.laws.specs.Tests.{is_some}
 use Rattle.laws.proofs.Booleans.{true_not_false, and_left, and_right, and_both}
 use Rattle.arena.specs.Node.{Node}
 use Rattle.arena.specs.Expression.{Expression, Expressions, col, lit, op, ∅, ◌▹◌, expression_at}
@@ -38,6 +36,10 @@ use Rattle.demands.proofs.GoodKept.{condition_good}
 use Rattle.merging.specs.Extending.{missing, pushed, pushed_all, class_from, is_trivial}
 use Rattle.merging.specs.Merging.{dropped_at, drop_below, kept_classes, bridged, length-bridged, from_classes}
 use Rattle.classes.specs.Agree.{Same, MembersAgree, PairsAgree}
+use Rattle.arena.specs.declared.Refusal.{Refusal}
+use Rattle.arena.specs.declared.Refusal.TheVariants.{UnknownExpression, TooManyChildren, ArenaFull, GroupFull, TooLarge, UnknownKey, NoTarget, OutputShort, Malformed, IndexOutOfRange, BadState, BadNumber}
+use Rattle.arena.specs.Refusals.{refusal, refusal_number}
+use Rattle.classes.specs.Calls.{changed_number}
 use Rattle.merging.specs.Calls.{made_group, refused_group, made_or_refused}
 use Rattle.merging.specs.Inner.{Fair, AllBelow}
 use Rattle.merging.proofs.Overlaps.{length_without, extended-from, Meets, bridge_keeps, meets-low, Within}
@@ -95,7 +97,7 @@ abbrev pub SidesBelow : ℕ → List (ℕ × ℕ) → Type 0
 SidesBelow n ps = (a b : ℕ) → Memᴰ (a, b) ps → (a < n) × (b < n)
 
 -- a good group within the bounds stays one
-pub equated-good : (ns : List Node) (ps : List (ℕ × ℕ)) (cs ds : List Class) → SidesBelow (length ns) ps → Good ns cs → fits 256 cs ≡ true → equated_all ns ps cs ≡ some ds → Good ns ds × (fits 256 ds ≡ true)
+pub equated-good : (ns : List Node) (ps : List (ℕ × ℕ)) (cs ds : List Class) → SidesBelow (length ns) ps → Good ns cs → fits 256 cs ≡ true → equated_all ns ps cs ≡ Some ds → Good ns ds × (fits 256 ds ≡ true)
 unfolding equated_all
 equated-good ns [] cs ds b g f e = let t : cs ≡ ds = cc in subst (λ (l : List Class). Good ns l × (fits 256 l ≡ true)) t (g, f)
 equated-good ns (p ∷ ps) cs ds b g f e =
@@ -103,8 +105,8 @@ equated-good ns (p ∷ ps) cs ds b g f e =
     go (fits 256 (equal_condition ns cs p.0 p.1).1) refl e
     (equated-good ns ps (equal_condition ns cs p.0 p.1).1 ds (λ x y m. b x y (Memᴰ.tail m)) (condition_good ns cs p.0 p.1 g s.0 s.1))
   where
-    go : (t : Bool) → fits 256 (equal_condition ns cs p.0 p.1).1 ≡ t → (if t then equated_all ns ps (equal_condition ns cs p.0 p.1).1 else none) ≡ some ds
-        → (fits 256 (equal_condition ns cs p.0 p.1).1 ≡ true → equated_all ns ps (equal_condition ns cs p.0 p.1).1 ≡ some ds → Good ns ds × (fits 256 ds ≡ true))
+    go : (t : Bool) → fits 256 (equal_condition ns cs p.0 p.1).1 ≡ t → (if t then equated_all ns ps (equal_condition ns cs p.0 p.1).1 else None) ≡ Some ds
+        → (fits 256 (equal_condition ns cs p.0 p.1).1 ≡ true → equated_all ns ps (equal_condition ns cs p.0 p.1).1 ≡ Some ds → Good ns ds × (fits 256 ds ≡ true))
         → Good ns ds × (fits 256 ds ≡ true)
     go true q r h = h q r
     go false q r h = absurd (let z : ◌≡◌ {A = ℕ} 0 1 = cc in omega arith)
@@ -128,7 +130,7 @@ module _ {A : Type 0} (ns : List Node) (m : Meaning A) (row : Row A) where
       at (inr w) = sym (near x w.0) ∙ near y w.1
 
   -- pairs that agree on the row, one after the other
-  pub equated-agrees : (ps : List (ℕ × ℕ)) (cs ds : List Class) → Once cs → MembersAgree ns cs m row → PairsAgree ns ps m row → equated_all ns ps cs ≡ some ds → MembersAgree ns ds m row
+  pub equated-agrees : (ps : List (ℕ × ℕ)) (cs ds : List Class) → Once cs → MembersAgree ns cs m row → PairsAgree ns ps m row → equated_all ns ps cs ≡ Some ds → MembersAgree ns ds m row
   unfolding equated_all
   equated-agrees [] cs ds o h b e = let t : cs ≡ ds = cc in subst (λ (l : List Class). MembersAgree ns l m row) t h
   equated-agrees (p ∷ ps) cs ds o h b e =
@@ -136,8 +138,8 @@ module _ {A : Type 0} (ns : List Node) (m : Meaning A) (row : Row A) where
       (equated-agrees ps (equal_condition ns cs p.0 p.1).1 ds (condition_joins ns cs o p.0 p.1).once
       (condition_agrees cs o h p.0 p.1 (b p.0 p.1 (Memᴰ.head refl))) (λ x y k. b x y (Memᴰ.tail k)))
     where
-      go : (t : Bool) → (if t then equated_all ns ps (equal_condition ns cs p.0 p.1).1 else none) ≡ some ds
-          → (equated_all ns ps (equal_condition ns cs p.0 p.1).1 ≡ some ds → MembersAgree ns ds m row) → MembersAgree ns ds m row
+      go : (t : Bool) → (if t then equated_all ns ps (equal_condition ns cs p.0 p.1).1 else None) ≡ Some ds
+          → (equated_all ns ps (equal_condition ns cs p.0 p.1).1 ≡ Some ds → MembersAgree ns ds m row) → MembersAgree ns ds m row
       go true r k = k r
       go false r k = absurd (let z : ◌≡◌ {A = ℕ} 0 1 = cc in omega arith)
 
@@ -216,14 +218,29 @@ pub record Made (ls rs : List Class) (size : ℕ) (ps : List (ℕ × ℕ)) (ns :
   pub moves : all_move (moved (pos size)) ns (to_shift rs ps) ≡ true
   pub shifts : shifted_numbers (moved (pos size)) ns (to_shift rs ps) ns ≡ placed numbers ms
   pub fitting : fits 256 (ls ++ shifted_classes ms rs numbers) ≡ true
-  pub equates : equated_all ms (with_rights ps (drop (length (flat rs)) numbers)) (from_classes (ls ++ shifted_classes ms rs numbers)) ≡ some classes
+  pub equates : equated_all ms (with_rights ps (drop (length (flat rs)) numbers)) (from_classes (ls ++ shifted_classes ms rs numbers)) ≡ Some classes
   pub is : r ≡ made_group classes
 
-module _ (left : Group) (rs : List Class) (size : ℕ) (ps : List (ℕ × ℕ)) (ns : List Node) (r : Changed) (ms : List Node) (zero_is : r.number ≡ 0) where
+-- a refusal is not 0
+pub number-positive : (why : Refusal) → 0 < refusal_number why
+number-positive UnknownExpression = omega arith
+number-positive TooManyChildren = omega arith
+number-positive ArenaFull = omega arith
+number-positive GroupFull = omega arith
+number-positive TooLarge = omega arith
+number-positive UnknownKey = omega arith
+number-positive NoTarget = omega arith
+number-positive OutputShort = omega arith
+number-positive Malformed = omega arith
+number-positive IndexOutOfRange = omega arith
+number-positive BadState = omega arith
+number-positive BadNumber = omega arith
+
+module _ (left : Group) (rs : List Class) (size : ℕ) (ps : List (ℕ × ℕ)) (ns : List Node) (r : Changed) (ms : List Node) (zero_is : changed_number r ≡ 0) where
   -- a refusal has a number
-  refused-not : (k : ℕ) → 0 < k → refused_group k left ns ≡ (r, ms) → ⊥
+  refused-not : (k : ℕ) → refused_group k left ns ≡ (r, ms) → ⊥
   unfolding refused_group
-  refused-not k l e = let t : k ≡ r.number = ap (λ (o : Changed × List Node). o.0.number) e in omega (arith, zero_is)
+  refused-not k e = let t : refusal_number (refusal k) ≡ changed_number r = ap (λ (o : Changed × List Node). changed_number o.0) e in omega (arith, zero_is, number-positive (refusal k))
 
   -- the list that reaches `new`
   abbrev list : List ℕ → List Node → List Class
@@ -239,8 +256,8 @@ module _ (left : Group) (rs : List Class) (size : ℕ) (ps : List (ℕ × ℕ)) 
       pairs = with_rights ps (drop (length (flat rs)) ks)
 
       at : (o : Option (List Class)) → fits 256 (list ks os) ≡ true → equated_all os pairs (from_classes (list ks os)) ≡ o → made_or_refused left ns os o ≡ (r, ms) → Made (decode left) rs size ps ns r ms
-      at none f q t = absurd (refused-not 4 (omega arith) t)
-      at (some cs) f q t =
+      at None f q t = absurd (refused-not 4 t)
+      at (Some cs) f q t =
           let w : os ≡ ms = ap (λ (o : Changed × List Node). o.1) t in
           record {
             numbers = ks;
@@ -248,13 +265,13 @@ module _ (left : Group) (rs : List Class) (size : ℕ) (ps : List (ℕ × ℕ)) 
             moves = m;
             shifts = s ∙ ap (λ (o : List Node). placed ks o) w;
             fitting = subst (λ (o : List Node). fits 256 (list ks o) ≡ true) w f;
-            equates = subst (λ (o : List Node). equated_all o pairs (from_classes (list ks o)) ≡ some cs) w q;
+            equates = subst (λ (o : List Node). equated_all o pairs (from_classes (list ks o)) ≡ Some cs) w q;
             is = sym (ap (λ (o : Changed × List Node). o.0) t);
           }
 
-      go : (b : Bool) → fits 256 (list ks os) ≡ b → made_or_refused left ns os (if b then equated_all os pairs (from_classes (list ks os)) else none) ≡ (r, ms) → Made (decode left) rs size ps ns r ms
+      go : (b : Bool) → fits 256 (list ks os) ≡ b → made_or_refused left ns os (if b then equated_all os pairs (from_classes (list ks os)) else None) ≡ (r, ms) → Made (decode left) rs size ps ns r ms
       go true f t = at (equated_all os pairs (from_classes (list ks os))) f refl t
-      go false f t = absurd (refused-not 4 (omega arith) t)
+      go false f t = absurd (refused-not 4 t)
 
   -- a shifted join that is no refusal was made
   pub shifted-made : join_shifted left rs size ps ns ≡ (r, ms) → Made (decode left) rs size ps ns r ms
@@ -263,12 +280,12 @@ module _ (left : Group) (rs : List Class) (size : ℕ) (ps : List (ℕ × ℕ)) 
     where
       at : all_move (moved (pos size)) ns (to_shift rs ps) ≡ true → (o : Placed (List ℕ)) → shifted_numbers (moved (pos size)) ns (to_shift rs ps) ns ≡ o → join_placed left rs ps ns o ≡ (r, ms) → Made (decode left) rs size ps ns r ms
       at m (placed ks os) s t = made_option ks os m s t
-      at m full s t = absurd (refused-not 3 (omega arith) t)
+      at m full s t = absurd (refused-not 3 t)
 
       go : (b : Bool) → all_move (moved (pos size)) ns (to_shift rs ps) ≡ b
           → (if b then join_placed left rs ps ns (shifted_numbers (moved (pos size)) ns (to_shift rs ps) ns) else refused_group 10 left ns) ≡ (r, ms) → Made (decode left) rs size ps ns r ms
       go true m t = at m (shifted_numbers (moved (pos size)) ns (to_shift rs ps) ns) refl t
-      go false m t = absurd (refused-not 10 (omega arith) t)
+      go false m t = absurd (refused-not 10 t)
 
 -- numbers below a bound, one list after the other
 pub below-append : (n : ℕ) (xs ys : List ℕ) → AllBelow n xs → AllBelow n ys → AllBelow n (xs ++ ys)
@@ -291,11 +308,11 @@ abbrev pub row_from : {A : Type 0} → ℕ → Row A → Row A
 row_from size row = λ name index. row name (index + size)
 
 -- where an index that can move goes
-moved-is : (size index : ℕ) → is_some (moved (pos size) index) ≡ true → moved (pos size) index ≡ some (index + size)
-unfolding moved within is_some
+moved-is : (size index : ℕ) → is_some (moved (pos size) index) ≡ true → moved (pos size) index ≡ Some (index + size)
+unfolding moved within
 moved-is size index h = go (ltb (index + size) 65536) h
   where
-    go : (b : Bool) → is_some (if b then some (index + size) else none) ≡ true → (if b then some (index + size) else none) ≡ some (index + size)
+    go : (b : Bool) → is_some (if b then Some (index + size) else None) ≡ true → (if b then Some (index + size) else None) ≡ Some (index + size)
     go true p = refl
     go false p = absurd (true_not_false p refl)
 

@@ -20,6 +20,7 @@ use Rattle.classes.specs.declared.Group.{Group}
 use Rattle.classes.specs.declared.Changed.{Changed}
 use Rattle.classes.proofs.Codec.{decode-encode}
 use Rattle.classes.specs.Agree.{MembersAgree}
+use Rattle.classes.specs.Calls.{changed_number}
 use Rattle.merging.specs.Calls.{made_group}
 use Rattle.joins.specs.Kinds.{join_kind}
 use Rattle.joins.specs.Calls.{join_shifted, join_by}
@@ -54,7 +55,7 @@ module _ (left right : Group) (kind size : ℕ) (ps : List (ℕ × ℕ)) (ns : L
       go true = b
       go false = λ x y m. absurd (Memᴰ.not-nil m)
 
-  module _ (r : Changed) (ms : List Node) (e : join_by left right kind size ps ns ≡ (r, ms)) (z : r.number ≡ 0) (l : kind < 4) where
+  module _ (r : Changed) (ms : List Node) (e : join_by left right kind size ps ns ≡ (r, ms)) (z : changed_number r ≡ 0) (l : kind < 4) where
     -- what was made
     pub kinds-made : Made (decode left) (decode right) size (used kind ps) ns r ms
     kinds-made = shifted-made left (decode right) size (used kind ps) ns r ms z (sym (kinds-shifted l) ∙ e)

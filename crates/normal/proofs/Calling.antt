@@ -1,7 +1,11 @@
 -- The whole walk as the normal form by a group, and the public call by its tests.
+use Rattle.arena.specs.declared.Refusal.TheVariants.{UnknownExpression}
+use Rattle.arena.specs.declared.Refusal.{Refusal}
+use Rattle.arena.specs.Refusals.{refusal, outcome, Added}
+use Rattle.arena.proofs.Refusals.{err-refusal}
 use Prim.Native.Nat.{ℕ, ◌<◌, ◌≤◌}
 use mathlib.Core.List.{List}
-use mathlib.Core.Option.{Option, none, some}
+use Rattle.std.specs.Prelude.{Option, None, Some, Result, Err, Ok}
 use mathlib.Core.Path.{◌≡◌, refl, sym, ap, ap₂, ◌∙◌}
 use native.Mathlib.Omega.{arith}
 use borrow.Author.Tests.{eq-eqb, ne_eqb, lt-ltb, le-ltb}
@@ -13,8 +17,6 @@ use Rattle.arena.specs.Arena.{Sound, add_expression}
 use Rattle.arena.specs.Layout.{count, decode as nodes}
 use Rattle.arena.specs.Calls.{answered, in_cells}
 use Rattle.arena.specs.Inner.{Holds, told, is_refused, map_all, Walked}
-use Rattle.arena.specs.declared.Added.{Added}
-use Rattle.arena.specs.declared.Added.TheVariants.{Number, Refused}
 use Rattle.arena.proofs.Layouts.{length-decode, coded-cells}
 use Rattle.arena.proofs.Walking.{memo-none}
 use Rattle.classes.specs.Class.{Class}
@@ -36,8 +38,8 @@ module _ (ns : List Node) (s : Sound ns) (to other : ℕ → ℕ) (same : (k : �
   replaced_cong x = go (number_of ns x) refl
     where
       go : (o : Option ℕ) → number_of ns x ≡ o → replaced_by ns to x o ≡ replaced_by ns other x o
-      go none e = refl
-      go (some k) e = ap (expression_at ns) (same k (number-some ns s x k e).below)
+      go None e = refl
+      go (Some k) e = ap (expression_at ns) (same k (number-some ns s x k e).below)
 
   mutual
     unfolding normal_by normals_by
@@ -93,8 +95,8 @@ module _ (s : List ℕ) (g : Group) (old : ℕ) (firsts : List ℕ) (holds : Hol
       pub whole-settled : (a : Added) → Walked (rewriting old firsts s) s t memo e a
           → settled_by s t a ≡ in_cells (answered (nodes s) (add_expression (normal (nodes s) (decode g) (expression_at (nodes s) e)) (nodes s)))
       unfolding settled_by in_cells answered told is_refused
-      whole-settled (Number i) w = rw (← rewriting-normal (expression_at (nodes s) e), ← w.grew.is, coded-cells t w.grew.holds)
-      whole-settled (Refused k) w = rw (← rewriting-normal (expression_at (nodes s) e), ← w.grew.is, coded-cells s holds)
+      whole-settled (Ok i) w = rw (← rewriting-normal (expression_at (nodes s) e), ← w.grew.is, coded-cells t w.grew.holds)
+      whole-settled (Err k) w = rw (← rewriting-normal (expression_at (nodes s) e), ← w.grew.is, coded-cells s holds)
 
 -- a call after the check's number
 module _ {A : Type 0} (number : ℕ) (refused_by : ℕ → A) (call : List Node → List Class → A × List Node) (cells : List ℕ) (g : Group) where
@@ -106,16 +108,22 @@ module _ {A : Type 0} (number : ℕ) (refused_by : ℕ → A) (call : List Node 
   unfolding on_checked
   checked_refused z = rw (ne_eqb number 0 z)
 
+-- a call whose check refuses
+pub handed-back : {A : Type 0} (number : ℕ) (call : List Node → List Class → Result A Refusal × List Node) (cells : List ℕ) (g : Group) (r : Result A Refusal) (k : Refusal) → outcome number ≡ Err k → r ≡ Err k
+    → ◌≡◌ {A = Result A Refusal × List ℕ} (r, cells) (on_checked number (λ k. Err (refusal k)) call cells g)
+unfolding on_checked
+handed-back number call cells g r k e q = let p = err-refusal _ k e in rw (q, p.0, p.1)
+
 -- the normal form of an expression, by its test
 module _ (e : ℕ) (cells : List ℕ) (g : Group) (z : group_number cells g ≡ 0) where
-  pub expr-unknown : Holds cells → count cells ≤ e → ◌≡◌ {A = Added × List ℕ} (Refused 1, cells) (normalized e cells g)
+  pub expr-unknown : Holds cells → count cells ≤ e → ◌≡◌ {A = Added × List ℕ} (Err UnknownExpression, cells) (normalized e cells g)
   unfolding normalize_expr in_cells
   expr-unknown h l =
       let m : length (nodes cells) ≤ e = omega (arith, length-decode cells) in
-      sym (checked-done (group_number cells g) Refused (normalize_expr e) cells g z ∙ rw (le-ltb e (length (nodes cells)) m, coded-cells cells h))
+      sym (checked-done (group_number cells g) (λ k. Err (refusal k)) (normalize_expr e) cells g z ∙ rw (le-ltb e (length (nodes cells)) m, coded-cells cells h))
 
   pub expr-known : e < count cells → (o : Added × List ℕ) → o ≡ in_cells (answered (nodes cells) (add_expression (normal (nodes cells) (decode g) (expression_at (nodes cells) e)) (nodes cells))) → o ≡ normalized e cells g
   unfolding normalize_expr
   expr-known l o q =
       let m : e < length (nodes cells) = omega (arith, length-decode cells) in
-      q ∙ sym (checked-done (group_number cells g) Refused (normalize_expr e) cells g z ∙ rw (lt-ltb e (length (nodes cells)) m))
+      q ∙ sym (checked-done (group_number cells g) (λ k. Err (refusal k)) (normalize_expr e) cells g z ∙ rw (lt-ltb e (length (nodes cells)) m))

@@ -6,7 +6,8 @@ use Rattle.laws.specs.Tests.{first, first_from}
 use Rattle.arena.specs.Node.{Node, column, operation, same_node, made, made_after}
 use Rattle.arena.specs.Expression.{col, op, ∅, ◌▹◌, expressions, expression_at, those, over}
 use Rattle.arena.specs.Arena.{find}
-use Rattle.classes.specs.Class.{no_constant, Class}
+use Rattle.classes.specs.declared.Constant.TheVariants.{NoConstant as no_constant}
+use Rattle.classes.specs.Class.{Class}
 use Rattle.classes.specs.Group.{among, class_of}
 use Rattle.normal.specs.Normal.{operation_over, both_found, number_of, numbers_of, first_at, first_of, replaced_by, replaced, normal_by, normals_by, normal}
 use Rattle.normal.specs.Missing.{parts, all_parts, same_expression, same_expressions, is_among, with_missing}

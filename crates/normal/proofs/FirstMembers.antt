@@ -2,7 +2,7 @@
 use Prim.Native.Nat.{ℕ, ◌+◌, ◌<◌}
 use mathlib.Core.Bool.{true}
 use mathlib.Core.List.{List, [], ◌∷◌}
-use mathlib.Core.Option.{Option, none, some}
+use Rattle.std.specs.Prelude.{Option, None, Some}
 use mathlib.Core.Path.{◌≡◌, refl, ◌∙◌}
 use native.Mathlib.Decide.{ℕ_discrete}
 use native.Mathlib.Omega.{arith}
@@ -13,11 +13,9 @@ use Rattle.arena.specs.Node.{Node}
 use Rattle.classes.specs.Class.{Class}
 use Rattle.classes.specs.Group.{among, class_at, class_of}
 use Rattle.classes.specs.Good.{Good}
-use Rattle.classes.specs.Inner.{Coded, place_of}
+use Rattle.classes.specs.Inner.{Coded}
 use Rattle.classes.specs.Layout.{decode}
 use Rattle.classes.specs.declared.Group.{Group}
-use Rattle.classes.specs.declared.Place.TheVariants.{At, Nowhere}
-use Rattle.classes.proofs.ClassPlaces.{place_at, place-nowhere}
 use Rattle.classes.proofs.Codec.{size_is}
 use Rattle.classes.proofs.Places.{get_or-among, class_of-some, class-flat}
 use Rattle.normal.specs.Normal.{first_at, first_of}
@@ -29,20 +27,20 @@ unfolding among
 filled-list e [] q = absurd (true_not_false q refl)
 filled-list e (m ∷ ms) q = omega arith
 
-pub place-filled : (g : Group) (e i : ℕ) → Coded g → At i ≡ place_of (class_of (decode g) e) → 0 < get_or g.sizes i 0
+pub place-filled : (g : Group) (e i : ℕ) → Coded g → class_of (decode g) e ≡ Some i → 0 < get_or g.sizes i 0
 place-filled g e i c q =
-    let f = class_of-some (decode g) e i (place_at (class_of (decode g) e) i q) in
+    let f = class_of-some (decode g) e i q in
     omega (arith, size_is g c i, filled-list e (class_at (decode g) i).members f.1)
 
 -- the first member of the class that was found
-pub first-at : (cs : List Class) (e i : ℕ) → At i ≡ place_of (class_of cs e) → get_or (class_at cs i).members 0 0 ≡ first_of cs e
+pub first-at : (cs : List Class) (e i : ℕ) → class_of cs e ≡ Some i → get_or (class_at cs i).members 0 0 ≡ first_of cs e
 unfolding first_of first_at
-first-at cs e i q = rw (place_at (class_of cs e) i q)
+first-at cs e i q = rw q
 
 -- an expression in no class
-pub first-nowhere : (cs : List Class) (e : ℕ) → Nowhere ≡ place_of (class_of cs e) → e ≡ first_of cs e
+pub first-nowhere : (cs : List Class) (e : ℕ) → class_of cs e ≡ None → e ≡ first_of cs e
 unfolding first_of first_at
-first-nowhere cs e q = rw (place-nowhere (class_of cs e) q)
+first-nowhere cs e q = rw q
 
 -- a table that holds below e, and the answer for e written into it
 pub firsts_more : (cs : List Class) (firsts : List ℕ) (e v : ℕ) → e < length firsts → Firsts cs e firsts → v ≡ first_of cs e → Firsts cs (e + 1) (set firsts e v)
@@ -58,8 +56,8 @@ unfolding first_of first_at
 first-inside ns cs g e l = go (class_of cs e) refl
   where
     go : (o : Option ℕ) → class_of cs e ≡ o → first_at cs e o < length ns
-    go none q = l
-    go (some i) q =
+    go None q = l
+    go (Some i) q =
         let f = class_of-some cs e i q in
         let m = (class_at cs i).members in
         g.inside (get_or m 0 0) (class-flat cs (get_or m 0 0) i f.0 (get_or-among m 0 (filled-list e m f.1)))

@@ -1,10 +1,9 @@
 -- Adding an expression adds exactly those of its parts that were missing, children before parents, left to right; and there is no room exactly where they would be too many.
-use Rattle.std.specs.Prelude.{if◌then◌else◌}
+use Rattle.std.specs.Prelude.{if◌then◌else◌, Option, None, Some}
 use Prim.Native.Nat.{ℕ, zero, suc, ◌+◌, ◌<◌, ◌≤◌}
 use mathlib.Core.Bool.{Bool, true, false, ◌||◌}
 use mathlib.Core.List.{List, [], ◌∷◌, ◌++◌}
 use mathlib.Core.Logic.{◌↔◌}
-use mathlib.Core.Option.{Option, none, some}
 use mathlib.Core.Path.{◌≡◌, refl, sym, ap, ap₂, ◌∙◌, subst}
 use native.Mathlib.Omega.{arith}
 use borrow.Author.Tests.{eqb-true, eq-eqb, ltb-false}
@@ -146,10 +145,10 @@ node-adds n ns s a = go (is_among x (expressions ns)) refl
     room h false t = omega (arith, longer h, ltb-false (length ns) 1024 t)
 
     new : is_among x (expressions ns) ≡ false → (o : Option ℕ) → find n ns ≡ o → Adds (with_missing (expressions ns) (x ∷ [])) (placed_at o n ns)
-    new h (some i) f =
+    new h (Some i) f =
         let q = find-some n ns i f in
         absurd (true_not_false (is_among_lem x (expressions ns) i (omega (arith, q.0, length-expressions ns)) (expression-is ns s i q.0 ∙ ap (over (expressions ns)) q.1)) h)
-    new h none f = room h (ltb (length ns) 1024) refl
+    new h None f = room h (ltb (length ns) 1024) refl
 
     go : (b : Bool) → is_among x (expressions ns) ≡ b → Adds (with_missing (expressions ns) (x ∷ [])) (add n ns)
     go true h =

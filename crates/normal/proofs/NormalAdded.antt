@@ -1,8 +1,9 @@
 -- What the call for a normal form adds to the arena, when there is no room, and that it answers one number for one normal form.
+use Rattle.arena.specs.declared.Refusal.TheVariants.{ArenaFull}
 use Prim.Native.Nat.{ℕ, ◌<◌}
 use mathlib.Core.List.{List}
 use mathlib.Core.Logic.{◌↔◌}
-use mathlib.Core.Option.{Option, none, some}
+use Rattle.std.specs.Prelude.{Option, None, Some, Err, Ok}
 use mathlib.Core.Path.{◌≡◌, refl, sym, ap, ap₂, ◌∙◌}
 use native.Mathlib.Omega.{arith}
 use borrow.Author.Tests.{lt-ltb}
@@ -11,7 +12,6 @@ use Rattle.arena.specs.Node.{Node}
 use Rattle.arena.specs.Expression.{Expression, Expressions, col, lit, op, ∅, ◌▹◌, those, expressions, expression_at}
 use Rattle.arena.specs.Arena.{Sound, Extends, Placed, placed, full, add_expression}
 use Rattle.arena.specs.Calls.{answered}
-use Rattle.arena.specs.declared.Added.TheVariants.{Number, Refused}
 use Rattle.arena.proofs.Nodes.{extends-both, extends-longer}
 use Rattle.arena.proofs.Trees.{expression-kept}
 use Rattle.arena.proofs.Growing.{add_expression-old}
@@ -28,7 +28,7 @@ use Rattle.normal.proofs.FirstMembers.{first-inside}
 use Rattle.normal.proofs.NormalValue.{normalized-placed, normal_form-small, normal_form-is, normal_forms-small}
 
 -- the nodes added are exactly the missing nodes of the normal form, children before parents, left to right
-pub normal_form-added : (e : ℕ) (ns : List Node) (cs : List Class) (i : ℕ) (ms : List Node) → Sound ns → Good ns cs → normalize_expr e ns cs ≡ (Number i, ms)
+pub normal_form-added : (e : ℕ) (ns : List Node) (cs : List Class) (i : ℕ) (ms : List Node) → Sound ns → Good ns cs → normalize_expr e ns cs ≡ (Ok i, ms)
     → expressions ms ≡ with_missing (expressions ns) (parts (normal ns cs (expression_at ns e)))
 normal_form-added e ns cs i ms s g q =
     let p = normalized-placed e ns cs i ms q in
@@ -41,14 +41,14 @@ unfolding normal_forms
 normal_forms-added es ns cs ks ms s g b q = all_added_exactly (normals ns cs (those (expressions ns) es)) ns s (normal_forms-small es ns cs s g b) ks ms q
 
 -- where the refusal is 3, there was no room
-refused_full : (ns : List Node) (p : Placed ℕ) → (answered ns p).0 ≡ Refused 3 → p ≡ full
+refused_full : (ns : List Node) (p : Placed ℕ) → (answered ns p).0 ≡ Err ArenaFull → p ≡ full
 unfolding answered
 refused_full ns (placed i ms) e = absurd (let z : ◌≡◌ {A = ℕ} 0 1 = cc in omega arith)
 refused_full ns full e = refl
 
 -- a known expression is refused, by 3, exactly where the arena would have more than 1,024 nodes
 pub normal_form_no_room : (e : ℕ) (ns : List Node) (cs : List Class) → Sound ns → Good ns cs → e < length ns
-    → ((normalize_expr e ns cs).0 ≡ Refused 3) ↔ (1024 < length (with_missing (expressions ns) (parts (normal ns cs (expression_at ns e)))))
+    → ((normalize_expr e ns cs).0 ≡ Err ArenaFull) ↔ (1024 < length (with_missing (expressions ns) (parts (normal ns cs (expression_at ns e)))))
 unfolding normalize_expr answered
 normal_form_no_room e ns cs s g l =
     let x = normal ns cs (expression_at ns e) in
@@ -61,8 +61,8 @@ unfolding first_of first_at
 outside-itself ns cs g k n = go (class_of cs k) refl
   where
     go : (o : Option ℕ) → class_of cs k ≡ o → first_at cs k o ≡ k
-    go none e = refl
-    go (some i) e = let c = class_of-some cs k i e in absurd (n (g.inside k (class-flat cs k i c.0 c.1)))
+    go None e = refl
+    go (Some i) e = let c = class_of-some cs k i e in absurd (n (g.inside k (class-flat cs k i c.0 c.1)))
 
 module _ (ns ms : List Node) (cs : List Class) (s : Sound ns) (t : Sound ms) (g : Good ns cs) (y : Extends ns ms) where
   -- what is looked up in a grown arena is what was found before
@@ -70,15 +70,15 @@ module _ (ns ms : List Node) (cs : List Class) (s : Sound ns) (t : Sound ms) (g 
   unfolding replaced replaced_by
   replaced-extended x = go (number_of ns x) refl
     where
-      new : number_of ns x ≡ none → (o : Option ℕ) → number_of ms x ≡ o → replaced_by ms (first_of cs) x o ≡ x
-      new e none f = refl
-      new e (some k) f =
+      new : number_of ns x ≡ None → (o : Option ℕ) → number_of ms x ≡ o → replaced_by ms (first_of cs) x o ≡ x
+      new e None f = refl
+      new e (Some k) f =
           let w = number-some ms t x k f in
           ap (expression_at ms) (outside-itself ns cs g k (λ l. number-none ns s x e k l (sym (expression-kept y k l) ∙ w.is))) ∙ w.is
 
       go : (o : Option ℕ) → number_of ns x ≡ o → replaced_by ms (first_of cs) x (number_of ms x) ≡ replaced_by ns (first_of cs) x o
-      go none e = new e (number_of ms x) refl
-      go (some k) e =
+      go None e = new e (number_of ms x) refl
+      go (Some k) e =
           let w = number-some ns s x k e in
           ap (replaced_by ms (first_of cs) x) (number-old ms t x k (omega (arith, w.below, extends-longer y)) (expression-kept y k w.below ∙ w.is))
           ∙ expression-kept y (first_of cs k) (first-inside ns cs g k w.below)
@@ -99,8 +99,8 @@ module _ (ns ms : List Node) (cs : List Class) (s : Sound ns) (t : Sound ms) (g 
     normals-extended (x ▹ es) = ap₂ {C = Expressions} (λ a b. a ▹ b) (normal-extended x) (normals-extended es)
 
 -- expressions with one normal form are answered one number, whatever was added in between
-pub normal_form-again : (a b : ℕ) (ns : List Node) (cs : List Class) (i : ℕ) (ms os : List Node) → Sound ns → Good ns cs → normalize_expr a ns cs ≡ (Number i, ms)
-    → b < length ns → normal ns cs (expression_at ns a) ≡ normal ns cs (expression_at ns b) → Sound os → Extends ms os → normalize_expr b os cs ≡ (Number i, os)
+pub normal_form-again : (a b : ℕ) (ns : List Node) (cs : List Class) (i : ℕ) (ms os : List Node) → Sound ns → Good ns cs → normalize_expr a ns cs ≡ (Ok i, ms)
+    → b < length ns → normal ns cs (expression_at ns a) ≡ normal ns cs (expression_at ns b) → Sound os → Extends ms os → normalize_expr b os cs ≡ (Ok i, os)
 unfolding normalize_expr answered
 normal_form-again a b ns cs i ms os s g q l e t y =
     let c = normal_form-is a ns cs i ms s g q in

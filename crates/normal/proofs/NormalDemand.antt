@@ -1,4 +1,5 @@
 -- The last sentence of demand 3, over the functions that the contracts cite: for any limit and any sequence of equal conditions, refused ones included, on every row on which all accepted pairs agree, a normal form has the expression's value.
+use Rattle.std.specs.Prelude.{Ok}
 use Prim.Native.Nat.{ℕ, ◌<◌}
 use mathlib.Core.Bool.{true}
 use mathlib.Core.List.{List, []}
@@ -9,7 +10,6 @@ use Rattle.arena.specs.Node.{Node}
 use Rattle.arena.specs.Expression.{expression_at}
 use Rattle.arena.specs.Value.{Row, Meaning, value}
 use Rattle.arena.specs.Arena.{Sound, Extends}
-use Rattle.arena.specs.declared.Added.TheVariants.{Number}
 use Rattle.classes.specs.Class.{Class}
 use Rattle.classes.specs.Group.{among, class_at, same_class}
 use Rattle.classes.specs.Good.{Good}
@@ -54,7 +54,7 @@ module _ (limit : ℕ) (ns : List Node) (ps : List (ℕ × ℕ)) where
             ((same_class_exactly ns limit ps a b d).0 (members_together ns group conditions-good i a b l p q))
 
     -- the number that the call answers has the expression's value
-    pub normal_form-keeps-value : Sound ns → (e i : ℕ) (ms : List Node) → normalize_expr e ns group ≡ (Number i, ms) → value (expression_at ms i) m row ≡ value (expression_at ns e) m row
+    pub normal_form-keeps-value : Sound ns → (e i : ℕ) (ms : List Node) → normalize_expr e ns group ≡ (Ok i, ms) → value (expression_at ms i) m row ≡ value (expression_at ns e) m row
     normal_form-keeps-value s e i ms q = normal_form-value e ns group i ms m row s conditions-good members-agree q
 
     -- expressions with one normal form have one value
@@ -62,5 +62,5 @@ module _ (limit : ℕ) (ns : List Node) (ps : List (ℕ × ℕ)) where
     one-normal_form s a b e = same-normal_form ns group m row s conditions-good members-agree (expression_at ns a) (expression_at ns b) e
 
     -- two calls that answer one number, the second on what the first left or on any sound extension of it: one value
-    pub one_number : Sound ns → (a b i : ℕ) (ms os qs : List Node) → normalize_expr a ns group ≡ (Number i, ms) → Sound os → Extends ms os → normalize_expr b os group ≡ (Number i, qs) → Same os m row a b
+    pub one_number : Sound ns → (a b i : ℕ) (ms os qs : List Node) → normalize_expr a ns group ≡ (Ok i, ms) → Sound os → Extends ms os → normalize_expr b os group ≡ (Ok i, qs) → Same os m row a b
     one_number s a b i ms os qs q t y r = same_number-value a b ns group i ms os qs m row s conditions-good members-agree q t y r

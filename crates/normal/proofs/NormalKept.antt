@@ -1,5 +1,7 @@
 -- A refusal leaves every cell as it was, and the arena stays sound: over the functions that the contract cites.
-use Rattle.std.specs.Prelude.{if◌then◌else◌}
+use Rattle.arena.specs.declared.Refusal.TheVariants.{ArenaFull, UnknownExpression}
+use Rattle.arena.specs.Refusals.{refusal}
+use Rattle.std.specs.Prelude.{if◌then◌else◌, Err, Ok}
 use Prim.Native.Nat.{ℕ}
 use mathlib.Core.Bool.{Bool, true, false}
 use mathlib.Core.List.{List}
@@ -13,7 +15,6 @@ use Rattle.arena.specs.Expression.{Expression, expression_at}
 use Rattle.arena.specs.Arena.{Sound, Extends, Placed, placed, full, add_expression}
 use Rattle.arena.specs.Layout.{encode, lawful, decode as nodes}
 use Rattle.arena.specs.Calls.{answered, in_cells, added_number}
-use Rattle.arena.specs.declared.Added.TheVariants.{Number, Refused}
 use Rattle.arena.proofs.Nodes.{extends-none}
 use Rattle.arena.proofs.Growing.{add-expression}
 use Rattle.arena.proofs.Layouts.{encode-holds, coded-cells, holds-lawful, lawful-holds}
@@ -51,12 +52,12 @@ form-kept e ns cs s g = go (ltb e (length ns)) refl (add_expression x ns) refl
     x : Expression
     x = normal ns cs (expression_at ns e)
 
-    go : (b : Bool) → ltb e (length ns) ≡ b → (p : Placed ℕ) → add_expression x ns ≡ p → Kept added_number ns (if b then answered ns p else (Refused 1, ns))
+    go : (b : Bool) → ltb e (length ns) ≡ b → (p : Placed ℕ) → add_expression x ns ≡ p → Kept added_number ns (if b then answered ns p else (Err UnknownExpression, ns))
     go true t (placed i ms) q =
         let m = add-expression x ns s (normal_form-small e ns cs s g (ltb-true e (length ns) t)) i ms q in
-        kept-done added_number (Number i) ns refl ms m.sound m.extends
-    go true t full q = kept-none added_number (Refused 3) ns s
-    go false t p q = kept-none added_number (Refused 1) ns s
+        kept-done added_number (Ok i) ns refl ms m.sound m.extends
+    go true t full q = kept-none added_number (Err ArenaFull) ns s
+    go false t p q = kept-none added_number (Err UnknownExpression) ns s
 
 -- a call on lent cells and a lent group, after the check's number
 module _ {A : Type 0} (number_of : A → ℕ) (number : ℕ) (refused_by : ℕ → A) (call : List Node → List Class → A × List Node) (cells : List ℕ) (g : Group)
@@ -93,9 +94,9 @@ module _ (cells : List ℕ) (g : Group) where
   -- a refusal of a normal form leaves every cell as it was
   pub form-refused : (e : ℕ) → (added_number (normalized e cells g).0 ≡ 0 → ⊥) → (normalized e cells g).1 ≡ cells
   form-refused e =
-      checked-refusal added_number (group_number cells g) Refused (normalize_expr e) cells g (λ z. z) (form-kept e (nodes cells) (decode g))
+      checked-refusal added_number (group_number cells g) (λ k. Err (refusal k)) (normalize_expr e) cells g (λ z. z) (form-kept e (nodes cells) (decode g))
 
   -- and an arena stays one
   pub form-lawful : (e : ℕ) → lawful cells ≡ true → lawful (normalized e cells g).1 ≡ true
   form-lawful e =
-      checked-lawful added_number (group_number cells g) Refused (normalize_expr e) cells g (λ z. z) (form-kept e (nodes cells) (decode g))
+      checked-lawful added_number (group_number cells g) (λ k. Err (refusal k)) (normalize_expr e) cells g (λ z. z) (form-kept e (nodes cells) (decode g))

@@ -1,9 +1,9 @@
 -- The value of a normal form is the value of the expression, on every row where the members of each class agree.
-use Rattle.std.specs.Prelude.{if◌then◌else◌}
+use Rattle.arena.specs.declared.Refusal.TheVariants.{UnknownExpression}
+use Rattle.std.specs.Prelude.{if◌then◌else◌, Option, None, Some, Err, Ok}
 use Prim.Native.Nat.{ℕ, suc, ◌<◌}
 use mathlib.Core.Bool.{Bool, true, false}
 use mathlib.Core.List.{List, [], ◌∷◌}
-use mathlib.Core.Option.{Option, none, some}
 use mathlib.Core.Path.{◌≡◌, refl, sym, ap, ap₂, ◌∙◌}
 use native.Mathlib.Omega.{arith}
 use borrow.Author.Tests.{ltb-true}
@@ -14,7 +14,6 @@ use Rattle.arena.specs.Expression.{Expression, Expressions, col, lit, op, ∅, �
 use Rattle.arena.specs.Value.{Row, Meaning, value, values}
 use Rattle.arena.specs.Arena.{Sound, Extends, Small, AllSmall, placed, add_expression}
 use Rattle.arena.specs.Calls.{Outcome, answered}
-use Rattle.arena.specs.declared.Added.TheVariants.{Number, Refused}
 use Rattle.arena.proofs.Nodes.{extends-both, extends-longer, extends-node}
 use Rattle.arena.proofs.Trees.{expression-small}
 use Rattle.arena.proofs.Growing.{AddedExpression, add-expression, add-expressions}
@@ -39,8 +38,8 @@ module _ {A : Type 0} (ns : List Node) (s : Sound ns) (to : ℕ → ℕ) (m : Me
   replaced-value x = go (number_of ns x) refl
     where
       go : (o : Option ℕ) → number_of ns x ≡ o → value (replaced_by ns to x o) m row ≡ value x m row
-      go none e = refl
-      go (some k) e = let n = number-some ns s x k e in same k n.below ∙ ap (λ (y : Expression). value y m row) n.is
+      go None e = refl
+      go (Some k) e = let n = number-some ns s x k e in same k n.below ∙ ap (λ (y : Expression). value y m row) n.is
 
   mutual
     unfolding normal_by normals_by value values
@@ -62,8 +61,8 @@ unfolding first_of first_at
 first-same ns cs m row g h k = go (class_of cs k) refl
   where
     go : (o : Option ℕ) → class_of cs k ≡ o → Same ns m row (first_at cs k o) k
-    go none e = refl
-    go (some i) e =
+    go None e = refl
+    go (Some i) e =
         let c = class_of-some cs k i e in
         h i (get_or (class_at cs i).members 0 0) k c.0 (get_or-among (class_at cs i).members 0 (g.filled i c.0)) c.1
 
@@ -81,7 +80,7 @@ module _ {A : Type 0} (ns : List Node) (cs : List Class) (m : Meaning A) (row : 
   same-normal_form x y e = sym (normal-value x) ∙ ap (λ (z : Expression). value z m row) e ∙ normal-value y
 
 -- where the call answers a number, the expression is known and its normal form was placed
-pub normalized-placed : (e : ℕ) (ns : List Node) (cs : List Class) (i : ℕ) (ms : List Node) → normalize_expr e ns cs ≡ (Number i, ms)
+pub normalized-placed : (e : ℕ) (ns : List Node) (cs : List Class) (i : ℕ) (ms : List Node) → normalize_expr e ns cs ≡ (Ok i, ms)
     → (e < length ns) × (add_expression (normal ns cs (expression_at ns e)) ns ≡ placed i ms)
 unfolding normalize_expr
 normalized-placed e ns cs i ms q = go (ltb e (length ns)) refl q
@@ -89,17 +88,17 @@ normalized-placed e ns cs i ms q = go (ltb e (length ns)) refl q
     x : Expression
     x = normal ns cs (expression_at ns e)
 
-    go : (b : Bool) → ltb e (length ns) ≡ b → ◌≡◌ {A = Outcome} (if b then answered ns (add_expression x ns) else (Refused 1, ns)) (Number i, ms)
+    go : (b : Bool) → ltb e (length ns) ≡ b → ◌≡◌ {A = Outcome} (if b then answered ns (add_expression x ns) else (Err UnknownExpression, ns)) (Ok i, ms)
         → (e < length ns) × (add_expression x ns ≡ placed i ms)
     go true t r = (ltb-true e (length ns) t, was-placed ns (add_expression x ns) i ms r)
-    go false t r = absurd (not-number 1 i ns ms r)
+    go false t r = absurd (not-number UnknownExpression i ns ms r)
 
 -- the normal form of a known expression is small
 pub normal_form-small : (e : ℕ) (ns : List Node) (cs : List Class) → Sound ns → Good ns cs → e < length ns → Small (normal ns cs (expression_at ns e))
 normal_form-small e ns cs s g l = normal-small ns (first_of cs) s (first-inside ns cs g) (expression_at ns e) (expression-small ns s e l)
 
 -- and the number answered is the normal form's, in a sound extension of the arena
-pub normal_form-is : (e : ℕ) (ns : List Node) (cs : List Class) (i : ℕ) (ms : List Node) → Sound ns → Good ns cs → normalize_expr e ns cs ≡ (Number i, ms)
+pub normal_form-is : (e : ℕ) (ns : List Node) (cs : List Class) (i : ℕ) (ms : List Node) → Sound ns → Good ns cs → normalize_expr e ns cs ≡ (Ok i, ms)
     → AddedExpression (normal ns cs (expression_at ns e)) ns i ms
 normal_form-is e ns cs i ms s g q =
     let p = normalized-placed e ns cs i ms q in
@@ -107,7 +106,7 @@ normal_form-is e ns cs i ms s g q =
 
 -- the number that the call answers has the expression's value, also where nodes were added
 pub normal_form-value : {A : Type 0} (e : ℕ) (ns : List Node) (cs : List Class) (i : ℕ) (ms : List Node) (m : Meaning A) (row : Row A)
-    → Sound ns → Good ns cs → MembersAgree ns cs m row → normalize_expr e ns cs ≡ (Number i, ms) → value (expression_at ms i) m row ≡ value (expression_at ns e) m row
+    → Sound ns → Good ns cs → MembersAgree ns cs m row → normalize_expr e ns cs ≡ (Ok i, ms) → value (expression_at ms i) m row ≡ value (expression_at ns e) m row
 normal_form-value e ns cs i ms m row s g h q =
     ap (λ (x : Expression). value x m row) (normal_form-is e ns cs i ms s g q).is ∙ normal-value ns cs m row s g h (expression_at ns e)
 
@@ -148,8 +147,8 @@ agree-extended {ns = ns} {ms = ms} cs m row x g h i a b l p q = kept a p ∙ h i
 
 -- two calls that answer one number, the second on the arena that the first left or on any sound extension of it: the two expressions have one value
 pub same_number-value : {A : Type 0} (a b : ℕ) (ns : List Node) (cs : List Class) (i : ℕ) (ms os ps : List Node) (m : Meaning A) (row : Row A)
-    → Sound ns → Good ns cs → MembersAgree ns cs m row → normalize_expr a ns cs ≡ (Number i, ms)
-    → Sound os → Extends ms os → normalize_expr b os cs ≡ (Number i, ps)
+    → Sound ns → Good ns cs → MembersAgree ns cs m row → normalize_expr a ns cs ≡ (Ok i, ms)
+    → Sound os → Extends ms os → normalize_expr b os cs ≡ (Ok i, ps)
     → Same os m row a b
 same_number-value a b ns cs i ms os ps m row s g h q t y r =
     let c = normal_form-is a ns cs i ms s g q in

@@ -1,9 +1,8 @@
 -- The rewriting of the normal form, over the nodes that were there before: what it makes of an expression is small, and adding it is adding the rewritten node with one number replaced.
-use Rattle.std.specs.Prelude.{if◌then◌else◌}
+use Rattle.std.specs.Prelude.{if◌then◌else◌, Option, None, Some}
 use Prim.Native.Nat.{ℕ, ◌<◌, ◌≤◌}
 use mathlib.Core.Bool.{Bool, true, false}
 use mathlib.Core.List.{List, [], ◌∷◌}
-use mathlib.Core.Option.{Option, none, some}
 use mathlib.Core.Path.{◌≡◌, refl, sym, ap, ◌∙◌, subst}
 use native.Mathlib.Omega.{arith}
 use borrow.Author.Tests.{ltb-true, ltb-false, lt-ltb, le-ltb}
@@ -63,8 +62,8 @@ module _ (ns : List Node) (to : ℕ → ℕ) (s : Sound ns) where
   replaced-new x h = go (number_of ns x) refl
     where
       go : (o : Option ℕ) → number_of ns x ≡ o → replaced_by ns to x o ≡ x
-      go none e = refl
-      go (some k) e = let f = number-some ns s x k e in absurd (h k f.below f.is)
+      go None e = refl
+      go (Some k) e = let f = number-some ns s x k e in absurd (h k f.below f.is)
 
   module _ (inside : (k : ℕ) → k < length ns → to k < length ns) where
     replaced-small : (x : Expression) → Small x → Small (replaced ns to x)
@@ -72,8 +71,8 @@ module _ (ns : List Node) (to : ℕ → ℕ) (s : Sound ns) where
     replaced-small x m = go (number_of ns x) refl
       where
         go : (o : Option ℕ) → number_of ns x ≡ o → Small (replaced_by ns to x o)
-        go none e = m
-        go (some k) e = expression-small ns s (to k) (inside k (number-some ns s x k e).below)
+        go None e = m
+        go (Some k) e = expression-small ns s (to k) (inside k (number-some ns s x k e).below)
 
     mutual
       unfolding normal_by normals_by Small AllSmall

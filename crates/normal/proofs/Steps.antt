@@ -1,4 +1,7 @@
 -- The steps of the walk of the normal form in cells: a node without children, the loop over children, and the node over what was made of them.
+use Rattle.arena.specs.Refusals.{Added}
+use Rattle.arena.specs.declared.Refusal.{Refusal}
+use Rattle.std.specs.Prelude.{Err, Ok}
 use Prim.Native.Nat.{ℕ, ◌+◌, ◌-◌, ◌<◌, ◌≤◌}
 use mathlib.Core.Bool.{true, false}
 use mathlib.Core.List.{List}
@@ -11,8 +14,6 @@ use Rattle.arena.specs.Expression.{Expression, Expressions, op, those, over, exp
 use Rattle.arena.specs.Arena.{Allowed, Sound, Extends, Small, AllSmall, full, and_then, add, add_expression}
 use Rattle.arena.specs.Layout.{row, count, row_of, node_of, children_of, decode}
 use Rattle.arena.specs.Inner.{Holds, Known, Placeable, told, Grew, Memo, noted, Walked, map_all, told_all, WalkedAll}
-use Rattle.arena.specs.declared.Added.{Added}
-use Rattle.arena.specs.declared.Added.TheVariants.{Number, Refused}
 use Rattle.arena.proofs.Nodes.{extends-none, extends-both, extends-longer}
 use Rattle.arena.proofs.NodeCells.{node-column, node-literal, node-operation}
 use Rattle.arena.proofs.Rows.{node_row}
@@ -76,14 +77,14 @@ module _ (old : ℕ) (firsts s memo : List ℕ) (e : ℕ) (d : Ready old firsts 
   ready-small = normal-small (olds old s) (λ k. get_or firsts k 0) (sound-before extended sound) inside-olds (expression_at (decode s) e) small
 
   -- the memo has an entry for node e
-  pub memo-hit : (get_or memo e 0 ≡ 0 → ⊥) → Walked (rewriting old firsts s) s s memo e (Number (get_or memo e 0 - 1))
+  pub memo-hit : (get_or memo e 0 ≡ 0 → ⊥) → Walked (rewriting old firsts s) s s memo e (Ok (get_or memo e 0 - 1))
   memo-hit h = memo-answers (rewriting old firsts s) s memo e d.holds d.memo_true h
 
   module _ (t memo₂ : List ℕ) (a : Added) (w : Walked (rewriting old firsts s) s t memo₂ e a) where
     -- a number that is answered is one of the arena
-    pub answer-small : (i : ℕ) → a ≡ Number i → i < 1024
+    pub answer-small : (i : ℕ) → a ≡ Ok i → i < 1024
     answer-small i q =
-        let g : Grew (rewriting old firsts s (expression_at (decode s) e)) s t (Number i) = subst (Grew (rewriting old firsts s (expression_at (decode s) e)) s t) q w.grew in
+        let g : Grew (rewriting old firsts s (expression_at (decode s) e)) s t (Ok i) = subst (Grew (rewriting old firsts s (expression_at (decode s) e)) s t) q w.grew in
         let n = grew-number (rewriting old firsts s) (rewriting old firsts s (expression_at (decode s) e)) s t i d.holds ready-small g in
         omega (arith, n.0, length-decode t, w.grew.holds.few)
 
@@ -92,7 +93,7 @@ module _ (old : ℕ) (firsts s memo : List ℕ) (e : ℕ) (d : Ready old firsts 
     answer-noted = memo-noted (rewriting old firsts s) s t memo₂ e a d.holds ready-below ready-small w
 
   -- a node without children: what replaces it is there
-  pub leaf_walked : length (child_numbers (node_at (decode s) e)) ≡ 0 → Walked (rewriting old firsts s) s s memo e (Number (replacement old firsts e))
+  pub leaf_walked : length (child_numbers (node_at (decode s) e)) ≡ 0 → Walked (rewriting old firsts s) s s memo e (Ok (replacement old firsts e))
   unfolding told
   leaf_walked q =
       record {
@@ -166,12 +167,12 @@ module _ (old : ℕ) (firsts s memo r : List ℕ) (e : ℕ) (d : ReadyAll old fi
           subst (λ (c : ℕ). Walked (rewriting old firsts s) t u memo₃ c b) child v
 
       -- and has a number
-      pub loop_more : (i : ℕ) → a ≡ Number i → Through (rewriting old firsts s) s u memo₃ r (set r' (3 + k) i) (k + 1)
-      loop_more i q = through-more (rewriting old firsts s) s r t memo₂ r' k h l u memo₃ (child-known k l) i (walked (Number i) q)
+      pub loop_more : (i : ℕ) → a ≡ Ok i → Through (rewriting old firsts s) s u memo₃ r (set r' (3 + k) i) (k + 1)
+      loop_more i q = through-more (rewriting old firsts s) s r t memo₂ r' k h l u memo₃ (child-known k l) i (walked (Ok i) q)
 
       -- or there was no room
-      pub loop_fails : (j : ℕ) → a ≡ Refused j → WalkedAll (rewriting old firsts s) s u memo₃ r r' false
-      loop_fails j q = through_fails (rewriting old firsts s) s r t memo₂ r' k h l u memo₃ (child-known k l) j (walked (Refused j) q)
+      pub loop_fails : (j : Refusal) → a ≡ Err j → WalkedAll (rewriting old firsts s) s u memo₃ r r' false
+      loop_fails j q = through_fails (rewriting old firsts s) s r t memo₂ r' k h l u memo₃ (child-known k l) j (walked (Err j) q)
 
   -- the children, and what is made of them
   abbrev children : Expressions
@@ -198,7 +199,7 @@ module _ (old : ℕ) (firsts s memo r : List ℕ) (e : ℕ) (d : ReadyAll old fi
       (subst Small expression (small old firsts s memo e d.ready))
 
   -- no room for it
-  refused-walked : (t memo₂ : List ℕ) → Holds t → Extends (decode s) (decode t) → Memo (rewriting old firsts s) (decode t) memo₂ → add_expression rewritten (decode s) ≡ full → (k : ℕ) → Walked (rewriting old firsts s) s t memo₂ e (Refused k)
+  refused-walked : (t memo₂ : List ℕ) → Holds t → Extends (decode s) (decode t) → Memo (rewriting old firsts s) (decode t) memo₂ → add_expression rewritten (decode s) ≡ full → (k : Refusal) → Walked (rewriting old firsts s) s t memo₂ e (Err k)
   unfolding told
   refused-walked t memo₂ h x m q k =
       record {
@@ -213,7 +214,7 @@ module _ (old : ℕ) (firsts s memo r : List ℕ) (e : ℕ) (d : ReadyAll old fi
 
   module _ (t memo₂ r' : List ℕ) where
     -- no room for the children: no room for the expression
-    pub children-full : WalkedAll (rewriting old firsts s) s t memo₂ r r' false → (k : ℕ) → Walked (rewriting old firsts s) s t memo₂ e (Refused k)
+    pub children-full : WalkedAll (rewriting old firsts s) s t memo₂ r r' false → (k : Refusal) → Walked (rewriting old firsts s) s t memo₂ e (Err k)
     unfolding told_all add_expression and_then
     children-full w k = refused-walked t memo₂ w.holds w.extends w.memo_true (rw (← w.is)) k
 
@@ -245,13 +246,13 @@ module _ (old : ℕ) (firsts s memo r : List ℕ) (e : ℕ) (d : ReadyAll old fi
       placing_is = rw (← w.is, node)
 
       -- there was no room
-      pub operation-full : (u : List ℕ) (j : ℕ) → PlacedRow r' t u (Refused j) → (k : ℕ) → Walked (rewriting old firsts s) s u memo₂ e (Refused k)
+      pub operation-full : (u : List ℕ) (j : Refusal) → PlacedRow r' t u (Err j) → (k : Refusal) → Walked (rewriting old firsts s) s u memo₂ e (Err k)
       unfolding told
       operation-full u j p k =
           refused-walked u memo₂ p.holds (extends-both w.extends p.extends) (memo-kept (rewriting old firsts s) memo₂ p.extends w.memo_true) (placing_is ∙ sym p.is) k
 
       -- it has a number, and what replaces that is the answer
-      pub operation-walked : (u : List ℕ) (i : ℕ) → PlacedRow r' t u (Number i) → Walked (rewriting old firsts s) s u memo₂ e (Number (replacement old firsts i))
+      pub operation-walked : (u : List ℕ) (i : ℕ) → PlacedRow r' t u (Ok i) → Walked (rewriting old firsts s) s u memo₂ e (Ok (replacement old firsts i))
       unfolding told
       operation-walked u i p =
           record {

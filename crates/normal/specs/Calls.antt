@@ -1,13 +1,13 @@
 -- What the public call answers and what it leaves in the arena, over the lent cells and the struct, in document 01's order of refusals.
 -- A refusal is a case that hands back what came in.
-use Rattle.std.specs.Prelude.{ℕ, List, eqb, ltb, length, if◌then◌else◌}
+use Rattle.arena.specs.declared.Refusal.TheVariants.{UnknownExpression}
+use Rattle.arena.specs.Refusals.{refusal, Added}
+use Rattle.std.specs.Prelude.{ℕ, List, eqb, ltb, length, if◌then◌else◌, Err}
 use Rattle.arena.specs.Node.{Node}
 use Rattle.arena.specs.Expression.{expression_at, expressions, those}
 use Rattle.arena.specs.Arena.{Placed, add_expression, add_expressions}
 use Rattle.arena.specs.Layout.{decode as nodes}
 use Rattle.arena.specs.Calls.{answered, in_cells}
-use Rattle.arena.specs.declared.Added.{Added}
-use Rattle.arena.specs.declared.Added.TheVariants.{Refused}
 use Rattle.classes.specs.Class.{Class}
 use Rattle.classes.specs.Layout.{decode}
 use Rattle.classes.specs.Calls.{group_number}
@@ -22,11 +22,11 @@ on_checked number refused_by call cells g =
 
 -- the normal form of an expression: 1 where it is unknown, 3 where its missing nodes don't fit
 unfoldable pub normalize_expr : ℕ → List Node → List Class → Added × List Node
-normalize_expr e ns cs = if ltb e (length ns) then answered ns (add_expression (normal ns cs (expression_at ns e)) ns) else (Refused 1, ns)
+normalize_expr e ns cs = if ltb e (length ns) then answered ns (add_expression (normal ns cs (expression_at ns e)) ns) else (Err UnknownExpression, ns)
 
 -- the call on lent cells and a lent group
 abbrev pub normalized : ℕ → List ℕ → Group → Added × List ℕ
-normalized e cells g = on_checked (group_number cells g) Refused (normalize_expr e) cells g
+normalized e cells g = on_checked (group_number cells g) (λ k. Err (refusal k)) (normalize_expr e) cells g
 
 -- the normal forms of expressions of the arena: the missing nodes of the first are added, then those of the next
 unfoldable pub normal_forms : List Node → List Class → List ℕ → Placed (List ℕ)

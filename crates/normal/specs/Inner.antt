@@ -1,11 +1,11 @@
 -- What the inner functions ask and promise each other. The public contracts (Calls) cite nothing of this file.
-use Rattle.std.specs.Prelude.{ℕ, ◌<◌, ◌≤◌, List, ◌≡◌, ltb, get_or, take, if◌then◌else◌}
+use Rattle.arena.specs.declared.Refusal.TheVariants.{ArenaFull}
+use Rattle.arena.specs.Refusals.{Added}
+use Rattle.std.specs.Prelude.{ℕ, ◌<◌, ◌≤◌, List, ◌≡◌, ltb, get_or, take, if◌then◌else◌, Err}
 use Rattle.arena.specs.Node.{Node, operation, node_at}
 use Rattle.arena.specs.Expression.{Expression}
 use Rattle.arena.specs.Layout.{count, children_of, decode}
 use Rattle.arena.specs.Inner.{Holds, Memo, is_refused, operation_row}
-use Rattle.arena.specs.declared.Added.{Added}
-use Rattle.arena.specs.declared.Added.TheVariants.{Refused}
 use Rattle.classes.specs.Class.{Class}
 use Rattle.normal.specs.Normal.{first_of, normal_by}
 
@@ -41,4 +41,4 @@ pub record ReadyAll (old : ℕ) (firsts s memo r : List ℕ) (e : ℕ) : Type 0 
 
 -- what the caller is told of a walk from the cells s to the cells t: its answer; or, where there was no room, 3 and the cells as they were
 unfoldable pub settled_by : List ℕ → List ℕ → Added → Added × List ℕ
-settled_by s t answer = if is_refused answer then (Refused 3, s) else (answer, t)
+settled_by s t answer = if is_refused answer then (Err ArenaFull, s) else (answer, t)

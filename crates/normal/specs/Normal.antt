@@ -1,6 +1,5 @@
 -- The normal form: children first, then the rewritten node is looked up once; its class's first member replaces it and is not entered again.
-use Rattle.std.specs.Prelude.{ℕ, List, [], ◌∷◌, get_or}
-use Rattle.std.proofs.Math.Option.{Option, none, some}
+use Rattle.std.specs.Prelude.{ℕ, List, [], ◌∷◌, get_or, Option, None, Some}
 use Rattle.arena.specs.Node.{Node, column, literal, operation}
 use Rattle.arena.specs.Expression.{Expression, Expressions, col, lit, op, ∅, ◌▹◌, expression_at}
 use Rattle.arena.specs.Arena.{find}
@@ -9,14 +8,14 @@ use Rattle.classes.specs.Group.{class_at, class_of}
 
 -- the number of an operation over children that were found, or not
 unfoldable pub operation_over : List Node → ℕ → Option (List ℕ) → Option ℕ
-operation_over ns label none = none
-operation_over ns label (some ks) = find (operation label ks) ns
+operation_over ns label None = None
+operation_over ns label (Some ks) = find (operation label ks) ns
 
 -- two findings as one
 unfoldable pub both_found : Option ℕ → Option (List ℕ) → Option (List ℕ)
-both_found none ks = none
-both_found (some k) none = none
-both_found (some k) (some ks) = some (k ∷ ks)
+both_found None ks = None
+both_found (Some k) None = None
+both_found (Some k) (Some ks) = Some (k ∷ ks)
 
 unfoldable mutual
   -- the number of an expression that is in the arena, whole
@@ -27,13 +26,13 @@ unfoldable mutual
 
   -- the numbers of expressions that are all in the arena
   pub numbers_of : List Node → Expressions → Option (List ℕ)
-  numbers_of ns ∅ = some []
+  numbers_of ns ∅ = Some []
   numbers_of ns (e ▹ es) = both_found (number_of ns e) (numbers_of ns es)
 
 -- the first member of the class at a place; where there is no class, the expression itself
 unfoldable pub first_at : List Class → ℕ → Option ℕ → ℕ
-first_at cs e none = e
-first_at cs e (some i) = get_or (class_at cs i).members 0 0
+first_at cs e None = e
+first_at cs e (Some i) = get_or (class_at cs i).members 0 0
 
 -- the first member of an expression's class, itself where it is in none
 unfoldable pub first_of : List Class → ℕ → ℕ
@@ -41,8 +40,8 @@ first_of cs e = first_at cs e (class_of cs e)
 
 -- an expression that was looked up: one that is in the arena is replaced by what `to` says of its number
 unfoldable pub replaced_by : List Node → (ℕ → ℕ) → Expression → Option ℕ → Expression
-replaced_by ns to x none = x
-replaced_by ns to x (some e) = expression_at ns (to e)
+replaced_by ns to x None = x
+replaced_by ns to x (Some e) = expression_at ns (to e)
 
 -- an expression is looked up, and replaced if it is in the arena
 unfoldable pub replaced : List Node → (ℕ → ℕ) → Expression → Expression

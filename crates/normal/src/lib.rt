@@ -12,23 +12,20 @@ pub mod table;
 ghost use Rattle.std.specs.Prelude.{◌≡◌};
 ghost use Rattle.normal.specs.Calls.{normalized};
 
-use arena::Added;
+use arena::Refusal;
 use arena::cells::{node_count, wide};
 use classes::Group;
 use group_checks::checking::check_group;
 use normalizing::normalize_in;
 
 // The normal form of an expression. Refusals: 12, 11, 1, 3.
-pub fn normalize_expr(cells: &mut [u32; 11265], group: Group, expr: u32) -> Added
+pub fn normalize_expr(cells: &mut [u32; 11265], group: Group, expr: u32) -> Result<u32, Refusal>
     ensures { (result, cells.new) ≡ normalized expr cells.old group }
 {
-    let number = check_group(cells, group);
-    if number != 0 {
-        return Added::Refused(number);
-    }
+    check_group(cells, group)?;
     let n = node_count(cells);
     if n <= wide(expr) {
-        return Added::Refused(1);
+        return Err(Refusal::UnknownExpression);
     }
     normalize_in(cells, group, expr)
 }

@@ -1,6 +1,6 @@
 // The walk of the normal form, by recursion on the node number, over an arena and a group that are checked already.
 // Each operation is entered once: what was answered stands in the memo.
-ghost use Rattle.std.specs.Prelude.{◌≡◌, ◌<◌, ◌≤◌, ◌+◌, ◌*◌, length};
+ghost use Rattle.std.specs.Prelude.{◌≡◌, ◌<◌, ◌≤◌, ◌+◌, ◌*◌, length, is_ok};
 ghost use Rattle.arena.specs.Node.{node_at, child_numbers};
 ghost use Rattle.arena.specs.Expression.{expression_at};
 ghost use Rattle.arena.specs.Arena.{add_expression};
@@ -13,7 +13,7 @@ ghost use Rattle.normal.specs.Normal.{normal};
 ghost use Rattle.normal.specs.Inner.{Ready, ReadyAll, rewriting, replacement as replacement_by, settled_by};
 
 use crate::table::class_firsts;
-use arena::Added;
+use arena::Refusal;
 use arena::adding::place;
 use arena::cells::{node_count, row_of, wide};
 use arena::memo::{note, refused};
@@ -38,21 +38,14 @@ fn normalize_children(
     row: &mut [u32; 11],
     expr: u32,
     old: usize,
-) -> bool
+) -> Result<(), Refusal>
     requires { ReadyAll old firsts.now cells.old memo.old row.old expr }
-    ensures { WalkedAll (rewriting old firsts.now cells.old) cells.old cells.new memo.new row.old row.new result }
+    ensures { WalkedAll (rewriting old firsts.now cells.old) cells.old cells.new memo.new row.old row.new (is_ok result) }
 {
-    let n = wide(row[2]);
-    let mut k = 0;
-    while k < n {
-        let child = row[3 + k];
-        let Added::Number(i) = normalize(cells, firsts, memo, child, old) else {
-            return false;
-        };
-        row[3 + k] = i;
-        k += 1;
+    for k in 0..wide(row[2]) {
+        row[3 + k] = normalize(cells, firsts, memo, row[3 + k], old)?;
     }
-    true
+    Ok(())
 }
 
 // Rewrites an operation: its children first, then the node is looked up once.
@@ -63,18 +56,14 @@ fn normalize_operation(
     memo: &mut [u32; 1024],
     expr: u32,
     old: usize,
-) -> Added
+) -> Result<u32, Refusal>
     requires { Ready old firsts.now cells.old memo.old expr × (0 < length (child_numbers (node_at (nodes cells.old) expr))) }
     ensures { Walked (rewriting old firsts.now cells.old) cells.old cells.new memo.new expr result }
 {
     let mut row = row_of(cells, wide(expr));
-    if !normalize_children(cells, firsts, memo, &mut row, expr, old) {
-        return Added::Refused(3);
-    }
-    let Added::Number(i) = place(cells, &row) else {
-        return Added::Refused(3);
-    };
-    Added::Number(replacement(firsts, old, i))
+    normalize_children(cells, firsts, memo, &mut row, expr, old)?;
+    let i = place(cells, &row)?;
+    Ok(replacement(firsts, old, i))
 }
 
 // The walk at an expression: one without children is looked up at once, an operation is entered where the memo
@@ -86,18 +75,18 @@ pub fn normalize(
     memo: &mut [u32; 1024],
     expr: u32,
     old: usize,
-) -> Added
+) -> Result<u32, Refusal>
     requires { Ready old firsts.now cells.old memo.old expr }
     ensures { Walked (rewriting old firsts.now cells.old) cells.old cells.new memo.new expr result }
 {
     let e = wide(expr);
     let first = replacement(firsts, old, expr);
     if child_count(cells, e) == 0 {
-        return Added::Number(first);
+        return Ok(first);
     }
     let entry = memo[e];
     if entry != 0 {
-        return Added::Number(entry - 1);
+        return Ok(entry - 1);
     }
     let answer = normalize_operation(cells, firsts, memo, expr, old);
     note(memo, e, answer);
@@ -105,18 +94,22 @@ pub fn normalize(
 }
 
 // What the caller is told of a walk: where it found no room 3, and every cell is as it was saved.
-fn settled(cells: &mut [u32; 11265], saved: &[u32; 11265], answer: Added) -> Added
+fn settled(
+    cells: &mut [u32; 11265],
+    saved: &[u32; 11265],
+    answer: Result<u32, Refusal>,
+) -> Result<u32, Refusal>
     ensures { (result, cells.new) ≡ settled_by saved.now cells.old answer }
 {
     if refused(answer) {
         *cells = *saved;
-        return Added::Refused(3);
+        return Err(Refusal::ArenaFull);
     }
     answer
 }
 
 // The normal form of an expression: 3 where its missing nodes don't fit, and then every cell is as it was.
-pub fn normalize_in(cells: &mut [u32; 11265], g: Group, expr: u32) -> Added
+pub fn normalize_in(cells: &mut [u32; 11265], g: Group, expr: u32) -> Result<u32, Refusal>
     requires { Known cells.old expr × Held (nodes cells.old) g }
     ensures { (result, cells.new) ≡ in_cells (answered (nodes cells.old) (add_expression (normal (nodes cells.old) (decode g) (expression_at (nodes cells.old) expr)) (nodes cells.old))) }
 {

@@ -6,9 +6,9 @@ ghost use Rattle.normal.specs.Normal.{first_of};
 ghost use Rattle.normal.specs.Inner.{Firsts};
 
 use arena::cells::narrow;
+use classes::Group;
 use classes::building::first_member;
 use classes::finding::find_class;
-use classes::{Group, Place};
 
 // The first member of an expression's class, itself where it is in none.
 fn first_of(g: Group, e: u32) -> u32
@@ -16,8 +16,8 @@ fn first_of(g: Group, e: u32) -> u32
     ensures { result ≡ first_of (decode g) e }
 {
     match find_class(g, e) {
-        Place::At(i) => first_member(g, i),
-        Place::Nowhere => e,
+        Some(i) => first_member(g, i),
+        None => e,
     }
 }
 
@@ -27,11 +27,8 @@ pub fn class_firsts(g: Group, n: usize) -> [u32; 1024]
     ensures { Firsts (decode g) n result }
 {
     let mut firsts = [0u32; 1024];
-    let mut e = 0;
-    while e < n {
-        let first = first_of(g, narrow(e));
-        firsts[e] = first;
-        e += 1;
+    for e in 0..n {
+        firsts[e] = first_of(g, narrow(e));
     }
     firsts
 }

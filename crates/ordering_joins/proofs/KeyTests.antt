@@ -1,10 +1,13 @@
 -- Keys that are nodes in the cells, and the tests whether they can move, by a table of the nodes, as the code does them.
-use Prim.Native.Nat.{ℕ, ◌+◌, ◌<◌, ◌≤◌}
-use mathlib.Core.Bool.{Bool, true, false}
-use mathlib.Core.List.{List}
-use mathlib.Core.Path.{◌≡◌, sym, ap, ◌∙◌, subst}
+use Prim.Native.Nat.{ℕ, ◌<◌, ◌≤◌}
+use mathlib.Core.Bool.{Bool, false}
+use mathlib.Core.List.{List, [], ◌∷◌}
+use Rattle.std.specs.List.{list_all}
+use Rattle.laws.specs.Lists.{table}
+use Rattle.laws.proofs.Table.{table_is}
+use mathlib.Core.Path.{◌≡◌, refl, sym, subst}
 use native.Mathlib.Omega.{arith}
-use lib.ListN.{length, get_or, drop}
+use lib.ListN.{length, get_or}
 use Rattle.arena.specs.Arena.{Extends}
 use Rattle.arena.specs.Layout.{count, decode as nodes}
 use Rattle.arena.specs.Inner.{Holds}
@@ -18,7 +21,7 @@ use Rattle.ordering_joins.specs.Inner.{KeysThere, ListThere, LowKeys, LowList, k
 use Rattle.orderings.specs.declared.Ordering.{Ordering}
 use Rattle.orderings.specs.declared.Orderings.{Orderings}
 use Rattle.orderings.proofs.Codec.{size_is, key-is, size_few, length-decode, place_in, place-held, place-keys}
-use Rattle.ordering_joins.proofs.Offsets.{keys-stop, keys_on, keys_end, lists-stop, lists-on, lists_end, Inside}
+use Rattle.ordering_joins.proofs.Offsets.{Inside}
 
 -- a key of an ordering
 module _ (s : List ℕ) (o : Ordering) (h : KeysThere s o) where
@@ -64,32 +67,17 @@ place-low g h i l = record {
 pub there-low : (s : List ℕ) (g : Orderings) → ListThere s g → LowList g
 there-low s g h = record { held = h.held; low = λ i k l b. omega (arith, h.there i k l b, h.holds.few) }
 
--- the loop over keys, by the table: it stops, goes on, and ends
-module _ (table : List Bool) (o : Ordering) (k : ℕ) (goes : keys_tabled table (keys_of o) ≡ keys_tabled table (drop k (keys_of o))) where
-  module _ (l : k < o.size) (e : ℕ) (q : e ≡ expr_of (get_or o.keys k 0)) where
-    in_table : get_or table (expr_of (get_or (keys_of o) k 0)) false ≡ get_or table e false
-    in_table = ap (λ (x : ℕ). get_or table x false) (ap expr_of (key-is o k l) ∙ sym q)
+-- the tests by the table, of each key and of each ordering
+pub keys-all : (table : List Bool) (ks : List ℕ) → list_all (λ k. get_or table (expr_of k) false) ks ≡ keys_tabled table ks
+unfolding keys_tabled
+keys-all table [] = refl
+keys-all table (k ∷ ks) = rw (keys-all table ks)
 
-    pub move_stops : get_or table e false ≡ false → false ≡ keys_tabled table (keys_of o)
-    move_stops f = sym (goes ∙ keys-stop table (keys_of o) k (omega (arith, size_is o)) (in_table ∙ f))
+pub lists-all : (table : List Bool) (os : List (List ℕ)) → list_all (keys_tabled table) os ≡ lists_tabled table os
+unfolding lists_tabled
+lists-all table [] = refl
+lists-all table (o ∷ os) = rw (lists-all table os)
 
-    pub move_on : get_or table e false ≡ true → keys_tabled table (keys_of o) ≡ keys_tabled table (drop (k + 1) (keys_of o))
-    move_on f = goes ∙ keys_on table (keys_of o) k (omega (arith, size_is o)) (in_table ∙ f)
-
-  pub move_ends : o.size ≤ k → true ≡ keys_tabled table (keys_of o)
-  move_ends l = sym (goes ∙ keys_end table (keys_of o) k (omega (arith, size_is o)))
-
--- the loop over orderings
-module _ (table : List Bool) (g : Orderings) (i : ℕ) (h : Held g) (goes : lists_tabled table (decode g) ≡ lists_tabled table (drop i (decode g))) where
-  module _ (l : i < g.count) (b : Bool) (q : b ≡ keys_tabled table (keys_of (place_in g i))) where
-    at_place : keys_tabled table (ordering_at (decode g) i) ≡ b
-    at_place = sym (q ∙ ap (keys_tabled table) (place-keys g h i l))
-
-    pub moves-stop : b ≡ false → false ≡ lists_tabled table (decode g)
-    moves-stop f = sym (goes ∙ lists-stop table (decode g) i (omega (arith, length-decode g)) (at_place ∙ f))
-
-    pub moves-on : b ≡ true → lists_tabled table (decode g) ≡ lists_tabled table (drop (i + 1) (decode g))
-    moves-on f = goes ∙ lists-on table (decode g) i (omega (arith, length-decode g)) (at_place ∙ f)
-
-  pub moves_end : g.count ≤ i → true ≡ lists_tabled table (decode g)
-  moves_end l = sym (goes ∙ lists_end table (decode g) i (omega (arith, length-decode g)))
+-- the orderings of a list by their places, as they are read
+pub places-read : (g : Orderings) → Held g → table (λ i. keys_of (place_in g i)) g.count ≡ decode g
+places-read g h = sym (table_is (λ i. keys_of (place_in g i)) g.count (decode g) [] (length-decode g) (λ i l. sym (place-keys g h i l)))

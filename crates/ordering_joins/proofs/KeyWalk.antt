@@ -1,6 +1,10 @@
 -- The walks that shift the keys of an ordering and the orderings of a list: how far the loop has come, and what is answered at its end.
+use Rattle.arena.specs.Refusals.{Added}
+use Rattle.std.specs.Prelude.{Result, Err, Ok}
+use Rattle.arena.specs.declared.Refusal.{Refusal}
+use Rattle.arena.proofs.Refusals.{ok-not-err}
 use Prim.Native.Nat.{ℕ, ◌+◌, ◌*◌, ◌<◌, ◌≤◌}
-use mathlib.Core.Bool.{true, false}
+use mathlib.Core.Bool.{true}
 use mathlib.Core.List.{List, [], ◌∷◌, ◌++◌, append-nil}
 use mathlib.Core.Path.{◌≡◌, refl, sym, ap, ◌∙◌, subst}
 use native.Mathlib.Omega.{arith}
@@ -12,8 +16,6 @@ use Rattle.shifting.specs.Shift.{can_move}
 use Rattle.arena.specs.Layout.{decode as nodes}
 use Rattle.arena.specs.Inner.{Holds, Memo, Grew, Walked, told}
 use Rattle.shifting.specs.Inner.{Ready, lifted, shifted_by}
-use Rattle.arena.specs.declared.Added.{Added}
-use Rattle.arena.specs.declared.Added.TheVariants.{Number, Refused}
 use Rattle.arena.proofs.Nodes.{extends-none, extends-both, extends-longer}
 use Rattle.arena.proofs.Trees.{expression-kept}
 use Rattle.arena.proofs.Layouts.{length-decode as nodes-count}
@@ -27,11 +29,10 @@ use Rattle.orderings.specs.Inner.{ShortOrdering, Short, extended_of, appended, e
 use Rattle.ordering_joins.specs.Inner.{ReadyKeys, told_keys, ShiftedKeys, ReadyLists, told_lists, ShiftedLists}
 use Rattle.orderings.specs.declared.Ordering.{Ordering}
 use Rattle.orderings.specs.declared.Orderings.{Orderings}
-use Rattle.orderings.specs.declared.Extended.{Extended}
 use Rattle.orderings.proofs.Codec.{keys-row, size_is, key-is, decode-encode, length-decode, count-few, place_in, place-keys}
 use Rattle.orderings.proofs.OneOrdering.{pushed-fewer, built-fewer, built-more}
-use Rattle.orderings.proofs.Extending.{row-short, short-size, answer, fits-here}
-use Rattle.orderings.proofs.Appending.{short-more, appended-is, short-encode, short-all, told as listed_as}
+use Rattle.orderings.proofs.Extending.{row-short, short-size, fitting, unfitting}
+use Rattle.orderings.proofs.Appending.{short-more, appended-is, short-encode, short-all}
 use Rattle.ordering_joins.proofs.KeyTests.{few-keys, key-place, key-there, list-place, place_inside, place-there}
 use Rattle.ordering_joins.proofs.Offsets.{keys-each, lists-each, following, following-none, following-more, after_key, keys_step, keys-done, build_of, after_ordering, lists-step, lists-done, shifted_keys_cong, keys_move_cong, Inside, grown-shift, grown-moves}
 
@@ -118,21 +119,27 @@ module _ (lift : ℕ) (s memo : List ℕ) (o : Ordering) (d : ReadyKeys lift s m
             ∙ ap (λ (z : Placed ℕ). and_then z after) added
 
         -- it has a number
-        module _ (i : ℕ) (q : a ≡ Number i) where
+        module _ (i : ℕ) (q : a ≡ Ok i) where
           pub number-few : i < 1024
           number-few =
               let x = shifted_by lift (expression_at (nodes t) (expr_of key)) in
               let g = grew-number (shifted_by lift) x t u i h.holds (ready-small lift t memo₁ (expr_of key) ready) (subst (λ (b : Added). Grew (shifted_by lift (expression_at (nodes t) (expr_of key))) t u b) q w.grew) in
               omega (arith, g.0, nodes-count u, w.grew.holds.few)
 
+          -- the next key has a place
+          pub keys-fit : (n : ℕ) (j : Refusal) → Err j ≡ extended_of (pushed (keys_of out) n) → ⊥
+          keys-fit n j y =
+              let size = ap (λ (p : List ℕ). length p) h.out-is in
+              omega (arith, (unfitting (pushed (keys_of out) n) j y).0, pushed-fewer (keys_of out) n, size, built-fewer h.done, h.counted, few-keys s o d.keys)
+
           -- one more is done
-          pub keys-more : (n : ℕ) → n ≡ i * 4 + options_of key → (next : Extended) → next ≡ extended_of (pushed (keys_of out) n) → KeysTo lift s u memo₂ o next.ordering (k + 1)
+          pub keys-more : (n : ℕ) → n ≡ i * 4 + options_of key → (next : Ordering) → Ok next ≡ extended_of (pushed (keys_of out) n) → KeysTo lift s u memo₂ o next (k + 1)
           unfolding told and_then
           keys-more n z next y =
               let ks : List ℕ = pushed (keys_of out) n in
-              let size = ap (λ (p : List ℕ). length p) h.out-is in
-              let c : length ks ≤ 16 = omega (arith, pushed-fewer (keys_of out) n, size, built-fewer h.done, h.counted, few-keys s o d.keys) in
-              let r : next.ordering ≡ row ks = ap (λ (p : Extended). p.ordering) (y ∙ fits-here ks c) in
+              let f = fitting ks next y in
+              let c : length ks ≤ 16 = f.few in
+              let r : next ≡ row ks = f.is in
               let rest : Placed (List ℕ) = shifted_keys (lifted lift) (nodes s) (drop (k + 1) keys) (nodes u) in
               record {
                 below = omega arith;
@@ -149,19 +156,19 @@ module _ (lift : ℕ) (s memo : List ℕ) (o : Ordering) (d : ReadyKeys lift s m
               }
 
         -- there was no room
-        pub keys-fail : (j : ℕ) → a ≡ Refused j → (none : Ordering) → none ≡ row [] → ShiftedKeys lift s u memo₂ o (answer false none)
+        pub keys-fail : (j : Refusal) → a ≡ Err j → ShiftedKeys lift s u memo₂ o (Err j)
         unfolding told and_then following told_keys
-        keys-fail j q none z =
+        keys-fail j q =
             record {
               holds = w.grew.holds;
               extends = extends-both h.extends w.grew.extends;
               memo_true = w.memo_true;
-              short = subst ShortOrdering (sym z) (row-short [] (omega arith));
+              short = λ out e. absurd (ok-not-err (sym e));
               is = sym (ap build_of (h.goes ∙ ap (following h.done) (turn ∙ ap (λ (b : Added). and_then (told b (nodes u)) after) q)));
             }
 
     -- all done
-    pub keys_end : o.size ≤ k → ShiftedKeys lift s t memo₁ o (answer true out)
+    pub keys_end : o.size ≤ k → ShiftedKeys lift s t memo₁ o (Ok out)
     unfolding and_then following told_keys
     keys_end l =
         let r = keys-done (lifted lift) (nodes s) keys k (nodes t) (omega (arith, size_is o)) in
@@ -169,7 +176,7 @@ module _ (lift : ℕ) (s memo : List ℕ) (o : Ordering) (d : ReadyKeys lift s m
           holds = h.holds;
           extends = h.extends;
           memo_true = h.memo_true;
-          short = h.short;
+          short = λ r e. let q : out ≡ r = cc in subst ShortOrdering q h.short;
           is =
               ap (λ (p : List ℕ). placed p (nodes t)) (h.out-is ∙ ap built (sym (append-nil h.done)))
               ∙ sym (ap build_of (h.goes ∙ ap (following h.done) r));
@@ -239,7 +246,7 @@ module _ (lift : ℕ) (s memo : List ℕ) (g : Orderings) (d : ReadyLists lift s
       abbrev after_it : List ℕ → List Node → Placed (List (List ℕ))
       after_it o ms = after_ordering (lifted lift) (nodes s) (drop (i + 1) lists) o ms
 
-      module _ (u memo₂ : List ℕ) (one : Extended) (v : ShiftedKeys lift t u memo₂ (place_in g i) one) where
+      module _ (u memo₂ : List ℕ) (one : Result Ordering Refusal) (v : ShiftedKeys lift t u memo₂ (place_in g i) one) where
         -- what is to be added, ordering i first
         turn_it : shifted_lists (lifted lift) (nodes s) (drop i lists) (nodes t) ≡ and_then (told_keys one (nodes u)) after_it
         turn_it =
@@ -253,13 +260,14 @@ module _ (lift : ℕ) (s memo : List ℕ) (g : Orderings) (d : ReadyLists lift s
         list-room = omega (arith, h.counted, few-lists)
 
         -- one more is done
-        pub lists-more : one.fits ≡ true → (r : Orderings) → r ≡ appended list one.ordering → ListsTo lift s u memo₂ g r (i + 1)
+        pub lists-more : (more : Ordering) → one ≡ Ok more → (r : Orderings) → r ≡ appended list more → ListsTo lift s u memo₂ g r (i + 1)
         unfolding told_keys and_then
-        lists-more f r z =
-            let new : List ℕ = keys_of one.ordering in
+        lists-more one₁ f r z =
+            let w : ShortOrdering one₁ = v.short one₁ f in
+            let new : List ℕ = keys_of one₁ in
             let more : List (List ℕ) = decode list ++ (new ∷ []) in
             let rest : Placed (List (List ℕ)) = shifted_lists (lifted lift) (nodes s) (drop (i + 1) lists) (nodes u) in
-            let e : r ≡ encode more = z ∙ ap (appended list) (sym v.short.coded) ∙ appended-is list new h.short list-room in
+            let e : r ≡ encode more = z ∙ ap (appended list) (sym w.coded) ∙ appended-is list new h.short list-room in
             let c : decode r ≡ more = ap decode e ∙ decode-encode more in
             let size = ap (λ (y : List (List ℕ)). length y) c in
             let fit : told_keys one (nodes u) ≡ placed new (nodes u) = rw f in
@@ -269,16 +277,16 @@ module _ (lift : ℕ) (s memo : List ℕ) (g : Orderings) (d : ReadyLists lift s
               extends = extends-both h.extends v.extends;
               memo_true = v.memo_true;
               counted = omega (arith, size, length-append (decode list) (new ∷ []), length-decode r, length-decode list, h.counted);
-              short = subst Short (sym e) (short-encode more (omega (arith, length-append (decode list) (new ∷ []), length-decode list, list-room)) (short-more (decode list) new (short-all list h.short) (short-size one.ordering v.short)));
+              short = subst Short (sym e) (short-encode more (omega (arith, length-append (decode list) (new ∷ []), length-decode list, list-room)) (short-more (decode list) new (short-all list h.short) (short-size one₁ w)));
               goes =
                   h.goes ∙ ap (following (decode list)) (turn_it ∙ ap (λ (y : Placed (List ℕ)). and_then y after_it) fit)
                   ∙ following-more (decode list) new rest ∙ ap (λ (y : List (List ℕ)). following y rest) (sym c);
             }
 
         -- there was no room
-        pub lists-fail : one.fits ≡ false → ShiftedLists lift s u g (listed_as 3 g)
+        pub lists-fail : (j : Refusal) → one ≡ Err j → ShiftedLists lift s u g (Err j)
         unfolding told_keys and_then following told_lists
-        lists-fail f =
+        lists-fail j f =
             let fit : told_keys one (nodes u) ≡ full = rw f in
             record {
               holds = v.holds;
@@ -289,7 +297,7 @@ module _ (lift : ℕ) (s memo : List ℕ) (g : Orderings) (d : ReadyLists lift s
             }
 
     -- all done
-    pub lists_end : g.count ≤ i → ShiftedLists lift s t g (listed_as 0 list)
+    pub lists_end : g.count ≤ i → ShiftedLists lift s t g (Ok list)
     unfolding and_then following told_lists
     lists_end l =
         let r = lists-done (lifted lift) (nodes s) lists i (nodes t) (omega (arith, length-decode g)) in

@@ -4,7 +4,11 @@ use mathlib.Core.Bool.{Bool, true, false}
 use mathlib.Core.List.{List}
 use mathlib.Core.Path.{◌≡◌, refl, sym, ap, ap₂, ◌∙◌}
 use native.Mathlib.Omega.{arith}
-use borrow.Author.Tests.{eq-eqb, ne_eqb}
+use Rattle.std.specs.Prelude.{Result, Ok, Err}
+use Rattle.arena.specs.declared.Refusal.{Refusal}
+use Rattle.arena.specs.declared.Refusal.TheVariants.{ArenaFull, IndexOutOfRange}
+use Rattle.arena.specs.Refusals.{outcome}
+use Rattle.arena.proofs.Refusals.{ok-zero, err-refusal}
 use lib.IntN.{ℤ}
 use lib.ListN.{length, get_or, replicate}
 use Rattle.arena.specs.Arena.{Placed, placed, full, and_then}
@@ -56,7 +60,7 @@ module _ (s : List ℕ) (g : Orderings) (offset : ℤ) (lift : ℕ) (h : ListThe
   made-is = shifted_lists_cong (moved offset) (lifted lift) (nodes s) (nodes s) (decode g) (λ i l. agree-shift (moved offset) (lifted lift) agree (nodes s) h.holds.sound (ordering_at (decode g) i) (inside i l)) (nodes s)
 
   -- a column leaves its bounds
-  pub offset_out : lists_move (lifted lift) (nodes s) (decode g) ≡ false → ◌≡◌ {A = Outcome} (told 10 g, s) (in_cells (offset_list offset g (nodes s)))
+  pub offset_out : lists_move (lifted lift) (nodes s) (decode g) ≡ false → ◌≡◌ {A = Outcome} (told (Err IndexOutOfRange) g, s) (in_cells (offset_list offset g (nodes s)))
   unfolding in_cells offset_list
   offset_out q = rw (moves-is ∙ q, coded-cells s h.holds)
 
@@ -69,36 +73,36 @@ module _ (s : List ℕ) (g : Orderings) (offset : ℤ) (lift : ℕ) (h : ListThe
     unfolding offset_list
     outcome-is = rw (moves-is ∙ can, made-is)
 
-    module _ (t : List ℕ) (r : Listed) (a : ShiftedLists lift s t g r) where
+    module _ (t : List ℕ) (r : Result Orderings Refusal) (a : ShiftedLists lift s t g r) where
       -- there was no room
-      pub offset_full : (r.number ≡ 0 → ⊥) → ◌≡◌ {A = Outcome} (told 3 g, s) (in_cells (offset_list offset g (nodes s)))
+      pub offset_full : (e : Refusal) → r ≡ Err e → ◌≡◌ {A = Outcome} (told (Err ArenaFull) g, s) (in_cells (offset_list offset g (nodes s)))
       unfolding told_lists and_then offset_by in_cells
-      offset_full z = go made refl
+      offset_full e z = go made refl
         where
           none : full ≡ and_then made (λ os ps. placed (encode os) ps)
-          none = sym (rw (ne_eqb r.number 0 z)) ∙ a.is
+          none = sym (ap (λ (x : Result Orderings Refusal). told_lists x (nodes t)) z) ∙ a.is
 
-          go : (o : Placed (List (List ℕ))) → made ≡ o → ◌≡◌ {A = Outcome} (told 3 g, s) (in_cells (offset_list offset g (nodes s)))
-          go full q = ap (λ (c : List ℕ). (told 3 g, c)) (sym (coded-cells s h.holds)) ∙ sym (outcome-is ∙ ap (λ (o : Placed (List (List ℕ))). in_cells (offset_by g (nodes s) o)) q)
+          go : (o : Placed (List (List ℕ))) → made ≡ o → ◌≡◌ {A = Outcome} (told (Err ArenaFull) g, s) (in_cells (offset_list offset g (nodes s)))
+          go full q = ap (λ (c : List ℕ). (told (Err ArenaFull) g, c)) (sym (coded-cells s h.holds)) ∙ sym (outcome-is ∙ ap (λ (o : Placed (List (List ℕ))). in_cells (offset_by g (nodes s) o)) q)
           go (placed os ms) q =
               absurd (let e : full ≡ placed (encode os) ms = none ∙ ap (λ (o : Placed (List (List ℕ))). and_then o (λ os ps. placed (encode os) ps)) q in let y : ◌≡◌ {A = ℕ} 0 1 = cc in omega arith)
 
       -- the list
-      pub offset_done : r.number ≡ 0 → ◌≡◌ {A = Outcome} (r, t) (in_cells (offset_list offset g (nodes s)))
+      pub offset_done : (list : Orderings) → r ≡ Ok list → ◌≡◌ {A = Outcome} (told (Ok tt) list, t) (in_cells (offset_list offset g (nodes s)))
       unfolding told_lists and_then offset_by in_cells
-      offset_done z = go made refl
+      offset_done list z = go made refl
         where
-          some : placed r.list (nodes t) ≡ and_then made (λ os ps. placed (encode os) ps)
-          some = sym (rw (eq-eqb r.number 0 z)) ∙ a.is
+          some : placed list (nodes t) ≡ and_then made (λ os ps. placed (encode os) ps)
+          some = sym (ap (λ (x : Result Orderings Refusal). told_lists x (nodes t)) z) ∙ a.is
 
-          go : (o : Placed (List (List ℕ))) → made ≡ o → ◌≡◌ {A = Outcome} (r, t) (in_cells (offset_list offset g (nodes s)))
+          go : (o : Placed (List (List ℕ))) → made ≡ o → ◌≡◌ {A = Outcome} (told (Ok tt) list, t) (in_cells (offset_list offset g (nodes s)))
           go full q =
-              absurd (let e : placed r.list (nodes t) ≡ full = some ∙ ap (λ (o : Placed (List (List ℕ))). and_then o (λ os ps. placed (encode os) ps)) q in let y : ◌≡◌ {A = ℕ} 0 1 = cc in omega arith)
+              absurd (let e : placed list (nodes t) ≡ full = some ∙ ap (λ (o : Placed (List (List ℕ))). and_then o (λ os ps. placed (encode os) ps)) q in let y : ◌≡◌ {A = ℕ} 0 1 = cc in omega arith)
           go (placed os ms) q =
-              let e : placed r.list (nodes t) ≡ placed (encode os) ms = some ∙ ap (λ (o : Placed (List (List ℕ))). and_then o (λ os ps. placed (encode os) ps)) q in
+              let e : placed list (nodes t) ≡ placed (encode os) ms = some ∙ ap (λ (o : Placed (List (List ℕ))). and_then o (λ os ps. placed (encode os) ps)) q in
               let d : nodes t ≡ ms = cc in
-              let b : r.list ≡ encode os = cc in
-              let i : r ≡ told 0 (encode os) = ap₂ {C = Listed} (λ (x : ℕ) (y : Orderings). record { number = x; list = y }) z b in
+              let b : list ≡ encode os = cc in
+              let i : told (Ok tt) list ≡ told (Ok tt) (encode os) = ap (told (Ok tt)) b in
               let c : t ≡ encode_nodes ms = sym (coded-cells t a.holds) ∙ ap encode_nodes d in
               ap₂ {C = Outcome} (λ (x : Listed) (y : List ℕ). (x, y)) i c ∙ sym (outcome-is ∙ ap (λ (o : Placed (List (List ℕ))). in_cells (offset_by g (nodes s) o)) q)
 
@@ -110,10 +114,10 @@ number-there cells g z e =
 
 -- the call, where the check refuses, and where it passes
 module _ (offset : ℤ) (cells : List ℕ) (g : Orderings) where
-  pub offset_refused : (list_number cells g ≡ 0 → ⊥) → ◌≡◌ {A = Outcome} (offset_answer offset cells g) (told (list_number cells g) g, cells)
+  pub offset_refused : (e : Refusal) → outcome (list_number cells g) ≡ Err e → ◌≡◌ {A = Outcome} (told (Err e) g, cells) (offset_answer offset cells g)
   unfolding offset_answer
-  offset_refused n = rw (ne_eqb (list_number cells g) 0 n)
+  offset_refused e q = let r = err-refusal (list_number cells g) e q in rw r.0 (ap (λ (x : Refusal). (told (Err x) g, cells)) r.1)
 
-  pub offset_passed : list_number cells g ≡ 0 → offset_answer offset cells g ≡ in_cells (offset_list offset g (nodes cells))
+  pub offset_passed : outcome (list_number cells g) ≡ Ok tt → offset_answer offset cells g ≡ in_cells (offset_list offset g (nodes cells))
   unfolding offset_answer
-  offset_passed z = rw (eq-eqb (list_number cells g) 0 z)
+  offset_passed z = rw (ok-zero (list_number cells g) z)

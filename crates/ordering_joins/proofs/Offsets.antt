@@ -2,7 +2,7 @@
 use Prim.Native.Nat.{ℕ, zero, suc, ◌+◌, ◌*◌, ◌<◌, ◌≤◌}
 use mathlib.Core.Bool.{Bool, true, false, ◌&&◌}
 use mathlib.Core.List.{List, [], ◌∷◌, ◌++◌}
-use mathlib.Core.Option.{Option}
+use Rattle.std.specs.Prelude.{Option}
 use mathlib.Core.Path.{◌≡◌, refl, sym, ap, ap₂, ◌∙◌}
 use native.Mathlib.Numerals.{add-one}
 use native.Mathlib.Omega.{arith}
@@ -20,24 +20,9 @@ use Rattle.orderings.specs.Lists.{ordering_at}
 use Rattle.ordering_joins.specs.Offset.{keys_move, lists_move, shifted_keys, shifted_lists}
 use Rattle.ordering_joins.specs.Inner.{keys_tabled, lists_tabled}
 
--- ---- a test of all elements of a list, from a place on
+-- ---- a test of all elements of a list
 
 module _ {A : Type 0} (d : A) (p : A → Bool) (f : List A → Bool) (nil : f [] ≡ true) (cons : (x : A) (xs : List A) → f (x ∷ xs) ≡ (p x && f xs)) where
-  from : (xs : List A) (k : ℕ) → k < length xs → f (drop k xs) ≡ (p (get_or xs k d) && f (drop (k + 1) xs))
-  from xs k l = ap f (drop-cons xs k d l ∙ rw add-one) ∙ cons (get_or xs k d) (drop (k + 1) xs)
-
-  -- one that fails
-  pub all-stops : (xs : List A) (k : ℕ) → k < length xs → p (get_or xs k d) ≡ false → f (drop k xs) ≡ false
-  all-stops xs k l e = from xs k l ∙ ap (λ (b : Bool). b && f (drop (k + 1) xs)) e
-
-  -- one that passes
-  pub all-on : (xs : List A) (k : ℕ) → k < length xs → p (get_or xs k d) ≡ true → f (drop k xs) ≡ f (drop (k + 1) xs)
-  all-on xs k l e = from xs k l ∙ ap (λ (b : Bool). b && f (drop (k + 1) xs)) e
-
-  -- none is left
-  pub all-ends : (xs : List A) (k : ℕ) → length xs ≤ k → f (drop k xs) ≡ true
-  all-ends xs k l = ap f (drop_of_length-le xs l) ∙ nil
-
   -- where all pass, each does
   pub all-each : (xs : List A) → f xs ≡ true → (i : ℕ) → i < length xs → p (get_or xs i d) ≡ true
   all-each [] e i l = absurd (omega arith)
@@ -99,26 +84,6 @@ module _ (table : List Bool) where
   all_cons : (o : List ℕ) (os : List (List ℕ)) → lists_tabled table (o ∷ os) ≡ (keys_tabled table o && lists_tabled table os)
   unfolding lists_tabled
   all_cons o os = refl
-
-  -- the test of the keys from a place on
-  pub keys-stop : (ks : List ℕ) (k : ℕ) → k < length ks → key_tabled table (get_or ks k 0) ≡ false → keys_tabled table (drop k ks) ≡ false
-  keys-stop = all-stops 0 (key_tabled table) (keys_tabled table) tabled-nil tabled-cons
-
-  pub keys_on : (ks : List ℕ) (k : ℕ) → k < length ks → key_tabled table (get_or ks k 0) ≡ true → keys_tabled table (drop k ks) ≡ keys_tabled table (drop (k + 1) ks)
-  keys_on = all-on 0 (key_tabled table) (keys_tabled table) tabled-nil tabled-cons
-
-  pub keys_end : (ks : List ℕ) (k : ℕ) → length ks ≤ k → keys_tabled table (drop k ks) ≡ true
-  keys_end = all-ends 0 (key_tabled table) (keys_tabled table) tabled-nil tabled-cons
-
-  -- and of the orderings
-  pub lists-stop : (os : List (List ℕ)) (i : ℕ) → i < length os → keys_tabled table (ordering_at os i) ≡ false → lists_tabled table (drop i os) ≡ false
-  lists-stop = all-stops [] (keys_tabled table) (lists_tabled table) all_nil all_cons
-
-  pub lists-on : (os : List (List ℕ)) (i : ℕ) → i < length os → keys_tabled table (ordering_at os i) ≡ true → lists_tabled table (drop i os) ≡ lists_tabled table (drop (i + 1) os)
-  lists-on = all-on [] (keys_tabled table) (lists_tabled table) all_nil all_cons
-
-  pub lists_end : (os : List (List ℕ)) (i : ℕ) → length os ≤ i → lists_tabled table (drop i os) ≡ true
-  lists_end = all-ends [] (keys_tabled table) (lists_tabled table) all_nil all_cons
 
 -- a table that says which of the first n nodes can move says it of keys that are among them
 module _ (to : ℕ → Option ℕ) (ns : List Node) (table : List Bool) (n : ℕ) (says : (j : ℕ) → j < n → get_or table j false ≡ can_move to (expression_at ns j)) where

@@ -1,5 +1,5 @@
 -- What the inner functions ask and promise each other. The public contracts cite nothing of this file.
-use Rattle.std.specs.Prelude.{ℕ, ◌<◌, ◌≤◌, Bool, true, false, ◌&&◌, List, [], ◌∷◌, ◌++◌, ◌≡◌, eqb, length, get_or, take, drop, if◌then◌else◌}
+use Rattle.std.specs.Prelude.{ℕ, ◌<◌, ◌≤◌, Bool, true, false, ◌&&◌, List, [], ◌∷◌, ◌++◌, ◌≡◌, length, get_or, take, drop, if◌then◌else◌, Result, Ok, Err}
 use Rattle.arena.specs.Node.{Node}
 use Rattle.arena.specs.Arena.{Extends, Placed, placed, full, and_then}
 use Rattle.arena.specs.Layout.{count as cell_count, decode as nodes}
@@ -11,8 +11,8 @@ use Rattle.ordering_joins.specs.Offset.{keys_move, lists_move, shifted_keys, shi
 use Rattle.orderings.specs.Layout.{keys_of, encode, decode}
 use Rattle.orderings.specs.declared.Ordering.{Ordering}
 use Rattle.orderings.specs.declared.Orderings.{Orderings}
-use Rattle.orderings.specs.declared.Extended.{Extended}
-use Rattle.orderings.specs.declared.Listed.{Listed}
+use Rattle.arena.specs.declared.Refusal.{Refusal}
+use Rattle.arena.specs.declared.Refusal.TheVariants.{TooLarge}
 use Rattle.orderings.specs.Inner.{HeldOrdering, Held, ShortOrdering, Short, all_short}
 
 -- the joined ordering of all: the first i of them are joined, and the others are to be
@@ -33,9 +33,9 @@ pub record Joined (g h : Orderings) (j : ℕ) (list : Orderings) : Type 0 where
   pub short : Short list
   pub made : decode list ≡ suffixed_all (decode g) (take j (decode h))
 
--- a list that was made, or 5 and the one before where an ordering has more than 16 keys
-unfoldable pub listed_or : Orderings → List (List ℕ) → Listed
-listed_or g os = if all_short os then record { number = 0; list = encode os } else record { number = 5; list = g }
+-- a list that was made, if none of its orderings has more than 16 keys
+unfoldable pub made_short : List (List ℕ) → Result Orderings Refusal
+made_short os = if all_short os then Ok (encode os) else Err TooLarge
 
 -- the keys of an ordering have a place in a table of nodes
 pub record LowKeys (o : Ordering) : Type 0 where
@@ -77,15 +77,16 @@ pub record ReadyKeys (lift : ℕ) (s memo : List ℕ) (o : Ordering) : Type 0 wh
   pub memo_true : Memo (shifted_by lift) (nodes s) memo
 
 -- an ordering that was extended and the arena as a placing
-unfoldable pub told_keys : Extended → List Node → Placed (List ℕ)
-told_keys one ns = if one.fits then placed (keys_of one.ordering) ns else full
+unfoldable pub told_keys : Result Ordering Refusal → List Node → Placed (List ℕ)
+told_keys (Ok out) ns = placed (keys_of out) ns
+told_keys (Err e) ns = full
 
 -- what it promises: the ordering is built from the shifted keys, whose missing nodes were added; or there was no room
-pub record ShiftedKeys (lift : ℕ) (s t memo : List ℕ) (o : Ordering) (one : Extended) : Type 0 where
+pub record ShiftedKeys (lift : ℕ) (s t memo : List ℕ) (o : Ordering) (one : Result Ordering Refusal) : Type 0 where
   pub holds : Holds t
   pub extends : Extends (nodes s) (nodes t)
   pub memo_true : Memo (shifted_by lift) (nodes t) memo
-  pub short : ShortOrdering one.ordering
+  pub short : (out : Ordering) → one ≡ Ok out → ShortOrdering out
   pub is : told_keys one (nodes t) ≡ and_then (shifted_keys (lifted lift) (nodes s) (keys_of o) (nodes s)) (λ ks ps. placed (built ks) ps)
 
 -- what the shift of a list asks: the same for all its orderings
@@ -96,11 +97,12 @@ pub record ReadyLists (lift : ℕ) (s memo : List ℕ) (g : Orderings) : Type 0 
   pub memo_true : Memo (shifted_by lift) (nodes s) memo
 
 -- a list that was made and the arena as a placing
-unfoldable pub told_lists : Listed → List Node → Placed Orderings
-told_lists r ns = if eqb r.number 0 then placed r.list ns else full
+unfoldable pub told_lists : Result Orderings Refusal → List Node → Placed Orderings
+told_lists (Ok list) ns = placed list ns
+told_lists (Err e) ns = full
 
 -- what it promises: the list of the shifted orderings; or there was no room
-pub record ShiftedLists (lift : ℕ) (s t : List ℕ) (g : Orderings) (r : Listed) : Type 0 where
+pub record ShiftedLists (lift : ℕ) (s t : List ℕ) (g : Orderings) (r : Result Orderings Refusal) : Type 0 where
   pub holds : Holds t
   pub extends : Extends (nodes s) (nodes t)
   pub is : told_lists r (nodes t) ≡ and_then (shifted_lists (lifted lift) (nodes s) (decode g) (nodes s)) (λ os ps. placed (encode os) ps)

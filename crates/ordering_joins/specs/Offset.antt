@@ -1,6 +1,5 @@
 -- Shifting a list of orderings by a signed offset: every key's expression is shifted, options stay, and the missing nodes are added one key after the other.
-use Rattle.std.specs.Prelude.{ℕ, ◌+◌, ◌*◌, Bool, true, ◌&&◌, List, [], ◌∷◌}
-use Rattle.std.proofs.Math.Option.{Option}
+use Rattle.std.specs.Prelude.{ℕ, ◌+◌, ◌*◌, Bool, true, ◌&&◌, List, [], ◌∷◌, Option}
 use Rattle.arena.specs.Node.{Node}
 use Rattle.arena.specs.Expression.{expression_at}
 use Rattle.arena.specs.Arena.{Placed, placed, and_then, add_expression}

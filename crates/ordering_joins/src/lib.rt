@@ -8,38 +8,28 @@ pub mod offsetting;
 ghost use Rattle.std.specs.Prelude.{◌≡◌};
 ghost use Rattle.ordering_joins.specs.Calls.{offset_answer, output_answer, join_answer};
 
-use joining::{join_in, no_output, output_in};
+use arena::Refusal;
+use joining::{join_in, output_in};
 use offsetting::offset_in;
 use orderings::checking::{check_list, check_two};
 use orderings::making::refusal;
 use orderings::{Listed, Ordering, Orderings};
 
-// What the joined ordering answers: the refusal's number or 0, and the ordering; none where the list is empty.
-#[derive(Clone, Copy)]
-pub struct Output {
-    pub number: u32,
-    pub ordering: Ordering,
-}
-
 // Shifts every column of the keys by an offset, names kept, and adds the missing nodes. Refusals: 11, 1, 10, 3.
 pub fn add_offset(cells: &mut [u32; 11265], list: Orderings, offset: i64) -> Listed
     ensures { (result, cells.new) ≡ offset_answer offset cells.old list }
 {
-    let number = check_list(cells, list);
-    if number != 0 {
-        return refusal(number, list);
+    match check_list(cells, list) {
+        Ok(()) => offset_in(cells, list, offset),
+        Err(why) => refusal(why, list),
     }
-    offset_in(cells, list, offset)
 }
 
 // The joined ordering of all orderings. Refusals: 11, 1, 5.
-pub fn output_ordering(cells: &[u32; 11265], list: Orderings) -> Output
+pub fn output_ordering(cells: &[u32; 11265], list: Orderings) -> Result<Ordering, Refusal>
     ensures { result ≡ output_answer cells.now list }
 {
-    let number = check_list(cells, list);
-    if number != 0 {
-        return no_output(number);
-    }
+    check_list(cells, list)?;
     output_in(list)
 }
 
@@ -47,12 +37,8 @@ pub fn output_ordering(cells: &[u32; 11265], list: Orderings) -> Output
 pub fn join_suffix(cells: &[u32; 11265], list: Orderings, other: Orderings) -> Listed
     ensures { result ≡ join_answer cells.now list other }
 {
-    let number = check_two(cells, list, other);
-    if number != 0 {
-        return Listed {
-            number: number,
-            list: list,
-        };
+    match check_two(cells, list, other) {
+        Ok(()) => join_in(list, other),
+        Err(why) => refusal(why, list),
     }
-    join_in(list, other)
 }

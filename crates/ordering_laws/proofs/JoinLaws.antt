@@ -1,5 +1,5 @@
 -- What joining makes: how many orderings, in which order, and that they are good where they fit. The same for the joined ordering of all.
-use Rattle.std.specs.Prelude.{if◌then◌else◌}
+use Rattle.std.specs.Prelude.{if◌then◌else◌, Result, Ok, Err}
 use Prim.Native.Nat.{ℕ, zero, suc, ◌+◌, ◌*◌, ◌<◌, ◌≤◌, max}
 use mathlib.Core.Bool.{Bool, true, false}
 use mathlib.Core.List.{List, [], ◌∷◌, ◌++◌}
@@ -15,10 +15,13 @@ use Rattle.orderings.specs.Lists.{ordering_at, extended_all, output_ordering, su
 use Rattle.orderings.specs.Good.{GoodOrdering, Good}
 use Rattle.orderings.specs.Layout.{row, encode, decode}
 use Rattle.orderings.specs.Calls.{fits, listed}
-use Rattle.ordering_joins.specs.Calls.{no_output, output_of}
+use Rattle.ordering_joins.specs.Calls.{output_of}
 use Rattle.orderings.specs.Inner.{HeldOrdering, Held, all_short}
 use Rattle.orderings.specs.declared.Orderings.{Orderings}
-use Rattle.ordering_joins.specs.declared.Output.{Output}
+use Rattle.orderings.specs.declared.Ordering.{Ordering}
+use Rattle.arena.specs.declared.Refusal.{Refusal}
+use Rattle.arena.specs.declared.Refusal.TheVariants.{TooLarge}
+use Rattle.arena.proofs.Refusals.{ok-not-err}
 use Rattle.orderings.proofs.Codec.{row-held, good-held, length-decode}
 use Rattle.orderings.proofs.OneOrdering.{built-same, extended-good}
 use Rattle.ordering_joins.proofs.Collecting.{extended_all-grows}
@@ -84,22 +87,22 @@ pub join-held : (g h : Orderings) → Held g → Held (listed g (join_suffix (de
 unfolding listed
 join-held g h a = go (fits (join_suffix (decode g) (decode h))) refl
   where
-    go : (b : Bool) → fits (join_suffix (decode g) (decode h)) ≡ b → Held (if b then told 0 (encode (join_suffix (decode g) (decode h))) else told 5 g).list
+    go : (b : Bool) → fits (join_suffix (decode g) (decode h)) ≡ b → Held (if b then told (Ok tt) (encode (join_suffix (decode g) (decode h))) else told (Err TooLarge) g).list
     go true e = good-held (join_suffix (decode g) (decode h)) (join_suffix-good (decode g) (decode h) a.good e)
     go false e = a
 
 -- the joined ordering of all, where there is one and it fits, is held; of an empty list it is no ordering
-pub output-held : (g : Orderings) → Held g → 0 < g.count → (output_of (output_ordering (decode g))).number ≡ 0 → HeldOrdering (output_of (output_ordering (decode g))).ordering
-unfolding output_of no_output
-output-held g a n = go (leb (length (output_ordering (decode g))) 16) refl
+pub output-held : (g : Orderings) → Held g → 0 < g.count → (o : Ordering) → output_of (output_ordering (decode g)) ≡ Ok o → HeldOrdering o
+unfolding output_of
+output-held g a n o = go (leb (length (output_ordering (decode g))) 16) refl
   where
-    out : Bool → Output
-    out b = if b then record { number = 0; ordering = row (output_ordering (decode g)) } else no_output 5
+    out : Bool → Result Ordering Refusal
+    out b = if b then Ok (row (output_ordering (decode g))) else Err TooLarge
 
-    go : (b : Bool) → leb (length (output_ordering (decode g))) 16 ≡ b → (out b).number ≡ 0 → HeldOrdering (out b).ordering
-    go true e z = row-held (output_ordering (decode g)) (output_ordering-good (decode g) a.good (omega (arith, length-decode g)) (leb-true (length (output_ordering (decode g))) 16 e))
-    go false e z = absurd (omega arith)
+    go : (b : Bool) → leb (length (output_ordering (decode g))) 16 ≡ b → out b ≡ Ok o → HeldOrdering o
+    go true e z = let q : row (output_ordering (decode g)) ≡ o = cc in subst HeldOrdering q (row-held (output_ordering (decode g)) (output_ordering-good (decode g) a.good (omega (arith, length-decode g)) (leb-true (length (output_ordering (decode g))) 16 e)))
+    go false e z = absurd (ok-not-err (sym z))
 
-pub output-none : ◌≡◌ {A = Output} (output_of (output_ordering [])) (record { number = 0; ordering = row [] })
+pub output-none : output_of (output_ordering []) ≡ Ok (row [])
 unfolding output_of output_ordering extended_all
 output-none = refl

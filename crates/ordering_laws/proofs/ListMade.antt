@@ -1,5 +1,10 @@
 -- What the calls hand back that make a list from lent lists of keys. A refusal: its number and the list that was given. Else: a reduced list; and what is handed back passes the check again.
-use Rattle.std.specs.Prelude.{if◌then◌else◌}
+use Rattle.std.specs.Prelude.{if◌then◌else◌, Ok, Err}
+use Rattle.arena.specs.declared.Refusal.{Refusal}
+use Rattle.arena.specs.declared.Refusal.TheVariants.{UnknownExpression, TooManyChildren, ArenaFull, GroupFull, TooLarge, UnknownKey, NoTarget, OutputShort, Malformed, IndexOutOfRange, BadState, BadNumber}
+use Rattle.arena.specs.Refusals.{refusal, refusal_number, number_of}
+use Rattle.arena.proofs.Refusals.{refused-number}
+use Rattle.orderings.proofs.Asking.{list_number-listed}
 use Prim.Native.Nat.{ℕ, ◌<◌, ◌≤◌}
 use mathlib.Core.Bool.{Bool, true, false}
 use mathlib.Core.List.{List, [], ◌++◌}
@@ -46,14 +51,29 @@ none_passes cells w = held_number cells w [] none-good (none-known (count cells)
 none_lent : (cells : List ℕ) → Lent cells (encode [])
 none_lent cells = record { held = good-held [] none-good; known = subst (Known (count cells)) (sym (decode-encode [])) (none-known (count cells)) }
 
+-- no refusal has number 0
+refusal-some : (e : Refusal) → refusal_number e ≡ 0 → ⊥
+refusal-some UnknownExpression h = omega arith
+refusal-some TooManyChildren h = omega arith
+refusal-some ArenaFull h = omega arith
+refusal-some GroupFull h = omega arith
+refusal-some TooLarge h = omega arith
+refusal-some UnknownKey h = omega arith
+refusal-some NoTarget h = omega arith
+refusal-some OutputShort h = omega arith
+refusal-some Malformed h = omega arith
+refusal-some IndexOutOfRange h = omega arith
+refusal-some BadState h = omega arith
+refusal-some BadNumber h = omega arith
+
 -- the answer of a call that reduces, after a check that told k
 abbrev reduced_or : Orderings → ℕ → List (List ℕ) → Listed
-reduced_or g k os = if eqb k 0 then reduced_list g os else told k g
+reduced_or g k os = if eqb k 0 then reduced_list g os else told (Err (refusal k)) g
 
 -- what it can be
 data Came (g : Orderings) (k : ℕ) (os : List (List ℕ)) : Listed → Type 0 where
-  refused : (n : ℕ) → (n ≡ 0 → ⊥) → Came g k os (told n g)
-  done : k ≡ 0 → fits os ≡ true → Came g k os (told 0 (encode (reduced same_key os).orderings))
+  refused : (e : Refusal) → Came g k os (told (Err e) g)
+  done : k ≡ 0 → fits os ≡ true → Came g k os (told (Ok tt) (encode (reduced same_key os).orderings))
 
 module _ (g : Orderings) (k : ℕ) (os : List (List ℕ)) where
   came : Came g k os (reduced_or g k os)
@@ -61,15 +81,15 @@ module _ (g : Orderings) (k : ℕ) (os : List (List ℕ)) where
     where
       at : Dec (k ≡ 0) → (b : Bool) → fits os ≡ b → Came g k os (reduced_or g k os)
       at (yes z) true f = subst (Came g k os) (sym (rw (eq-eqb k 0 z) (reduced-fits g os f))) (done z f)
-      at (yes z) false f = subst (Came g k os) (sym (rw (eq-eqb k 0 z) (reduced-not g os f))) (refused 5 (λ e. omega arith))
-      at (no z) b f = rw (ne_eqb k 0 z) (refused k z)
+      at (yes z) false f = subst (Came g k os) (sym (rw (eq-eqb k 0 z) (reduced-not g os f))) (refused TooLarge)
+      at (no z) b f = rw (ne_eqb k 0 z) (refused (refusal k))
 
-  given : {r : Listed} → Came g k os r → (r.number ≡ 0 → ⊥) → r.list ≡ g
-  given (refused n z) h = refl
+  given : {r : Listed} → Came g k os r → (number_of r.done ≡ 0 → ⊥) → r.list ≡ g
+  given (refused n) h = refl
   given (done z f) h = absurd (h refl)
 
-  apart : {r : Listed} → Came g k os r → r.number ≡ 0 → Apart same_key (decode r.list)
-  apart (refused n z) h = absurd (z h)
+  apart : {r : Listed} → Came g k os r → number_of r.done ≡ 0 → Apart same_key (decode r.list)
+  apart (refused n) h = absurd (refusal-some n h)
   apart (done z f) h = subst (Apart same_key) (sym (decode-encode (reduced same_key os).orderings)) (reduced-apart same_key os)
 
   module _ (cells : List ℕ) (w : lawful cells ≡ true) (e : list_number cells g ≡ 0) where
@@ -81,28 +101,28 @@ module _ (g : Orderings) (k : ℕ) (os : List (List ℕ)) where
         begins o n h a b i l = let c = length-take-le n o b in subst (λ (x : ℕ). expr_of x < count cells) (sym (get_or-take n o i 0 (omega arith))) (h i (omega arith))
 
     passes : {r : Listed} → Came g k os r → (k ≡ 0 → AllValid (count cells) os) → list_number cells r.list ≡ 0
-    passes (refused n z) v = e
+    passes (refused n) v = e
     passes (done z f) v =
         held_number cells w (reduced same_key os).orderings (reduced-good same_key os (valid_good (count cells) os (v z) f)) (reduced-known (λ i j a b. (v z i a).known j b))
 
 -- clearing
 module _ (cells : List ℕ) (g : Orderings) where
   abbrev clear_by : Bool → Listed
-  clear_by p = if p then told 0 (encode []) else told (list_number cells g) g
+  clear_by p = if p then told (Ok tt) (encode []) else told (Err (refusal (list_number cells g))) g
 
-  pub clear-number : (clear_answer cells g).number ≡ list_number cells g
+  pub clear-number : number_of (clear_answer cells g).done ≡ list_number cells g
   unfolding clear_answer ask_list
   clear-number = at (ℕ_discrete (list_number cells g) 0)
     where
-      at : Dec (list_number cells g ≡ 0) → (clear_by (eqb (list_number cells g) 0)).number ≡ list_number cells g
+      at : Dec (list_number cells g ≡ 0) → number_of (clear_by (eqb (list_number cells g) 0)).done ≡ list_number cells g
       at (yes z) = rw (eq-eqb (list_number cells g) 0 z) (sym z)
-      at (no z) = rw (ne_eqb (list_number cells g) 0 z)
+      at (no z) = rw (ne_eqb (list_number cells g) 0 z) (refused-number (list_number cells g) (list_number-listed cells g) (ne_eqb (list_number cells g) 0 z))
 
-  pub clear-refused : ((clear_answer cells g).number ≡ 0 → ⊥) → (clear_answer cells g).list ≡ g
+  pub clear-refused : (number_of (clear_answer cells g).done ≡ 0 → ⊥) → (clear_answer cells g).list ≡ g
   unfolding clear_answer ask_list
   clear-refused h = rw (ne_eqb (list_number cells g) 0 (λ z. h (clear-number ∙ z)))
 
-  pub clear-done : (clear_answer cells g).number ≡ 0 → (clear_answer cells g).list ≡ encode []
+  pub clear-done : number_of (clear_answer cells g).done ≡ 0 → (clear_answer cells g).list ≡ encode []
   unfolding clear_answer ask_list
   clear-done h = rw (eq-eqb (list_number cells g) 0 (sym clear-number ∙ h))
 
@@ -146,17 +166,17 @@ module _ (cells : List ℕ) (g : Orderings) (numbers : List ℕ) where
   came-extended = came g (extend_number cells g numbers) (decode g ++ lists_lent numbers)
 
   -- beside a refusal the list that was given
-  pub add-refused : ((add_answer cells g numbers).number ≡ 0 → ⊥) → (add_answer cells g numbers).list ≡ g
+  pub add-refused : (number_of (add_answer cells g numbers).done ≡ 0 → ⊥) → (add_answer cells g numbers).list ≡ g
   add-refused = given g (lent_number cells g numbers) (decode g ++ built_all (lists_lent numbers)) came-added
 
-  pub extend-refused : ((extend_answer cells g numbers).number ≡ 0 → ⊥) → (extend_answer cells g numbers).list ≡ g
+  pub extend-refused : (number_of (extend_answer cells g numbers).done ≡ 0 → ⊥) → (extend_answer cells g numbers).list ≡ g
   extend-refused = given g (extend_number cells g numbers) (decode g ++ lists_lent numbers) came-extended
 
   -- else a reduced list: no nonempty suffix of one ordering is a prefix of another
-  pub add_apart : (add_answer cells g numbers).number ≡ 0 → Apart same_key (decode (add_answer cells g numbers).list)
+  pub add_apart : number_of (add_answer cells g numbers).done ≡ 0 → Apart same_key (decode (add_answer cells g numbers).list)
   add_apart = apart g (lent_number cells g numbers) (decode g ++ built_all (lists_lent numbers)) came-added
 
-  pub extend-apart : (extend_answer cells g numbers).number ≡ 0 → Apart same_key (decode (extend_answer cells g numbers).list)
+  pub extend-apart : number_of (extend_answer cells g numbers).done ≡ 0 → Apart same_key (decode (extend_answer cells g numbers).list)
   extend-apart = apart g (extend_number cells g numbers) (decode g ++ lists_lent numbers) came-extended
 
   -- what is handed back passes the check again, refused or not
@@ -171,10 +191,10 @@ module _ (cells : List ℕ) (g : Orderings) (numbers : List ℕ) where
       passes g (extend_number cells g numbers) (decode g ++ lists_lent numbers) cells (number-lawful cells g z) z came-extended (extended_valid cells g numbers (number-held cells g s z))
 
 module _ (cells numbers : List ℕ) where
-  pub new-refused : ((new_answer cells numbers).number ≡ 0 → ⊥) → (new_answer cells numbers).list ≡ encode []
+  pub new-refused : (number_of (new_answer cells numbers).done ≡ 0 → ⊥) → (new_answer cells numbers).list ≡ encode []
   new-refused = add-refused cells (encode []) numbers
 
-  pub new_apart : (new_answer cells numbers).number ≡ 0 → Apart same_key (decode (new_answer cells numbers).list)
+  pub new_apart : number_of (new_answer cells numbers).done ≡ 0 → Apart same_key (decode (new_answer cells numbers).list)
   new_apart = add_apart cells (encode []) numbers
 
   pub new-passes : lawful cells ≡ true → list_number cells (new_answer cells numbers).list ≡ 0

@@ -1,9 +1,8 @@
 -- What the calls on a list hand back. A refusal: its number, and where a list is handed back the one that was given. Else: orderings without a repeated or unknown expression, and so a list that passes the check again.
-use Rattle.std.specs.Prelude.{if◌then◌else◌}
+use Rattle.std.specs.Prelude.{if◌then◌else◌, Option, Result, Ok, Err}
 use Prim.Native.Nat.{ℕ, suc, ◌<◌}
 use mathlib.Core.Bool.{Bool, true, false}
 use mathlib.Core.List.{List, [], ◌∷◌, ◌++◌}
-use mathlib.Core.Option.{Option, none, some}
 use mathlib.Core.Path.{◌≡◌, refl, sym, ap, subst, ◌∙◌}
 use native.Mathlib.Decide.{dec_lt}
 use native.Mathlib.Omega.{arith}
@@ -21,15 +20,17 @@ use Rattle.ordering_questions.specs.Questions.{get_options, partial_const}
 use Rattle.orderings.specs.Good.{Good}
 use Rattle.orderings.specs.Layout.{row, encode, decode, lawful_list, keys_inside}
 use Rattle.orderings.specs.Calls.{list_number, two_number, fits, ask_list, listed}
-use Rattle.ordering_questions.specs.Calls.{options_are, options_answer, options_number, partial_answer, partial_number}
-use Rattle.ordering_joins.specs.Calls.{no_output, output_of, output_answer, join_answer}
+use Rattle.ordering_questions.specs.Calls.{options_answer, options_number, partial_answer, partial_number}
+use Rattle.ordering_joins.specs.Calls.{output_of, output_answer, join_answer}
 use Rattle.orderings.specs.declared.Orderings.{Orderings}
 use Rattle.orderings.specs.declared.Listed.{Listed}
-use Rattle.ordering_joins.specs.declared.Output.{Output}
-use Rattle.ordering_questions.specs.declared.OptionsAre.{OptionsAre}
-use Rattle.ordering_questions.specs.declared.OptionsAre.TheVariants.{Are, Absent, Refused as Options-Refused}
-use Rattle.ordering_questions.specs.declared.PartialIs.{PartialIs}
-use Rattle.ordering_questions.specs.declared.PartialIs.TheVariants.{Yes, No, Refused as Partial-Refused}
+use Rattle.orderings.specs.declared.Ordering.{Ordering}
+use Rattle.arena.specs.declared.Refusal.{Refusal}
+use Rattle.arena.specs.declared.Refusal.TheVariants.{UnknownExpression, TooManyChildren, ArenaFull, GroupFull, TooLarge, UnknownKey, NoTarget, OutputShort, Malformed, IndexOutOfRange, BadState, BadNumber}
+use Rattle.arena.specs.Refusals.{refusal, refusal_number, number_of}
+use Rattle.arena.proofs.Refusals.{refused-number}
+use Rattle.orderings.proofs.Asking.{list_number-listed, two_number-listed}
+use Rattle.orderings.proofs.Appending.{told}
 use Rattle.orderings.proofs.ListChecks.{Sized, three}
 use Rattle.orderings.proofs.ListHeld.{Known, two-tests, two-lawful, two-held, held_number}
 use Rattle.ordering_joins.proofs.Suffixes.{join_suffix-all}
@@ -39,29 +40,44 @@ use Rattle.orderings.proofs.OneOrdering.{NoneTwice, pushed-there, pushed-new, ex
 abbrev pub checked_or : ℕ → ℕ → ℕ
 checked_or check call = if eqb check 0 then call else check
 
+-- the refusal with the number of a refusal is it
+refusal-is : (e : Refusal) → refusal (refusal_number e) ≡ e
+unfolding refusal
+refusal-is UnknownExpression = refl
+refusal-is TooManyChildren = refl
+refusal-is ArenaFull = refl
+refusal-is GroupFull = refl
+refusal-is TooLarge = refl
+refusal-is UnknownKey = refl
+refusal-is NoTarget = refl
+refusal-is OutputShort = refl
+refusal-is Malformed = refl
+refusal-is IndexOutOfRange = refl
+refusal-is BadState = refl
+refusal-is BadNumber = refl
+
+-- a refusal is its number alone
+pub number-refused : {A : Type 0} (a : Result A Refusal) → (number_of a ≡ 0 → ⊥) → a ≡ Err (refusal (number_of a))
+number-refused (Ok x) h = absurd (h refl)
+number-refused (Err e) h = ap Err (sym (refusal-is e))
+
 -- the joined ordering: its number, and beside a refusal no ordering
 module _ (cells : List ℕ) (g : Orderings) where
   -- the answer, by the check and by the bound
-  abbrev output_by : Bool → Bool → Output
-  output_by p q = if p then (if q then record { number = 0; ordering = row (output_ordering (decode g)) } else no_output 5) else no_output (list_number cells g)
+  abbrev output_by : Bool → Bool → Result Ordering Refusal
+  output_by p q = if p then (if q then Ok (row (output_ordering (decode g))) else Err TooLarge) else Err (refusal (list_number cells g))
 
-  pub output-number : (output_answer cells g).number ≡ checked_or (list_number cells g) (if leb (length (output_ordering (decode g))) 16 then 0 else 5)
-  unfolding ask_list output_of no_output
-  output-number = go (eqb (list_number cells g) 0) (leb (length (output_ordering (decode g))) 16)
+  pub output-number : number_of (output_answer cells g) ≡ checked_or (list_number cells g) (if leb (length (output_ordering (decode g))) 16 then 0 else 5)
+  unfolding ask_list output_of
+  output-number = go (eqb (list_number cells g) 0) refl (leb (length (output_ordering (decode g))) 16)
     where
-      go : (p q : Bool) → (output_by p q).number ≡ (if p then (if q then 0 else 5) else list_number cells g)
-      go true true = refl
-      go true false = refl
-      go false q = refl
+      go : (p : Bool) → eqb (list_number cells g) 0 ≡ p → (q : Bool) → number_of (output_by p q) ≡ (if p then (if q then 0 else 5) else list_number cells g)
+      go true e true = refl
+      go true e false = refl
+      go false e q = refused-number (list_number cells g) (list_number-listed cells g) e
 
-  pub output-refused : ((output_answer cells g).number ≡ 0 → ⊥) → (output_answer cells g).ordering ≡ row []
-  unfolding ask_list output_of no_output
-  output-refused = go (eqb (list_number cells g) 0) (leb (length (output_ordering (decode g))) 16)
-    where
-      go : (p q : Bool) → ((output_by p q).number ≡ 0 → ⊥) → (output_by p q).ordering ≡ row []
-      go true true n = absurd (n refl)
-      go true false n = refl
-      go false q n = refl
+  pub output-refused : (number_of (output_answer cells g) ≡ 0 → ⊥) → output_answer cells g ≡ Err (refusal (number_of (output_answer cells g)))
+  output-refused = number-refused (output_answer cells g)
 
 -- joining: its number, and beside a refusal the list that was given
 abbrev joined : Orderings → Orderings → List (List ℕ)
@@ -70,62 +86,51 @@ joined g h = join_suffix (decode g) (decode h)
 module _ (cells : List ℕ) (g h : Orderings) where
   -- the answer, by the check and by the bounds
   abbrev join_by : Bool → Bool → Listed
-  join_by p q = if p then (if q then record { number = 0; list = encode (joined g h) } else record { number = 5; list = g }) else record { number = two_number cells g h; list = g }
+  join_by p q = if p then (if q then told (Ok tt) (encode (joined g h)) else told (Err TooLarge) g) else told (Err (refusal (two_number cells g h))) g
 
-  pub join-number : (join_answer cells g h).number ≡ checked_or (two_number cells g h) (if fits (joined g h) then 0 else 5)
+  pub join-number : number_of (join_answer cells g h).done ≡ checked_or (two_number cells g h) (if fits (joined g h) then 0 else 5)
   unfolding join_answer listed
-  join-number = go (eqb (two_number cells g h) 0) (fits (joined g h))
+  join-number = go (eqb (two_number cells g h) 0) refl (fits (joined g h))
     where
-      go : (p q : Bool) → (join_by p q).number ≡ (if p then (if q then 0 else 5) else two_number cells g h)
-      go true true = refl
-      go true false = refl
-      go false q = refl
+      go : (p : Bool) → eqb (two_number cells g h) 0 ≡ p → (q : Bool) → number_of (join_by p q).done ≡ (if p then (if q then 0 else 5) else two_number cells g h)
+      go true e true = refl
+      go true e false = refl
+      go false e q = refused-number (two_number cells g h) (two_number-listed cells g h) e
 
-  pub join-refused : ((join_answer cells g h).number ≡ 0 → ⊥) → (join_answer cells g h).list ≡ g
+  pub join-refused : (number_of (join_answer cells g h).done ≡ 0 → ⊥) → (join_answer cells g h).list ≡ g
   unfolding join_answer listed
   join-refused = go (eqb (two_number cells g h) 0) (fits (joined g h))
     where
-      go : (p q : Bool) → ((join_by p q).number ≡ 0 → ⊥) → (join_by p q).list ≡ g
+      go : (p q : Bool) → (number_of (join_by p q).done ≡ 0 → ⊥) → (join_by p q).list ≡ g
       go true true n = absurd (n refl)
       go true false n = refl
       go false q n = refl
 
--- an answer on options is no refusal
-options-done : (o : Option ℕ) → options_number (options_are o) ≡ 0
-unfolding options_are
-options-done none = refl
-options-done (some options) = refl
-
 -- the two questions: their numbers, and a refusal is its number alone
 module _ (cells : List ℕ) (g : Orderings) (e : ℕ) where
-  pub options-number : options_number (ask_list (λ k. Options-Refused k) (options_answer (count cells) e) cells g) ≡ checked_or (list_number cells g) (if ltb e (count cells) then 0 else 1)
+  pub options-number : options_number (ask_list (λ k. Err (refusal k)) (options_answer (count cells) e) cells g) ≡ checked_or (list_number cells g) (if ltb e (count cells) then 0 else 1)
   unfolding ask_list options_answer
-  options-number = go (eqb (list_number cells g) 0) (ltb e (count cells))
+  options-number = go (eqb (list_number cells g) 0) refl (ltb e (count cells))
     where
-      go : (p q : Bool) → options_number (if p then (if q then options_are (get_options (decode g) e) else Options-Refused 1) else Options-Refused (list_number cells g)) ≡ (if p then (if q then 0 else 1) else list_number cells g)
-      go true true = options-done (get_options (decode g) e)
-      go true false = refl
-      go false q = refl
+      go : (p : Bool) → eqb (list_number cells g) 0 ≡ p → (q : Bool) → options_number (if p then (if q then Ok (get_options (decode g) e) else Err UnknownExpression) else Err (refusal (list_number cells g))) ≡ (if p then (if q then 0 else 1) else list_number cells g)
+      go true c true = refl
+      go true c false = refl
+      go false c q = refused-number (list_number cells g) (list_number-listed cells g) c
 
-  pub partial_number_lem : partial_number (ask_list (λ k. Partial-Refused k) (partial_answer (count cells) e) cells g) ≡ checked_or (list_number cells g) (if ltb e (count cells) then 0 else 1)
+  pub partial_number_lem : partial_number (ask_list (λ k. Err (refusal k)) (partial_answer (count cells) e) cells g) ≡ checked_or (list_number cells g) (if ltb e (count cells) then 0 else 1)
   unfolding ask_list partial_answer
-  partial_number_lem = go (eqb (list_number cells g) 0) (ltb e (count cells)) (partial_const (decode g) e)
+  partial_number_lem = go (eqb (list_number cells g) 0) refl (ltb e (count cells))
     where
-      go : (p q b : Bool) → partial_number (if p then (if q then (if b then Yes else No) else Partial-Refused 1) else Partial-Refused (list_number cells g)) ≡ (if p then (if q then 0 else 1) else list_number cells g)
-      go true true true = refl
-      go true true false = refl
-      go true false b = refl
-      go false q b = refl
+      go : (p : Bool) → eqb (list_number cells g) 0 ≡ p → (q : Bool) → partial_number (if p then (if q then Ok (partial_const (decode g) e) else Err UnknownExpression) else Err (refusal (list_number cells g))) ≡ (if p then (if q then 0 else 1) else list_number cells g)
+      go true c true = refl
+      go true c false = refl
+      go false c q = refused-number (list_number cells g) (list_number-listed cells g) c
 
-pub options-refused : (a : OptionsAre) → (options_number a ≡ 0 → ⊥) → a ≡ Options-Refused (options_number a)
-options-refused (Are options) h = absurd (h refl)
-options-refused Absent h = absurd (h refl)
-options-refused (Options-Refused k) h = refl
+pub options-refused : (a : Result (Option ℕ) Refusal) → (options_number a ≡ 0 → ⊥) → a ≡ Err (refusal (options_number a))
+options-refused a h = number-refused a h
 
-pub partial_refused : (a : PartialIs) → (partial_number a ≡ 0 → ⊥) → a ≡ Partial-Refused (partial_number a)
-partial_refused Yes h = absurd (h refl)
-partial_refused No h = absurd (h refl)
-partial_refused (Partial-Refused k) h = refl
+pub partial_refused : (a : Result Bool Refusal) → (partial_number a ≡ 0 → ⊥) → a ≡ Err (refusal (partial_number a))
+partial_refused a h = number-refused a h
 
 -- the expressions of an ordering are known
 abbrev pub KnownIn : ℕ → List ℕ → Type 0

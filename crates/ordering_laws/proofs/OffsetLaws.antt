@@ -2,7 +2,11 @@
 use Prim.Native.Nat.{ℕ, zero, suc, ◌+◌, ◌*◌, ◌<◌}
 use mathlib.Core.Bool.{Bool, true, false}
 use mathlib.Core.List.{List, [], ◌∷◌}
-use mathlib.Core.Option.{Option}
+use Rattle.std.specs.Prelude.{Option, Ok, Err}
+use borrow.Author.Tests.{eq-eqb, ne_eqb}
+use Rattle.arena.specs.declared.Refusal.TheVariants.{ArenaFull, IndexOutOfRange}
+use Rattle.arena.specs.Refusals.{refusal, number_of}
+use Rattle.arena.proofs.Refusals.{zero-ok, refusal-err}
 use mathlib.Core.Path.{◌≡◌, refl, sym, ap, ◌∙◌, subst, subst₂}
 use native.Mathlib.Decide.{ℕ_discrete}
 use native.Mathlib.Omega.{arith}
@@ -189,32 +193,32 @@ module _ (offset : ℤ) (cells : List ℕ) (g : Orderings) where
   can = lists_move (moved offset) (nodes cells) (decode g)
 
   -- the outcomes where the check passes
-  offset_cases : (P : Outcome → Type 0) → list_number cells g ≡ 0 → P (told 10 g, cells) → P (told 3 g, cells)
-      → ((os : List (List ℕ)) (ms : List Node) → can ≡ true → made ≡ placed os ms → P (told 0 (encode os), encode_nodes ms)) → P (offset_answer offset cells g)
+  offset_cases : (P : Outcome → Type 0) → list_number cells g ≡ 0 → P (told (Err IndexOutOfRange) g, cells) → P (told (Err ArenaFull) g, cells)
+      → ((os : List (List ℕ)) (ms : List Node) → can ≡ true → made ≡ placed os ms → P (told (Ok tt) (encode os), encode_nodes ms)) → P (offset_answer offset cells g)
   unfolding in_cells offset_list offset_by
-  offset_cases P z out none done = subst P (sym (offset_passed offset cells g z)) (go can refl)
+  offset_cases P z out None done = subst P (sym (offset_passed offset cells g (zero-ok (list_number cells g) (eq-eqb (list_number cells g) 0 z)))) (go can refl)
     where
       same : encode_nodes (nodes cells) ≡ cells
       same = coded-cells cells (lawful-holds cells (number-lawful cells g z))
 
       by : can ≡ true → (o : Placed (List (List ℕ))) → made ≡ o → P (in_cells (offset_by g (nodes cells) o))
       by c (placed os ms) q = done os ms c q
-      by c full q = subst (λ (s : List ℕ). P (told 3 g, s)) (sym same) none
+      by c full q = subst (λ (s : List ℕ). P (told (Err ArenaFull) g, s)) (sym same) None
 
       go : (b : Bool) → can ≡ b → P (in_cells (offset_list offset g (nodes cells)))
       go true c = rw c (by c made refl)
-      go false c = rw c (subst (λ (s : List ℕ). P (told 10 g, s)) (sym same) out)
+      go false c = rw c (subst (λ (s : List ℕ). P (told (Err IndexOutOfRange) g, s)) (sym same) out)
 
   abbrev Kept : Outcome → Type 0
-  Kept o = (o.0.number ≡ 0 → ⊥) → ◌≡◌ {A = Outcome} o (told o.0.number g, cells)
+  Kept o = (number_of o.0.done ≡ 0 → ⊥) → ◌≡◌ {A = Outcome} o (told o.0.done g, cells)
 
   -- a refusal leaves the list and the cells as they were
-  pub offset_keeps : ((offset_answer offset cells g).0.number ≡ 0 → ⊥) → offset_answer offset cells g ≡ (told (offset_answer offset cells g).0.number g, cells)
+  pub offset_keeps : (number_of (offset_answer offset cells g).0.done ≡ 0 → ⊥) → offset_answer offset cells g ≡ (told (offset_answer offset cells g).0.done g, cells)
   offset_keeps = at (ℕ_discrete (list_number cells g) 0)
     where
       at : Dec (list_number cells g ≡ 0) → Kept (offset_answer offset cells g)
       at (yes z) = offset_cases Kept z (λ n. refl) (λ n. refl) (λ os ms c q n. absurd (n refl))
-      at (no n) = subst Kept (sym (offset_refused offset cells g n)) (λ m. refl)
+      at (no n) = subst Kept (offset_refused offset cells g (refusal (list_number cells g)) (refusal-err (list_number cells g) (ne_eqb (list_number cells g) 0 n))) (λ m. refl)
 
   module _ (y : Sized g) (z : list_number cells g ≡ 0) where
     there : ListThere cells g

@@ -2,7 +2,7 @@
 use Prim.Native.Nat.{ℕ, ◌+◌, ◌-◌, ◌<◌, ◌≤◌, min}
 use mathlib.Core.Bool.{Bool, true, false}
 use mathlib.Core.List.{List}
-use mathlib.Core.Option.{none, some}
+use Rattle.std.specs.Prelude.{None, Some}
 use mathlib.Core.Path.{◌≡◌, sym, ap, ◌∙◌, subst}
 use native.Mathlib.Decide.{ℕ_discrete, dec_lt}
 use native.Mathlib.Omega.{arith}
@@ -24,12 +24,12 @@ unfolding meets
 meets_at m a b n k e l = each_holds (λ (k : ℕ). m (get_or a (length a - n + k) 0) (get_or b k 0)) n k e l
 
 -- where there is an overlap, its keys match
-pub overlap-meets : (m : ℕ → ℕ → Bool) (a b : List ℕ) (n : ℕ) → overlap m a b ≡ some n → meets m a b (n + 1) ≡ true
+pub overlap-meets : (m : ℕ → ℕ → Bool) (a b : List ℕ) (n : ℕ) → overlap m a b ≡ Some n → meets m a b (n + 1) ≡ true
 unfolding overlap
 overlap-meets m a b n e = (first_some (λ (k : ℕ). meets m a b (k + 1)) (min (length a) (length b)) n e).passes
 
 -- where there is none, no length but 0 matches
-pub overlap-none : (m : ℕ → ℕ → Bool) (a b : List ℕ) → overlap m a b ≡ none → (n : ℕ) → 0 < n → n ≤ length a → n ≤ length b → meets m a b n ≡ false
+pub overlap-none : (m : ℕ → ℕ → Bool) (a b : List ℕ) → overlap m a b ≡ None → (n : ℕ) → 0 < n → n ≤ length a → n ≤ length b → meets m a b n ≡ false
 unfolding overlap
 overlap-none m a b e n l h k =
     let s : n - 1 + 1 ≡ n = omega arith in
@@ -89,7 +89,7 @@ module _ (m : ℕ → ℕ → Bool) (one : OneExpression m) (a b : List ℕ) (g 
       go (no q) (no r) = absurd (not-longer k n h (omega arith) f d e)
 
   -- so the overlap is any length that matches
-  pub overlap-only : (n : ℕ) → n < length a → n < length b → meets m a b (n + 1) ≡ true → overlap m a b ≡ some n
+  pub overlap-only : (n : ℕ) → n < length a → n < length b → meets m a b (n + 1) ≡ true → overlap m a b ≡ Some n
   unfolding overlap
   overlap-only n l h e =
       first-only (λ (k : ℕ). meets m a b (k + 1)) (min (length a) (length b)) n (omega arith) e

@@ -2,7 +2,7 @@
 use Prim.Native.Nat.{ℕ, zero, suc, ◌+◌, ◌-◌, ◌<◌, ◌≤◌}
 use mathlib.Core.Bool.{Bool}
 use mathlib.Core.List.{List, []}
-use mathlib.Core.Option.{none}
+use Rattle.std.specs.Prelude.{None}
 use mathlib.Core.Path.{◌≡◌, refl, sym, ap, ◌∙◌, subst}
 use native.Mathlib.Decide.{ℕ_discrete, dec_lt}
 use native.Mathlib.Nat.{add-zero}
@@ -89,11 +89,11 @@ module _ (m : ℕ → ℕ → Bool) where
 
   -- neither of two orderings ends as the other begins
   abbrev pub Free : List (List ℕ) → ℕ → ℕ → Type 0
-  Free os i j = (overlap m (ordering_at os i) (ordering_at os j) ≡ none) × (overlap m (ordering_at os j) (ordering_at os i) ≡ none)
+  Free os i j = (overlap m (ordering_at os i) (ordering_at os j) ≡ None) × (overlap m (ordering_at os j) (ordering_at os i) ≡ None)
 
   -- comparing that cuts nothing: neither ends as the other begins, and the list stays as it is
   second_still : (os : List (List ℕ)) (i j c : ℕ) {r : Resolved} → Outcome m os j i r → (second os j c r).cuts ≡ c
-      → (second os j c r ≡ record { way = onward; cuts = c; orderings = os }) × (overlap m (ordering_at os j) (ordering_at os i) ≡ none)
+      → (second os j c r ≡ record { way = onward; cuts = c; orderings = os }) × (overlap m (ordering_at os j) (ordering_at os i) ≡ None)
   unfolding second
   second_still os i j c (free e) z = (refl, e)
   second_still os i j c (part n e l) z = absurd (omega arith)
@@ -115,7 +115,7 @@ module _ (m : ℕ → ℕ → Bool) where
       go (whole n e l) z = absurd (omega arith)
 
   -- the other way round: where neither ends as the other begins, comparing changes nothing
-  resolve-free : (os : List (List ℕ)) (i j : ℕ) → overlap m (ordering_at os i) (ordering_at os j) ≡ none → resolve m os i j ≡ apart
+  resolve-free : (os : List (List ℕ)) (i j : ℕ) → overlap m (ordering_at os i) (ordering_at os j) ≡ None → resolve m os i j ≡ apart
   unfolding resolve resolved_by
   resolve-free os i j e = rw e
 
@@ -249,7 +249,7 @@ module _ (m : ℕ → ℕ → Bool) where
   pass_still os z = let w = pass_from_still (length os) os 0 0 (omega arith) z in (w.0, λ i j a b d. go w.1 i j a b d (dec_lt i j))
     where
       go : ((a b : ℕ) → 0 ≤ a → a < b → b < length os → Free os a b) → (i j : ℕ) → i < length os → j < length os → (i ≡ j → ⊥) → Dec (i < j)
-          → overlap m (ordering_at os i) (ordering_at os j) ≡ none
+          → overlap m (ordering_at os i) (ordering_at os j) ≡ None
       go f i j a b d (yes l) = (f i j (omega arith) l b).0
       go f i j a b d (no l) = (f j i (omega arith) (omega arith) a).1
 

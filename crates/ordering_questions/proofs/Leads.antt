@@ -1,15 +1,17 @@
 -- The two questions as the code asks them: the key that leads an ordering, and the search through the list.
-use Prim.Native.Nat.{ℕ, ◌+◌, ◌/◌, ◌%◌, ◌<◌, ◌≤◌}
-use mathlib.Core.Bool.{true, false, ◌&&◌}
-use mathlib.Core.List.{List, []}
-use mathlib.Core.Option.{none, some}
-use mathlib.Core.Path.{◌≡◌, sym, ap, ◌∙◌}
-use native.Mathlib.Numerals.{add-one}
+use Prim.Native.Nat.{ℕ, ◌<◌}
+use mathlib.Core.Bool.{Bool, true, false, ◌&&◌}
+use mathlib.Core.List.{List, [], ◌∷◌, map}
+use Rattle.std.specs.Prelude.{Some, if◌then◌else◌}
+use Rattle.std.specs.Option.{option_map}
+use Rattle.std.specs.List.{list_any, find}
+use mathlib.Core.Path.{◌≡◌, refl, sym, ap, ◌∙◌}
 use native.Mathlib.Omega.{arith}
-use borrow.Author.Tests.{eq-eqb, ne_eqb}
 use lib.Dec.{eqb}
-use lib.ListN.{get_or, drop, drop_of_length-le}
-use lib.Seq.{drop-cons}
+use lib.ListN.{get_or}
+use Rattle.laws.specs.Lists.{table}
+use Rattle.laws.proofs.Table.{table_is}
+use Rattle.laws.proofs.RunsA.{map-table}
 use Rattle.orderings.specs.Ordering.{expr_of, options_of}
 use Rattle.orderings.specs.Lists.{ordering_at}
 use Rattle.ordering_questions.specs.Questions.{get_options, leads_with}
@@ -24,31 +26,35 @@ leading-read g h i l =
     sym (key-is (place_in g i) 0 (omega (arith, place-size g h i l, (good-at g h i l).filled)))
     ∙ ap (λ (o : List ℕ). get_or o 0 0) (place-keys g h i l)
 
--- a turn of each search, from the key that leads the ordering at its place
-module _ (g : Orderings) (e i key : ℕ) (l : i < g.count) (k : key ≡ get_or (ordering_at (decode g) i) 0 0) where
-  pub options-hit : key / 4 ≡ e → get_options (drop i (decode g)) e ≡ some (key % 4)
-  unfolding get_options expr_of options_of
-  options-hit q = rw (drop-cons (decode g) i [] (rw (length-decode g) l), ← k, eq-eqb (key / 4) e q)
+-- the key that leads an ordering
+abbrev pub lead : List ℕ → ℕ
+lead o = get_or o 0 0
 
-  pub options-on : (key / 4 ≡ e → ⊥) → get_options (drop i (decode g)) e ≡ get_options (drop (i + 1) (decode g)) e
-  unfolding get_options expr_of
-  options-on q = rw (drop-cons (decode g) i [] (rw (length-decode g) l), ← k, ne_eqb (key / 4) e q, add-one i)
+-- an ordering is led by an expression with these options
+abbrev pub Led : ℕ → ℕ → List ℕ → Bool
+Led e options o = eqb (expr_of (lead o)) e && eqb (options_of (lead o)) options
 
-  module _ (options : ℕ) where
-    pub leads-hit : (eqb (expr_of key) e && eqb (options_of key) options) ≡ true → leads_with (drop i (decode g)) e options ≡ true
-    unfolding leads_with
-    leads-hit q = rw (drop-cons (decode g) i [] (rw (length-decode g) l), ← k, q)
+-- some ordering is
+pub leads-any : (os : List (List ℕ)) (e options : ℕ) → list_any (Led e options) os ≡ leads_with os e options
+unfolding leads_with
+leads-any [] e options = refl
+leads-any (o ∷ os) e options = rw (leads-any os e options)
 
-    pub leads-on : (eqb (expr_of key) e && eqb (options_of key) options) ≡ false → leads_with (drop i (decode g)) e options ≡ leads_with (drop (i + 1) (decode g)) e options
-    unfolding leads_with
-    leads-on q = rw (drop-cons (decode g) i [] (rw (length-decode g) l), ← k, q, add-one i)
+-- the options of the first key that leads an ordering and has the expression
+pub options-first : (os : List (List ℕ)) (e : ℕ) → option_map options_of (find (λ k. eqb (expr_of k) e) (map lead os)) ≡ get_options os e
+unfolding get_options
+options-first [] e = refl
+options-first (o ∷ os) e = go (eqb (expr_of (lead o)) e) (options-first os e)
+  where
+    go : (b : Bool) → option_map options_of (find (λ k. eqb (expr_of k) e) (map lead os)) ≡ get_options os e
+        → option_map options_of (if b then Some (lead o) else find (λ k. eqb (expr_of k) e) (map lead os)) ≡ (if b then Some (options_of (lead o)) else get_options os e)
+    go true h = refl
+    go false h = h
 
--- the end of each search
-module _ (g : Orderings) (e i : ℕ) (l : g.count ≤ i) where
-  pub options_end : get_options (drop i (decode g)) e ≡ none
-  unfolding get_options
-  options_end = rw (drop_of_length-le (decode g) {i = i} (rw (length-decode g) l))
+-- the orderings of a list by their places
+pub places : (g : Orderings) → table (ordering_at (decode g)) g.count ≡ decode g
+places g = sym (table_is (ordering_at (decode g)) g.count (decode g) [] (length-decode g) (λ i l. refl))
 
-  pub leads_end : (options : ℕ) → leads_with (drop i (decode g)) e options ≡ false
-  unfolding leads_with
-  leads_end options = rw (drop_of_length-le (decode g) {i = i} (rw (length-decode g) l))
+-- the keys that lead them
+pub leading-keys : (g : Orderings) → table (λ i. lead (ordering_at (decode g) i)) g.count ≡ map lead (decode g)
+leading-keys g = sym (map-table lead (ordering_at (decode g)) g.count) ∙ ap (map lead) (places g)

@@ -1,12 +1,11 @@
 -- The two questions on a list of orderings, as document 01 has them ("Orderings").
-use Rattle.std.specs.Prelude.{ℕ, Bool, false, ◌&&◌, ◌||◌, List, [], ◌∷◌, eqb, get_or, if◌then◌else◌}
-use Rattle.std.proofs.Math.Option.{Option, none, some}
+use Rattle.std.specs.Prelude.{ℕ, Bool, false, ◌&&◌, ◌||◌, List, [], ◌∷◌, eqb, get_or, if◌then◌else◌, Option, None, Some}
 use Rattle.orderings.specs.Ordering.{expr_of, options_of}
 
 -- the options of the first ordering that an expression leads
 unfoldable pub get_options : List (List ℕ) → ℕ → Option ℕ
-get_options [] e = none
-get_options (o ∷ os) e = if eqb (expr_of (get_or o 0 0)) e then some (options_of (get_or o 0 0)) else get_options os e
+get_options [] e = None
+get_options (o ∷ os) e = if eqb (expr_of (get_or o 0 0)) e then Some (options_of (get_or o 0 0)) else get_options os e
 
 -- an expression leads an ordering with these options
 unfoldable pub leads_with : List (List ℕ) → ℕ → ℕ → Bool

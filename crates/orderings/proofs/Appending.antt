@@ -1,5 +1,7 @@
 -- Lists with more orderings at their end: what holds of each, orderings of at most 16 keys, the struct with one more, and what a call that makes a list answers.
-use Rattle.std.specs.Prelude.{if◌then◌else◌}
+use Rattle.std.specs.Prelude.{if◌then◌else◌, Result, Ok, Err}
+use Rattle.arena.specs.declared.Refusal.{Refusal}
+use Rattle.arena.specs.declared.Refusal.TheVariants.{TooLarge}
 use Prim.Native.Nat.{ℕ, suc, ◌+◌, ◌-◌, ◌<◌, ◌≤◌, zero}
 use mathlib.Core.Bool.{Bool, true, false, ◌&&◌}
 use mathlib.Core.List.{List, [], ◌∷◌, ◌++◌, map, map-append}
@@ -13,13 +15,14 @@ use Rattle.laws.specs.Tests.{each}
 use Rattle.orderings.specs.Lists.{ordering_at}
 use Rattle.orderings.specs.Layout.{row, encode, decode}
 use Rattle.orderings.specs.Calls.{fits, listed}
-use Rattle.orderings.specs.Inner.{Held, Short, appended, all_short}
+use Rattle.orderings.specs.Inner.{Held, Short, appended, all_short, made}
 use Rattle.orderings.specs.declared.Ordering.{Ordering}
 use Rattle.orderings.specs.declared.Orderings.{Orderings}
 use Rattle.orderings.specs.declared.Listed.{Listed}
 use Rattle.orderings.proofs.Codec.{decode-encode, length-decode}
 use native.Mathlib.Decide.{ℕ_discrete}
 use Rattle.laws.proofs.Booleans.{true_not_false}
+use Rattle.arena.proofs.Refusals.{ok-not-err}
 use Rattle.laws.proofs.Each.{each_all, each_holds, each_fails}
 
 -- what holds of each of two lists holds of each of both
@@ -103,22 +106,74 @@ short-all g s i l = s.short i (omega (arith, length-decode g))
 pub held_all : (g : Orderings) → Held g → AllShort (decode g)
 held_all g h i l = (h.good.each i l).few
 
-abbrev pub told : ℕ → Orderings → Listed
-told k g = record { number = k; list = g }
+abbrev pub told : Result (Unit {0}) Refusal → Orderings → Listed
+told d g = record { done = d; list = g }
 
 -- the answers of a function that makes a list
-pub listed-made : (g : Orderings) (os : List (List ℕ)) → length os ≤ 32 → all_short os ≡ true → listed g os ≡ told 0 (encode os)
+pub listed-made : (g : Orderings) (os : List (List ℕ)) → length os ≤ 32 → all_short os ≡ true → listed g os ≡ told (Ok tt) (encode os)
 unfolding listed fits all_short
 listed-made g os l e = rw (le-leb (length os) 32 l, e)
 
-pub listed-many : (g : Orderings) (os : List (List ℕ)) → 32 < length os → listed g os ≡ told 5 g
+pub listed-many : (g : Orderings) (os : List (List ℕ)) → 32 < length os → listed g os ≡ told (Err TooLarge) g
 unfolding listed fits
 listed-many g os l = rw (lt-leb (length os) 32 l)
 
-pub listed-long : (g : Orderings) (os : List (List ℕ)) → all_short os ≡ false → listed g os ≡ told 5 g
+pub listed-long : (g : Orderings) (os : List (List ℕ)) → all_short os ≡ false → listed g os ≡ told (Err TooLarge) g
 unfolding listed fits all_short
 listed-long g os e = go (leb (length os) 32)
   where
-    go : (b : Bool) → (if b && each (λ i. leb (length (ordering_at os i)) 16) (length os) then told 0 (encode os) else told 5 g) ≡ told 5 g
+    go : (b : Bool) → (if b && each (λ i. leb (length (ordering_at os i)) 16) (length os) then told (Ok tt) (encode os) else told (Err TooLarge) g) ≡ told (Err TooLarge) g
     go true = rw e
     go false = refl
+
+and_false : (b : Bool) → (b && false) ≡ false
+and_false true = refl
+and_false false = refl
+
+-- what a refused list says of a call
+abbrev pub void : Result Orderings Refusal → Result (Unit {0}) Refusal
+void (Ok list) = Ok tt
+void (Err e) = Err e
+
+-- a list that was made: it fits, it has too many orderings, or one that is too long
+module _ (os : List (List ℕ)) where
+  pub made-fits : length os ≤ 32 → all_short os ≡ true → made os ≡ Ok (encode os)
+  unfolding made fits all_short
+  made-fits l e = rw (le-leb (length os) 32 l, e)
+
+  pub made-many : 32 < length os → made os ≡ Err TooLarge
+  unfolding made fits
+  made-many l = rw (lt-leb (length os) 32 l)
+
+  pub made-long : all_short os ≡ false → made os ≡ Err TooLarge
+  unfolding made fits all_short
+  made-long e = rw (e, and_false (leb (length os) 32))
+
+  pub made-yes : fits os ≡ true → made os ≡ Ok (encode os)
+  unfolding made
+  made-yes f = rw f
+
+  pub made-no : fits os ≡ false → made os ≡ Err TooLarge
+  unfolding made
+  made-no f = rw f
+
+  pub made-done : (list : Orderings) → Ok list ≡ made os → (fits os ≡ true) × (list ≡ encode os)
+  made-done list q = go (fits os) refl
+    where
+      go : (b : Bool) → fits os ≡ b → (fits os ≡ true) × (list ≡ encode os)
+      go true f = let e : Ok list ≡ Ok (encode os) = q ∙ made-yes f in (f, cc)
+      go false f = absurd (ok-not-err (q ∙ made-no f))
+
+-- and so does the call that answers it
+module _ (g : Orderings) (os : List (List ℕ)) where
+  pub listed-refused : (e : Refusal) → Err e ≡ made os → told (Err e) g ≡ listed g os
+  unfolding listed
+  listed-refused e q = go (fits os) refl
+    where
+      go : (b : Bool) → fits os ≡ b → told (Err e) g ≡ listed g os
+      go true f = absurd (ok-not-err (sym (q ∙ made-yes os f)))
+      go false f = ap (λ (x : Result Orderings Refusal). told (void x) g) (q ∙ made-no os f) ∙ sym (rw f)
+
+  pub listed-done : (list : Orderings) → Ok list ≡ made os → told (Ok tt) list ≡ listed g os
+  unfolding listed
+  listed-done list q = let w = made-done os list q in ap (told (Ok tt)) w.1 ∙ sym (rw w.0)

@@ -2,7 +2,7 @@
 use Prim.Native.Nat.{ℕ, zero, suc, ◌+◌, ◌-◌, ◌<◌, ◌≤◌}
 use mathlib.Core.Bool.{Bool, true, false, ◌&&◌}
 use mathlib.Core.List.{List, [], ◌∷◌}
-use mathlib.Core.Path.{◌≡◌, refl, subst}
+use mathlib.Core.Path.{◌≡◌, refl}
 use native.Mathlib.Omega.{arith}
 use borrow.Author.Tests.{leb-true}
 use denote.Array.{each as owned}
@@ -65,10 +65,6 @@ InsideAt n g i = Inside n (place_in g i)
 -- what the code reads at a place is what stands there
 pub read_is : (g : Orderings) → Sized g → (i : ℕ) → i < 32 → get_or g.list i no_place ≡ place_in g i
 read_is g z i l = get_d_any g.list i no_place (row []) (omega (arith, z.places))
-
--- so a test of what it reads is a test of the place
-pub at_place : (f : Ordering → Bool) (b : Bool) (g : Orderings) → Sized g → (i : ℕ) → i < 32 → f (get_or g.list i no_place) ≡ b → f (place_in g i) ≡ b
-at_place f b g z i l e = subst (λ (r : Ordering). f r ≡ b) (read_is g z i l) e
 
 -- the parts of three and of four tests
 pub three : (a b c : Bool) → (a && b && c) ≡ true → (a ≡ true) × (b ≡ true) × (c ≡ true)

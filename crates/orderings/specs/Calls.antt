@@ -1,8 +1,10 @@
 -- What each public call answers, over the lent cells and the struct, in document 01's order of refusals.
 -- A refusal is a case that hands back what came in.
-use Rattle.std.specs.Prelude.{ℕ, Bool, ◌&&◌, List, [], eqb, leb, length, if◌then◌else◌}
+use Rattle.std.specs.Prelude.{ℕ, Bool, ◌&&◌, List, [], eqb, leb, length, if◌then◌else◌, Ok, Err}
 use Rattle.laws.specs.Tests.{each}
 use Rattle.arena.specs.Layout.{count, lawful}
+use Rattle.arena.specs.Refusals.{refusal}
+use Rattle.arena.specs.declared.Refusal.TheVariants.{TooLarge}
 use Rattle.orderings.specs.Lists.{ordering_at}
 use Rattle.orderings.specs.Layout.{encode, decode, lawful_list, keys_inside}
 use Rattle.orderings.specs.declared.Orderings.{Orderings}
@@ -32,8 +34,8 @@ two_number cells g h =
 
 -- a list that was made, or 5 where it is too large, and then the list that was given
 unfoldable pub listed : Orderings → List (List ℕ) → Listed
-listed g os = if fits os then record { number = 0; list = encode os } else record { number = 5; list = g }
+listed g os = if fits os then record { done = Ok tt; list = encode os } else record { done = Err TooLarge; list = g }
 
 -- an empty list
 unfoldable pub clear_answer : List ℕ → Orderings → Listed
-clear_answer cells g = ask_list (λ k. record { number = k; list = g }) (λ os. record { number = 0; list = encode [] }) cells g
+clear_answer cells g = ask_list (λ k. record { done = Err (refusal k); list = g }) (λ os. record { done = Ok tt; list = encode [] }) cells g

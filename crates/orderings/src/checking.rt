@@ -1,13 +1,14 @@
 // The check of a lent list: document 01's rule 11, then 1.
 ghost use Rattle.std.specs.Prelude.{◌&&◌, ◌≡◌, ◌≤◌, ◌<◌, ◌+◌, ◌-◌, ltb, get_or};
 ghost use Rattle.laws.specs.Tests.{each};
-ghost use Rattle.arena.specs.Layout.{count, lawful};
+ghost use Rattle.arena.specs.Refusals.{outcome};
 ghost use Rattle.orderings.specs.Ordering.{expr_of};
 ghost use Rattle.orderings.specs.Layout.{place_in, fresh_key, rest_unused, lawful_ordering, unused_ordering, lawful_list, keys_inside};
 ghost use Rattle.orderings.specs.Calls.{list_number, two_number};
 ghost use Rattle.orderings.specs.Inner.{Lawful};
 
 use crate::{Ordering, Orderings};
+use arena::Refusal;
 use arena::cells::node_count;
 use arena::checking::lawful_arena;
 
@@ -16,15 +17,7 @@ fn fresh_key(o: Ordering, k: usize) -> bool
     requires { k < 16 }
     ensures { result ≡ fresh_key o.keys k }
 {
-    let e = o.keys[k] / 4;
-    let mut i = 0;
-    while i < k {
-        if o.keys[i] / 4 == e {
-            return false;
-        }
-        i += 1;
-    }
-    true
+    (0..k).all(|i| expr_of(o.keys[i]) != expr_of(o.keys[k]))
 }
 
 // No expression stands twice.
@@ -32,15 +25,7 @@ fn keys_fresh(o: Ordering) -> bool
     requires { o.size ≤ 16 }
     ensures { result ≡ each (λ k. fresh_key o.keys k) o.size }
 {
-    let n = o.size;
-    let mut k = 0;
-    while k < n {
-        if !fresh_key(o, k) {
-            return false;
-        }
-        k += 1;
-    }
-    true
+    (0..o.size).all(|k| fresh_key(o, k))
 }
 
 // The places for keys after those that are used are 0.
@@ -48,41 +33,23 @@ fn rest_unused(o: Ordering) -> bool
     requires { o.size ≤ 16 }
     ensures { result ≡ rest_unused o }
 {
-    let n = o.size;
-    let mut k = 0;
-    while k < 16 - n {
-        if o.keys[n + k] != 0 {
-            return false;
-        }
-        k += 1;
-    }
-    true
+    (0..16 - o.size).all(|k| o.keys[o.size + k] == 0)
 }
 
 // An ordering: 1 to 16 keys, no expression twice, unused places 0.
+#[tactic(auto, unfolding(crate::specs::Layout::lawful_ordering))]
 fn lawful_ordering(o: Ordering) -> bool
     ensures { result ≡ lawful_ordering o }
 {
-    if o.size == 0 {
-        return false;
-    }
-    if 16 < o.size {
-        return false;
-    }
-    if !keys_fresh(o) {
-        return false;
-    }
-    rest_unused(o)
+    0 < o.size && o.size <= 16 && keys_fresh(o) && rest_unused(o)
 }
 
 // An unused place.
+#[tactic(auto, unfolding(crate::specs::Layout::unused_ordering))]
 fn unused_ordering(o: Ordering) -> bool
     ensures { result ≡ unused_ordering o }
 {
-    if o.size != 0 {
-        return false;
-    }
-    rest_unused(o)
+    o.size == 0 && rest_unused(o)
 }
 
 // Each of the orderings is lawful.
@@ -90,15 +57,7 @@ fn orderings_lawful(g: Orderings) -> bool
     requires { g.count ≤ 32 }
     ensures { result ≡ each (λ i. lawful_ordering (place_in g i)) g.count }
 {
-    let n = g.count;
-    let mut i = 0;
-    while i < n {
-        if !lawful_ordering(g.list[i]) {
-            return false;
-        }
-        i += 1;
-    }
-    true
+    (0..g.count).all(|i| lawful_ordering(g.list[i]))
 }
 
 // Each of the other places is unused.
@@ -106,35 +65,23 @@ fn places_unused(g: Orderings) -> bool
     requires { g.count ≤ 32 }
     ensures { result ≡ each (λ i. unused_ordering (place_in g (g.count + i))) (32 - g.count) }
 {
-    let n = g.count;
-    let mut i = 0;
-    while i < 32 - n {
-        if !unused_ordering(g.list[n + i]) {
-            return false;
-        }
-        i += 1;
-    }
-    true
+    (0..32 - g.count).all(|i| unused_ordering(g.list[g.count + i]))
 }
 
 // The struct is a list of orderings.
+#[tactic(auto, unfolding(crate::specs::Layout::lawful_list))]
 pub fn lawful_list(g: Orderings) -> bool
     ensures { result ≡ lawful_list g }
 {
-    if 32 < g.count {
-        return false;
-    }
-    if !orderings_lawful(g) {
-        return false;
-    }
-    places_unused(g)
+    g.count <= 32 && orderings_lawful(g) && places_unused(g)
 }
 
 // The expression of a key, as an index.
+#[tactic(auto, unfolding(crate::specs::Ordering::expr_of))]
 pub fn expr_of(key: u16) -> usize
     ensures { result ≡ expr_of key }
 {
-    (key / 4) as usize
+    usize::from(key / 4)
 }
 
 // The expressions of an ordering's keys are below n.
@@ -142,15 +89,7 @@ fn exprs_below(o: Ordering, n: usize) -> bool
     requires { o.size ≤ 16 }
     ensures { result ≡ each (λ k. ltb (expr_of (get_or o.keys k 0)) n) o.size }
 {
-    let m = o.size;
-    let mut k = 0;
-    while k < m {
-        if n <= expr_of(o.keys[k]) {
-            return false;
-        }
-        k += 1;
-    }
-    true
+    (0..o.size).all(|k| expr_of(o.keys[k]) < n)
 }
 
 // The expressions of all keys are below n.
@@ -158,53 +97,35 @@ pub fn keys_below(g: Orderings, n: usize) -> bool
     requires { Lawful g }
     ensures { result ≡ keys_inside n g }
 {
-    let m = g.count;
-    let mut i = 0;
-    while i < m {
-        if !exprs_below(g.list[i], n) {
-            return false;
-        }
-        i += 1;
-    }
-    true
+    (0..g.count).all(|i| exprs_below(g.list[i], n))
 }
 
 // The check of a lent list over a lent arena.
-pub fn check_list(cells: &[u32; 11265], g: Orderings) -> u32
-    ensures { result ≡ list_number cells.now g }
+#[tactic(auto, unfolding(crate::specs::Calls::list_number, arena::specs::Refusals::outcome, arena::specs::Refusals::refusal))]
+pub fn check_list(cells: &[u32; 11265], g: Orderings) -> Result<(), Refusal>
+    ensures { result ≡ outcome (list_number cells.now g) }
 {
-    if !lawful_arena(cells) {
-        return 11;
-    }
-    if !lawful_list(g) {
-        return 11;
+    if !(lawful_arena(cells) && lawful_list(g)) {
+        return Err(Refusal::BadState);
     }
     let n = node_count(cells);
     if !keys_below(g, n) {
-        return 1;
+        return Err(Refusal::UnknownExpression);
     }
-    0
+    Ok(())
 }
 
 // The check of two lent lists over a lent arena.
-pub fn check_two(cells: &[u32; 11265], g: Orderings, h: Orderings) -> u32
-    ensures { result ≡ two_number cells.now g h }
+#[tactic(auto, unfolding(crate::specs::Calls::two_number, arena::specs::Refusals::outcome, arena::specs::Refusals::refusal))]
+pub fn check_two(cells: &[u32; 11265], g: Orderings, h: Orderings) -> Result<(), Refusal>
+    ensures { result ≡ outcome (two_number cells.now g h) }
 {
-    if !lawful_arena(cells) {
-        return 11;
-    }
-    if !lawful_list(g) {
-        return 11;
-    }
-    if !lawful_list(h) {
-        return 11;
+    if !(lawful_arena(cells) && lawful_list(g) && lawful_list(h)) {
+        return Err(Refusal::BadState);
     }
     let n = node_count(cells);
-    if !keys_below(g, n) {
-        return 1;
+    if !(keys_below(g, n) && keys_below(h, n)) {
+        return Err(Refusal::UnknownExpression);
     }
-    if !keys_below(h, n) {
-        return 1;
-    }
-    0
+    Ok(())
 }

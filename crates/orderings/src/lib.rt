@@ -9,12 +9,15 @@ pub mod making;
 pub mod pushing;
 
 ghost use Rattle.std.specs.Prelude.{◌≡◌};
+ghost use Rattle.arena.specs.Refusals.{outcome};
 ghost use Rattle.orderings.specs.Calls.{list_number, clear_answer};
 
+use arena::Refusal;
 use checking::check_list;
 use making::{no_orderings, refusal};
 
 // An ordering: how many keys it has, and the keys; unused places are 0.
+// Flat arrays with counts: a state crosses to its callers as these numbers, and the project has no heap.
 #[derive(Clone, Copy)]
 pub struct Ordering {
     pub size: usize,
@@ -22,29 +25,23 @@ pub struct Ordering {
 }
 
 // A list of orderings: how many there are, and the orderings; unused places are empty orderings.
+// Flat arrays with counts: a state crosses to its callers as these numbers, and the project has no heap.
 #[derive(Clone, Copy)]
 pub struct Orderings {
     pub count: usize,
     pub list: [Ordering; 32],
 }
 
-// What a call that makes a list answers: the refusal's number or 0, and the list; beside a refusal the list that was given.
+// What a call that makes a list answers: whether it is done, and the list; beside a refusal the list that was given.
 #[derive(Clone, Copy)]
 pub struct Listed {
-    pub number: u32,
+    pub done: Result<(), Refusal>,
     pub list: Orderings,
 }
 
-// What extending an ordering answers: whether it has at most 16 keys, and the ordering, an empty one where it has more.
-#[derive(Clone, Copy)]
-pub struct Extended {
-    pub fits: bool,
-    pub ordering: Ordering,
-}
-
-// The check of a lent list: 0, or 11 or 1, whichever is first.
-pub fn check(cells: &[u32; 11265], list: Orderings) -> u32
-    ensures { result ≡ list_number cells.now list }
+// The check of a lent list: done, or refusal 11 or 1, whichever is first.
+pub fn check(cells: &[u32; 11265], list: Orderings) -> Result<(), Refusal>
+    ensures { result ≡ outcome (list_number cells.now list) }
 {
     check_list(cells, list)
 }
@@ -53,9 +50,11 @@ pub fn check(cells: &[u32; 11265], list: Orderings) -> u32
 pub fn clear(cells: &[u32; 11265], list: Orderings) -> Listed
     ensures { result ≡ clear_answer cells.now list }
 {
-    let number = check_list(cells, list);
-    if number != 0 {
-        return refusal(number, list);
+    match check_list(cells, list) {
+        Ok(()) => Listed {
+            done: Ok(()),
+            list: no_orderings(),
+        },
+        Err(why) => refusal(why, list),
     }
-    refusal(0, no_orderings())
 }

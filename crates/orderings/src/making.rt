@@ -1,9 +1,10 @@
-// What lists are made of: an empty place, an empty list, one ordering more; and a list beside a number.
+// What lists are made of: an empty place, an empty list, one ordering more; and a list beside a refusal.
 ghost use Rattle.std.specs.Prelude.{[], ◌≡◌, ◌<◌};
 ghost use Rattle.orderings.specs.Layout.{row};
 ghost use Rattle.orderings.specs.Inner.{Short, empties, appended};
 
 use crate::{Listed, Ordering, Orderings};
+use arena::Refusal;
 
 // No ordering: what an unused place holds.
 pub fn nothing() -> Ordering
@@ -37,12 +38,12 @@ pub fn append(g: Orderings, o: Ordering) -> Orderings
     more
 }
 
-// A list beside the number of a refusal.
-pub fn refusal(number: u32, list: Orderings) -> Listed
-    ensures { result ≡ record { number = number; list = list } }
+// A list beside a refusal.
+pub fn refusal(why: Refusal, list: Orderings) -> Listed
+    ensures { result ≡ record { done = Err why; list = list } }
 {
     Listed {
-        number: number,
-        list: list,
+        done: Err(why),
+        list,
     }
 }

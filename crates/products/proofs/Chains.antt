@@ -1,12 +1,12 @@
 -- The functions that make an order and a choice in it: the table of factorials, the layout of an order, and orderings one behind the other.
 use Prim.Native.Nat.{ℕ, zero, suc, ◌+◌, ◌-◌, ◌<◌, ◌≤◌, ◌/◌, ◌%◌}
-use mathlib.Core.Bool.{Bool, true, false}
+use mathlib.Core.Bool.{Bool, true}
 use mathlib.Core.List.{List, [], ◌∷◌, ◌++◌, map}
 use mathlib.Core.Path.{◌≡◌, refl, sym, ap, ap₂, ◌∙◌, subst}
 use native.Mathlib.Nat.{mod-lt}
 use native.Mathlib.Numerals.{add-one}
 use native.Mathlib.Omega.{arith}
-use borrow.Author.Tests.{eqb-true, lt-ltb, le-ltb}
+use borrow.Author.Tests.{eqb-true}
 use lib.Dec.{eqb}
 use lib.ListN.{length, get_or, set, drop, replicate, length-append, length-replicate, length-map, drop_of_length-le}
 use lib.Seq.{set_at, append_snoc, drop-cons}
@@ -19,9 +19,10 @@ use Rattle.orderings.specs.Lists.{ordering_at}
 use Rattle.orderings.specs.Layout.{row, keys_of}
 use Rattle.orderings.specs.Inner.{ShortOrdering, extended_of}
 use Rattle.orderings.specs.declared.Ordering.{Ordering}
-use Rattle.orderings.specs.declared.Extended.{Extended}
+use Rattle.std.specs.Prelude.{Ok, Err}
+use Rattle.arena.specs.declared.Refusal.{Refusal}
 use Rattle.orderings.proofs.Codec.{fill_after, get_d_any, no_place, keys-row}
-use Rattle.orderings.proofs.Extending.{answer, fits-here, fits_not, fitting, unfitting, short-size, row-short, extended-grows}
+use Rattle.orderings.proofs.Extending.{fits-here, fits_not, fitting, unfitting, short-size, row-short, extended-grows}
 use Rattle.products.specs.Orders.{passing, orders}
 use Rattle.products.specs.Generate.{chained, in_all_orders}
 use Rattle.products.specs.Inner.{choice_row, choice_of, Chosen, order_row, places_of, Placed, factorial}
@@ -46,16 +47,6 @@ all_right = refl
 -- so each entry is the factorial of its place
 pub factorial-is : (n : ℕ) → n ≤ 6 → get_or factorials n 0 ≡ factorial n
 factorial-is n l = eqb-true (get_or factorials n 0) (factorial n) (each_holds right 7 n all_right (omega arith))
-
--- a place before the one that is passed over stays
-pub passing-before : (i j : ℕ) → j < i → j ≡ passing i j
-unfolding passing
-passing-before i j l = rw (lt-ltb j i l)
-
--- one from there on goes one further
-pub passing-after : (i j : ℕ) → i ≤ j → j + 1 ≡ passing i j
-unfolding passing
-passing-after i j l = rw (le-ltb j i l)
 
 -- place i of an order, where another place is passed over
 abbrev passed : Order → ℕ → ℕ → ℕ
@@ -214,16 +205,16 @@ module _ (os : List (List ℕ)) where
   }
 
   module _ (k : ℕ) (out : Ordering) (x : Chaining os k out) where
-    module _ (e : Extended) (p : Ordering) (l : k < length os) (s : get_or os k [] ≡ keys_of p) (q : e ≡ extended_of (extended (keys_of out) (keys_of p))) where
+    module _ (p : Ordering) (l : k < length os) (s : get_or os k [] ≡ keys_of p) where
       -- one more
       next : chained os ≡ chained (extended (keys_of out) (keys_of p) ∷ drop (k + 1) os)
       next = x.goes ∙ chained-step (keys_of out) os k l ∙ ap (λ (z : List ℕ). chained (extended (keys_of out) z ∷ drop (k + 1) os)) s
 
       -- the loop goes on
-      pub chaining_on : e.fits ≡ true → Chaining os (k + 1) e.ordering
-      chaining_on t =
+      pub chaining_on : (more : Ordering) → Ok more ≡ extended_of (extended (keys_of out) (keys_of p)) → Chaining os (k + 1) more
+      chaining_on more q =
           let ks : List ℕ = extended (keys_of out) (keys_of p) in
-          let f = fitting e ks q t in
+          let f = fitting ks more q in
           record {
             below = omega arith;
             short = subst ShortOrdering (sym f.is) (row-short ks f.few);
@@ -231,18 +222,18 @@ module _ (os : List (List ℕ)) where
           }
 
       -- the loop stops where there are more than 16 keys: those behind make them no fewer
-      pub chaining_stops : e.fits ≡ false → e ≡ extended_of (chained os)
-      chaining_stops t =
+      pub chaining_stops : (why : Refusal) → Err why ≡ extended_of (extended (keys_of out) (keys_of p)) → Err why ≡ extended_of (chained os)
+      chaining_stops why q =
           let ks : List ℕ = extended (keys_of out) (keys_of p) in
-          let a = unfitting e ks q t in
+          let a = unfitting ks why q in
           let b = ap (λ (z : List ℕ). length z) next in
-          q ∙ fits_not ks a ∙ sym (fits_not (chained os) (omega (arith, chained-grows ks (drop (k + 1) os))))
+          ap Err a.1 ∙ sym (fits_not (chained os) (omega (arith, a.0, chained-grows ks (drop (k + 1) os))))
 
     -- the loop ends
-    pub chaining_ends : length os ≤ k → answer true out ≡ extended_of (chained os)
+    pub chaining_ends : length os ≤ k → Ok out ≡ extended_of (chained os)
     chaining_ends l =
         sym (ap extended_of (x.goes ∙ chained-done (keys_of out) os k l)
-        ∙ fits-here (keys_of out) (short-size out x.short) ∙ ap (answer true) x.short.coded)
+        ∙ fits-here (keys_of out) (short-size out x.short) ∙ ap Ok x.short.coded)
 
 -- the orderings of a choice in an order
 abbrev pub in_order : Choice → Order → List (List ℕ)

@@ -1,6 +1,5 @@
 -- Where lists begin and how many orderings they have, the number of choices from a list on, and a choice as it is made, list after list.
 use Prim.Native.Nat.{ℕ, zero, suc, ◌+◌, ◌-◌, ◌*◌, ◌<◌, ◌≤◌, ◌/◌, ◌%◌}
-use mathlib.Core.Bool.{true, false}
 use mathlib.Core.List.{List, [], ◌∷◌, ◌++◌, map, map-append}
 use mathlib.Core.Path.{◌≡◌, refl, sym, ap, ap₂, ◌∙◌, subst}
 use native.Mathlib.Decide.{ℕ_discrete}
@@ -21,7 +20,8 @@ use Rattle.products.specs.Inner.{start_of, length_of, lengths_of, list_of, lists
 use Rattle.products.specs.declared.Shape.{Shape}
 use Rattle.products.specs.declared.Lists.{Lists}
 use Rattle.products.specs.declared.Choice.{Choice}
-use Rattle.products.specs.declared.Counted.{Counted}
+use Rattle.std.specs.Prelude.{Ok, Err}
+use Rattle.arena.specs.declared.Refusal.TheVariants.{TooLarge}
 use Rattle.products.proofs.ProductLaws.{product_at, choice_length, factor_some}
 use Rattle.products.proofs.ListLaws.{lists_length, lists_at, lists_lengths}
 use Rattle.products.specs.contracts.Lists.{the_row}
@@ -149,15 +149,15 @@ factorial-few (suc (suc (suc (suc (suc (suc (suc n))))))) l = absurd (omega arit
 
 module _ (s : Shape) (h : Shaped s) where
   -- where they are, the number of choices is told
-  pub count_fits : (total : ℕ) → total ≡ choices_from s 0 → factorial s.size * total ≤ 1024 → ◌≡◌ {A = Counted} (record { fits = true; count = total }) (counted (lengths_of s))
+  pub count_fits : (total : ℕ) → total ≡ choices_from s 0 → factorial s.size * total ≤ 1024 → Ok total ≡ counted (lengths_of s)
   unfolding counted
   count_fits total e b =
       let k : factorial (length (lengths_of s)) * times_all (lengths_of s) ≤ 1024 =
       rw (lengths_count s) (omega (arith, ap (λ (n : ℕ). factorial s.size * n) e)) in
-      rw (le-leb (factorial (length (lengths_of s)) * times_all (lengths_of s)) 1024 k) (ap (λ (n : ℕ). record { fits = true; count = n }) e)
+      rw (le-leb (factorial (length (lengths_of s)) * times_all (lengths_of s)) 1024 k) (ap Ok e)
 
   -- where those from a list on are more already, that they are more
-  pub count-over : (j total : ℕ) → total ≡ choices_from s j → 1024 < factorial s.size * total → ◌≡◌ {A = Counted} (record { fits = false; count = 0 }) (counted (lengths_of s))
+  pub count-over : (j total : ℕ) → total ≡ choices_from s j → 1024 < factorial s.size * total → Err TooLarge ≡ counted (lengths_of s)
   unfolding counted
   count-over j total e b =
       let k : 1024 < factorial (length (lengths_of s)) * times_all (lengths_of s) =

@@ -1,7 +1,7 @@
 -- The definitions of specs/, tried on small maps by computing them.
 use Prim.Native.Nat.{ℕ}
 use mathlib.Core.List.{List, [], ◌∷◌}
-use mathlib.Core.Option.{some}
+use Rattle.std.specs.Prelude.{Some}
 use mathlib.Core.Path.{◌≡◌, refl}
 use lib.ListN.{length}
 use Rattle.laws.specs.Tests.{first, first_from}
@@ -13,7 +13,7 @@ use Rattle.products.specs.Generate.{lists, with_list, contributing, chained, in_
 
 -- the text's example: a depends on c, b on d; of a and b
 abbrev text : List Dependent
-text = record { key = 0; target = some 0; dependencies = 8 ∷ [] } ∷ record { key = 4; target = some 4; dependencies = 13 ∷ [] } ∷ record { key = 8; target = some 8; dependencies = [] } ∷ record { key = 13; target = some 13; dependencies = [] } ∷ []
+text = record { key = 0; target = Some 0; dependencies = 8 ∷ [] } ∷ record { key = 4; target = Some 4; dependencies = 13 ∷ [] } ∷ record { key = 8; target = Some 8; dependencies = [] } ∷ record { key = 13; target = Some 13; dependencies = [] } ∷ []
 
 text-lists : contributing text (0 ∷ 4 ∷ []) ≡ lists (((8 ∷ []) ∷ []) ∷ ((13 ∷ []) ∷ []) ∷ [])
 unfolding contributing with_list prefix_orderings over_start construct_orderings constructed pairs at_place place_of first first_from at_entry at_target over_dependencies is_seen go_on

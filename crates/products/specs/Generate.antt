@@ -1,6 +1,5 @@
 -- The orderings of several dependencies: the prefix orderings of each that has some, one of each in all ways, and each such choice in all orders.
-use Rattle.std.specs.Prelude.{ℕ, List, [], ◌∷◌, ◌++◌, map, length, get_or}
-use Rattle.std.proofs.Math.Option.{some}
+use Rattle.std.specs.Prelude.{ℕ, List, [], ◌∷◌, ◌++◌, map, length, get_or, Some}
 use Rattle.orderings.specs.Ordering.{extended}
 use Rattle.dependencies.specs.Map.{Dependent, with_dependency}
 use Rattle.enumeration.specs.Walk.{Walk, found, stopped, prefix_orderings}
@@ -9,7 +8,7 @@ use Rattle.products.specs.Orders.{orders, product}
 -- the keys that are given, each once
 unfoldable pub once_each : List ℕ → List ℕ → List ℕ
 once_each ks [] = ks
-once_each ks (d ∷ ds) = once_each (with_dependency ks (some d)) ds
+once_each ks (d ∷ ds) = once_each (with_dependency ks (Some d)) ds
 
 -- lists of prefix orderings, or where a walk stopped
 pub data Lists : Type 0 where

@@ -1,5 +1,5 @@
 -- What the inner functions ask and promise each other, here and in the crates above. The public contracts cite nothing of this file.
-use Rattle.std.specs.Prelude.{ℕ, zero, suc, ◌+◌, ◌-◌, ◌*◌, ◌<◌, ◌≤◌, true, false, List, [], ◌∷◌, ◌++◌, map, ◌≡◌, leb, length, get_or, replicate, if◌then◌else◌}
+use Rattle.std.specs.Prelude.{ℕ, zero, suc, ◌+◌, ◌-◌, ◌*◌, ◌<◌, ◌≤◌, List, [], ◌∷◌, ◌++◌, map, ◌≡◌, leb, length, get_or, replicate, if◌then◌else◌, Result, Ok, Err}
 use Rattle.laws.specs.Lists.{table}
 use Rattle.orderings.specs.Layout.{row, keys_of}
 use Rattle.orderings.specs.Inner.{ShortOrdering}
@@ -7,7 +7,8 @@ use Rattle.products.specs.declared.Shape.{Shape}
 use Rattle.products.specs.declared.Lists.{Lists}
 use Rattle.products.specs.declared.Choice.{Choice}
 use Rattle.products.specs.declared.Order.{Order}
-use Rattle.products.specs.declared.Counted.{Counted}
+use Rattle.arena.specs.declared.Refusal.{Refusal}
+use Rattle.arena.specs.declared.Refusal.TheVariants.{TooLarge}
 
 -- all orderings of some lists, list after list
 unfoldable pub joined : List (List (List ℕ)) → List (List ℕ)
@@ -92,8 +93,8 @@ times_all (n ∷ ns) = n * times_all ns
 abbrev pub choices : {A : Type 0} → List (List A) → ℕ
 choices ls = times_all (map length ls)
 
--- how many choices lists of some lengths give, or that their orders are more than 1,024
-unfoldable pub counted : List ℕ → Counted
+-- how many choices lists of some lengths give: none where their orders are more than 1,024
+unfoldable pub counted : List ℕ → Result ℕ Refusal
 counted ns =
-    if leb (factorial (length ns) * times_all ns) 1024 then record { fits = true; count = times_all ns }
-    else record { fits = false; count = 0 }
+    if leb (factorial (length ns) * times_all ns) 1024 then Ok (times_all ns)
+    else Err TooLarge

@@ -4,7 +4,8 @@ ghost use Rattle.products.specs.Orders.{product};
 ghost use Rattle.products.specs.Inner.{start_of, length_of, lengths_of, times_all, lists_of, Shaped, Laid, choice_row, choices, counted};
 
 use crate::ordering::factorial;
-use crate::{Choice, Counted, Lists, Shape};
+use crate::{Choice, Lists, Shape};
+use arena::Refusal;
 use orderings::making::nothing;
 
 // Where a list begins.
@@ -12,10 +13,7 @@ pub fn start_of(s: Shape, j: usize) -> usize
     requires { j ≤ 6 }
     ensures { result ≡ start_of s j }
 {
-    if j == 0 {
-        return 0;
-    }
-    s.ends[j - 1]
+    if j == 0 { 0 } else { s.ends[j - 1] }
 }
 
 // How many orderings a list has.
@@ -32,9 +30,7 @@ fn choices_from(s: Shape, j: usize) -> usize
     ensures { result ≡ times_all (drop j (lengths_of s)) }
 {
     let mut total = 1;
-    let mut i = s.size;
-    while j < i {
-        i -= 1;
+    for i in (j..s.size).rev() {
         total = length_of(s, i) * total;
     }
     total
@@ -53,38 +49,28 @@ pub fn choice_at(l: Lists, number: usize) -> Choice
         rows: [nothing(); 6],
     };
     let mut rest = number;
-    let mut j = 0;
-    while j < n {
+    for j in 0..n {
         let after = choices_from(shape, j + 1);
         let at = start_of(shape, j) + rest / after;
         let row = found.rows[at];
         out.rows[j] = row;
         rest = rest % after;
-        j += 1;
     }
     out
 }
 
-// How many choices there are, or that their orders are more than 1,024.
-pub fn count_choices(s: Shape) -> Counted
+// How many choices there are: too large where their orders are more than 1,024.
+pub fn count_choices(s: Shape) -> Result<usize, Refusal>
     requires { Shaped s }
     ensures { result ≡ counted (lengths_of s) }
 {
     let orders = factorial(s.size);
     let mut total = 1;
-    let mut j = s.size;
-    while 0 < j {
-        j -= 1;
+    for j in (0..s.size).rev() {
         total = length_of(s, j) * total;
         if 1024 < orders * total {
-            return Counted {
-                fits: false,
-                count: 0,
-            };
+            return Err(Refusal::TooLarge);
         }
     }
-    Counted {
-        fits: true,
-        count: total,
-    }
+    Ok(total)
 }

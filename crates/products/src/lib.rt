@@ -11,6 +11,7 @@ use enumeration::Found;
 use orderings::Ordering;
 
 // How many lists there are, and where each ends among the orderings of all of them.
+// Flat arrays with counts: the project works in fixed memory, without a heap.
 #[derive(Clone, Copy)]
 pub struct Shape {
     pub size: usize,
@@ -25,6 +26,7 @@ pub struct Lists {
 }
 
 // One ordering of each list: how many they are, and these; unused places are empty orderings.
+// Flat arrays with counts: the project works in fixed memory, without a heap.
 #[derive(Clone, Copy)]
 pub struct Choice {
     pub size: usize,
@@ -32,15 +34,9 @@ pub struct Choice {
 }
 
 // An order of places: how many places there are, and these; unused places are 0.
+// Flat arrays with counts: the project works in fixed memory, without a heap.
 #[derive(Clone, Copy)]
 pub struct Order {
     pub size: usize,
     pub places: [usize; 6],
-}
-
-// A number, or that what is counted is over its bound.
-#[derive(Clone, Copy)]
-pub struct Counted {
-    pub fits: bool,
-    pub count: usize,
 }

@@ -7,7 +7,8 @@ ghost use Rattle.products.specs.Generate.{chained, in_all_orders};
 ghost use Rattle.products.specs.Inner.{choice_of, Chosen, order_row, places_of, Placed, factorial as factorial_of};
 
 use crate::{Choice, Order};
-use orderings::Extended;
+use arena::Refusal;
+use orderings::Ordering;
 use orderings::pushing::extend;
 
 // The products of the numbers from 1 to n, for each n from 0 to 6.
@@ -22,14 +23,12 @@ pub fn factorial(n: usize) -> usize
 }
 
 // A place of n as a place of one more, where a place is passed over.
+#[tactic(auto, unfolding(crate::specs::Orders::passing))]
 fn pass(place: usize, j: usize) -> usize
     requires { j < 6 }
     ensures { result ≡ passing place j }
 {
-    if j < place {
-        return j;
-    }
-    j + 1
+    if j < place { j } else { j + 1 }
 }
 
 // The order of one place more that begins with a place.
@@ -43,10 +42,8 @@ fn begin_with(order: Order, place: usize) -> Order
         places: [0; 6],
     };
     out.places[0] = place;
-    let mut i = 0;
-    while i < n {
+    for i in 0..n {
         out.places[i + 1] = pass(place, order.places[i]);
-        i += 1;
     }
     out
 }
@@ -68,29 +65,19 @@ fn order_at(n: usize, number: usize) -> Order
 }
 
 // The orderings of a choice in an order, one behind the other.
-fn chain(choice: Choice, order: Order) -> Extended
+fn chain(choice: Choice, order: Order) -> Result<Ordering, Refusal>
     requires { (Chosen choice × (order.size ≡ choice.size)) × ((i : ℕ) → i < order.size → get_or order.places i 0 < choice.size) }
     ensures { result ≡ extended_of (chained (map (λ (i : ℕ). get_or (choice_of choice) i []) (places_of order))) }
 {
-    let n = order.size;
     let mut out = choice.rows[order.places[0]];
-    let mut i = 1;
-    while i < n {
-        let next = extend(out, choice.rows[order.places[i]]);
-        if !next.fits {
-            return next;
-        }
-        out = next.ordering;
-        i += 1;
+    for i in 1..order.size {
+        out = extend(out, choice.rows[order.places[i]])?;
     }
-    Extended {
-        fits: true,
-        ordering: out,
-    }
+    Ok(out)
 }
 
 // A choice in the order with a number.
-pub fn ordering_at(choice: Choice, number: usize) -> Extended
+pub fn ordering_at(choice: Choice, number: usize) -> Result<Ordering, Refusal>
     requires { Chosen choice × (number < factorial_of choice.size) }
     ensures { result ≡ extended_of (ordering_at (in_all_orders (choice_of choice)) number) }
 {

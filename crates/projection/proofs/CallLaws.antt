@@ -9,6 +9,9 @@ use lib.Dec.{ltb}
 use lib.ListN.{length, get_or}
 use Rattle.laws.specs.Tests.{each}
 use Rattle.laws.proofs.Each.{each_holds}
+use Rattle.std.specs.Prelude.{Err}
+use Rattle.arena.specs.declared.Refusal.TheVariants.{UnknownExpression}
+use Rattle.arena.specs.Refusals.{refusal}
 use Rattle.arena.specs.Layout.{count, decode as nodes}
 use Rattle.arena.specs.Calls.{in_cells}
 use Rattle.arena.specs.Inner.{Holds}
@@ -24,9 +27,7 @@ use Rattle.mappings.specs.Calls.{project_number}
 use Rattle.mappings.specs.declared.Mapping.{Mapping}
 use Rattle.mappings.proofs.MappingChecked.{mapping-checked, group-passes}
 use Rattle.projection_table.specs.Projecting.{projection, project_all}
-use Rattle.projection.specs.Calls.{projected_answer, project_expr, projected_expr, written_answer, project_expressions, projected_expressions}
-use Rattle.projection.specs.declared.Projected.{Projected}
-use Rattle.projection.specs.declared.Projected.TheVariants.{Refused}
+use Rattle.projection.specs.Calls.{Projected, projected_answer, project_expr, projected_expr, written_answer, project_expressions, projected_expressions}
 
 -- the expressions of a list are below n
 abbrev pub all_below : List ℕ → ℕ → Bool
@@ -47,10 +48,10 @@ module _ (cells numbers : List ℕ) (g : Group) (z : project_number cells g numb
   -- the projection of an expression
   module _ (e : ℕ) where
     expr-done : projected_expr e numbers cells g ≡ in_cells (project_expr e (mapping_lent numbers) (nodes cells) (classes g))
-    expr-done = checked-done (project_number cells g numbers) Refused (project_expr e (mapping_lent numbers)) cells g z
+    expr-done = checked-done (project_number cells g numbers) (λ k. Err (refusal k)) (project_expr e (mapping_lent numbers)) cells g z
 
     -- it is unknown
-    pub expr-unknown : count cells ≤ e → ◌≡◌ {A = Projected × List ℕ} (Refused 1, cells) (projected_expr e numbers cells g)
+    pub expr-unknown : count cells ≤ e → ◌≡◌ {A = Projected × List ℕ} (Err UnknownExpression, cells) (projected_expr e numbers cells g)
     unfolding project_expr in_cells
     expr-unknown l =
         let m : length (nodes cells) ≤ e = omega (arith, length-decode cells) in

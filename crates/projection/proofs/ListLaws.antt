@@ -1,8 +1,9 @@
 -- Adding the projections of a list of expressions, one after the other, over one table: one expression, how far the walk has come, and its end.
+use Rattle.arena.specs.Refusals.{Added}
 use Prim.Native.Nat.{ℕ, zero, suc, ◌+◌, ◌<◌, ◌≤◌}
 use mathlib.Core.Bool.{Bool, true, false, not}
 use mathlib.Core.List.{List, [], ◌∷◌, ◌++◌, map, map-append, append-nil, append_assoc}
-use mathlib.Core.Option.{Option, none, some}
+use Rattle.std.specs.Prelude.{Option, None, Some, Err, Ok}
 use mathlib.Core.Path.{◌≡◌, refl, sym, ap, ◌∙◌, subst}
 use native.Mathlib.Decide.{ℕ_discrete}
 use native.Mathlib.Numerals.{add-one}
@@ -15,8 +16,6 @@ use Rattle.arena.specs.Expression.{Expression}
 use Rattle.arena.specs.Arena.{Extends, Placed, placed, full, and_then, add_expression}
 use Rattle.arena.specs.Layout.{decode as nodes}
 use Rattle.arena.specs.Inner.{Holds, told, is_refused}
-use Rattle.arena.specs.declared.Added.{Added}
-use Rattle.arena.specs.declared.Added.TheVariants.{Number, Refused}
 use Rattle.arena.proofs.Nodes.{extends-none, extends-both, extends-longer}
 use Rattle.arena.proofs.Layouts.{length-decode}
 use Rattle.projection_table.specs.Projecting.{add_projections}
@@ -25,7 +24,7 @@ use Rattle.projection_table.specs.Inner.{Says}
 
 -- the projections of expressions, by those of all
 abbrev pub projected_by : List (Option Expression) → List ℕ → List (Option Expression)
-projected_by xs es = map (λ (e : ℕ). get_or xs e none) es
+projected_by xs es = map (λ (e : ℕ). get_or xs e None) es
 
 -- ---- one expression
 
@@ -38,7 +37,7 @@ module _ (s table : List ℕ) (e : ℕ) where
   nothing : get_or table e 0 ≡ 0 → (os : List Node) (xs : List (Option Expression)) → Fits os xs (nodes s) table → e < length os → told_answers true (answers_in table (e ∷ [])) (nodes s) ≡ add_projections (projected_by xs (e ∷ [])) (nodes s)
   unfolding told_answers add_projections and_then answer_of Says
   nothing z os xs f l =
-      let n : get_or xs e none ≡ none = subst (Says os xs (nodes s) e) z (f.says e l) in
+      let n : get_or xs e None ≡ None = subst (Says os xs (nodes s) e) z (f.says e l) in
       rw (z, n)
 
   -- so the walk is done
@@ -58,18 +57,18 @@ module _ (s table : List ℕ) (e : ℕ) where
 
   -- it was walked
   module _ (t table' : List ℕ) where
-    told-one : (answer : Added) (x : Expression) (xs : List (Option Expression)) → ((i : ℕ) → answer ≡ Number i → get_or table' e 0 ≡ i + 2) → get_or xs e none ≡ some x → told answer (nodes t) ≡ add_expression x (nodes s)
+    told-one : (answer : Added) (x : Expression) (xs : List (Option Expression)) → ((i : ℕ) → answer ≡ Ok i → get_or table' e 0 ≡ i + 2) → get_or xs e None ≡ Some x → told answer (nodes t) ≡ add_expression x (nodes s)
         → told_answers (not (is_refused answer)) (answers_in table' (e ∷ [])) (nodes t) ≡ add_projections (projected_by xs (e ∷ [])) (nodes s)
     unfolding told_answers add_projections and_then told is_refused answer_of
-    told-one (Number i) x xs at n q =
+    told-one (Ok i) x xs at n q =
         let two : i + 2 ≡ suc (suc i) = omega arith in
         rw (at i refl, two, n, ← q)
-    told-one (Refused k) x xs at n q = rw (n, ← q)
+    told-one (Err k) x xs at n q = rw (n, ← q)
 
-    settled-one : (answer : Added) → ((i : ℕ) → answer ≡ Number i → get_or table' e 0 ≡ i + 2) → not (is_refused answer) ≡ true → get_or table' e 0 ≡ 1 → ⊥
+    settled-one : (answer : Added) → ((i : ℕ) → answer ≡ Ok i → get_or table' e 0 ≡ i + 2) → not (is_refused answer) ≡ true → get_or table' e 0 ≡ 1 → ⊥
     unfolding is_refused
-    settled-one (Number i) at r q = omega (arith, at i refl, q)
-    settled-one (Refused k) at r q = true_not_false r refl
+    settled-one (Ok i) at r q = omega (arith, at i refl, q)
+    settled-one (Err k) at r q = true_not_false r refl
 
     pub one-walked : (answer : Added) → Walked s table t table' e answer → WalkedOne s table t table' e (not (is_refused answer))
     one-walked answer w =
@@ -92,12 +91,12 @@ after done o = and_then o (λ ks ms. placed (done ++ ks) ms)
 -- the first projection, then the others
 first_then : (x : Option Expression) (xs : List (Option Expression)) (ns : List Node) → add_projections (x ∷ xs) ns ≡ and_then (add_projections (x ∷ []) ns) (λ ks ms. after ks (add_projections xs ms))
 unfolding add_projections and_then
-first_then none xs ns = refl
-first_then (some x) xs ns = go (add_expression x ns)
+first_then None xs ns = refl
+first_then (Some x) xs ns = go (add_expression x ns)
   where
     go : (o : Placed ℕ)
-        → and_then o (λ k ms. and_then (add_projections xs ms) (λ ks os. placed (some k ∷ ks) os))
-        ≡ and_then (and_then o (λ k ms. and_then (add_projections [] ms) (λ ks os. placed (some k ∷ ks) os))) (λ ks ms. after ks (add_projections xs ms))
+        → and_then o (λ k ms. and_then (add_projections xs ms) (λ ks os. placed (Some k ∷ ks) os))
+        ≡ and_then (and_then o (λ k ms. and_then (add_projections [] ms) (λ ks os. placed (Some k ∷ ks) os))) (λ ks ms. after ks (add_projections xs ms))
     go (placed k ms) = refl
     go full = refl
 
@@ -182,7 +181,7 @@ module _ (s table es : List ℕ) (d : ReadyAll s table es) where
             → add_projections (projected_by xs (drop k es)) (nodes t) ≡ and_then (told_answers ok (answers_in table₂ (get_or es k 0 ∷ [])) (nodes u)) (λ ks ms. after ks (add_projections (projected_by xs (drop (k + 1) es)) ms))
         turn ok xs q =
             ap (λ (rest : List ℕ). add_projections (projected_by xs rest) (nodes t)) (drop-cons es k 0 l ∙ ap (λ (n : ℕ). get_or es k 0 ∷ drop n es) (sym (add-one k)))
-            ∙ first_then (get_or xs (get_or es k 0) none) (projected_by xs (drop (k + 1) es)) (nodes t)
+            ∙ first_then (get_or xs (get_or es k 0) None) (projected_by xs (drop (k + 1) es)) (nodes t)
             ∙ ap (λ (o : Placed (List (Option ℕ))). and_then o (λ ks ms. after ks (add_projections (projected_by xs (drop (k + 1) es)) ms))) (sym q)
 
         -- there was no room

@@ -1,8 +1,9 @@
 -- The walk that adds projections, over its table: what the table says stays true, a child, the rest of the children, and the operation over them.
+use Rattle.arena.specs.Refusals.{Added}
 use Prim.Native.Nat.{ℕ, zero, suc, ◌+◌, ◌-◌, ◌<◌, ◌≤◌}
 use mathlib.Core.Bool.{Bool, true, false}
 use mathlib.Core.List.{List, [], ◌∷◌}
-use mathlib.Core.Option.{Option, none, some}
+use Rattle.std.specs.Prelude.{Option, None, Some, Err, Ok}
 use mathlib.Core.Path.{◌≡◌, refl, sym, ap, ◌∙◌, subst}
 use native.Mathlib.Decide.{ℕ_discrete, dec_lt}
 use native.Mathlib.Numerals.{add-one, add-two}
@@ -15,8 +16,6 @@ use Rattle.arena.specs.Arena.{Allowed, Sound, Extends, Small, placed, full, and_
 use Rattle.arena.specs.Layout.{row, count, row_of, node_of, children_of, decode as nodes}
 use Rattle.arena.specs.Calls.{in_cells}
 use Rattle.arena.specs.Inner.{Holds, Placeable, told, operation_row}
-use Rattle.arena.specs.declared.Added.{Added}
-use Rattle.arena.specs.declared.Added.TheVariants.{Number, Refused}
 use Rattle.arena.proofs.Nodes.{extends-none, extends-both, extends-longer, extends-node}
 use Rattle.arena.proofs.Rows.{node_row}
 use Rattle.arena.proofs.Trees.{expression-kept, expression-small}
@@ -25,11 +24,10 @@ use Rattle.arena.proofs.Layouts.{length-decode, coded-cells}
 use Rattle.arena.proofs.Walking.{PlacedRow, children-row}
 use Rattle.normal.proofs.Rewriting.{sound-before}
 use Rattle.projection_table.specs.Projecting.{both_project, all_project}
-use Rattle.projection.specs.Calls.{placed_answer, projected_answer}
+use Rattle.arena.specs.declared.Refusal.{Refusal}
+use Rattle.projection.specs.Calls.{Projected, placed_answer, projected_answer}
 use Rattle.projection_table.specs.Inner.{Says, Tabled}
 use Rattle.projection.specs.Inner.{Fits, Ready, Settling, Walked, ReadyFrom, told_from, WalkedFrom, settled_as, restored_as}
-use Rattle.projection.specs.declared.Projected.{Projected}
-use Rattle.projection.specs.declared.Projected.TheVariants.{Nothing}
 use Rattle.projection_table.proofs.TableLaws.{Projects, none-some, all_known_lem, all-child, all-pairwise, pairwise-small, over-children, says_some}
 use Rattle.projection.proofs.RowLaws.{operation-row, row_label, row-child, children-set, label-set, row-set}
 
@@ -40,10 +38,10 @@ pub says-kept : (os : List Node) (xs : List (Option Expression)) {ns ms : List N
 unfolding Says
 says-kept os xs x e zero h = h
 says-kept os xs x e (suc zero) h = h
-says-kept os xs x e (suc (suc i)) h = (omega (arith, extends-longer x, h.0), h.1 ∙ ap (λ (y : Expression). some y) (sym (expression-kept x i h.0)))
+says-kept os xs x e (suc (suc i)) h = (omega (arith, extends-longer x, h.0), h.1 ∙ ap (λ (y : Expression). Some y) (sym (expression-kept x i h.0)))
 
 -- the entry of an expression that is there
-pub says-number : (os : List Node) (xs : List (Option Expression)) (ns : List Node) (e i : ℕ) → i < length ns → get_or xs e none ≡ some (expression_at ns i) → Says os xs ns e (i + 2)
+pub says-number : (os : List Node) (xs : List (Option Expression)) (ns : List Node) (e i : ℕ) → i < length ns → get_or xs e None ≡ Some (expression_at ns i) → Says os xs ns e (i + 2)
 unfolding Says
 says-number os xs ns e i l q = rw (add-two i) (l, q)
 
@@ -59,15 +57,15 @@ module _ (os : List Node) (xs : List (Option Expression)) (ns : List Node) (tabl
   -- and the other way round
   pub fits_not-none : (e : ℕ) → e < length os → Projects xs e → get_or table e 0 ≡ 0 → ⊥
   unfolding Says
-  fits_not-none e l p z = let q : get_or xs e none ≡ none = subst (Says os xs ns e) z (f.says e l) in none-some q p.known
+  fits_not-none e l p z = let q : get_or xs e None ≡ None = subst (Says os xs ns e) z (f.says e l) in none-some q p.known
 
   -- an entry with a number
-  pub fits-number : (e i : ℕ) → e < length os → get_or table e 0 ≡ i + 2 → (i < length ns) × (get_or xs e none ≡ some (expression_at ns i))
+  pub fits-number : (e i : ℕ) → e < length os → get_or table e 0 ≡ i + 2 → (i < length ns) × (get_or xs e None ≡ Some (expression_at ns i))
   unfolding Says
   fits-number e i l q = subst (Says os xs ns e) (q ∙ add-two i) (f.says e l)
 
   -- an answer is written into the table
-  pub fits_more : (e i : ℕ) → i < length ns → get_or xs e none ≡ some (expression_at ns i) → Fits os xs ns (set table e (i + 2))
+  pub fits_more : (e i : ℕ) → i < length ns → get_or xs e None ≡ Some (expression_at ns i) → Fits os xs ns (set table e (i + 2))
   fits_more e i b q = record { extends = f.extends; says = says }
     where
       says : (j : ℕ) → j < length os → Says os xs ns j (get_or (set table e (i + 2)) j 0)
@@ -83,7 +81,7 @@ module _ (os : List Node) (xs : List (Option Expression)) (ns : List Node) (tabl
 
   module _ (s : Sound ns) where
     -- by what the table says of node e, where those of the nodes before it are small
-    small_one : (e : ℕ) → e < length os → ((c : ℕ) → c < e → (y : Expression) → get_or xs c none ≡ some y → Small y) → (x : Expression) → get_or xs e none ≡ some x → (k : ℕ) → Says os xs ns e k → Small x
+    small_one : (e : ℕ) → e < length os → ((c : ℕ) → c < e → (y : Expression) → get_or xs c None ≡ Some y → Small y) → (x : Expression) → get_or xs e None ≡ Some x → (k : ℕ) → Says os xs ns e k → Small x
     unfolding Says Small Allowed
     small_one e l h x q zero p = absurd (none-some p q)
     small_one e l h x q (suc zero) p =
@@ -97,12 +95,12 @@ module _ (os : List Node) (xs : List (Option Expression)) (ns : List Node) (tabl
         subst Small y (expression-small ns s i p.0)
 
     -- of the nodes below n
-    small-below : (n e : ℕ) → e < n → e < length os → (x : Expression) → get_or xs e none ≡ some x → Small x
+    small-below : (n e : ℕ) → e < n → e < length os → (x : Expression) → get_or xs e None ≡ Some x → Small x
     small-below zero e m l x q = absurd (omega arith)
     small-below (suc n) e m l x q = small_one e l (λ c b. small-below n c (omega arith) (omega arith)) x q (get_or table e 0) (f.says e l)
 
     -- an arena can hold the projections of the old nodes
-    pub fits-small : (e : ℕ) → e < length os → (x : Expression) → get_or xs e none ≡ some x → Small x
+    pub fits-small : (e : ℕ) → e < length os → (x : Expression) → get_or xs e None ≡ Some x → Small x
     fits-small e = small-below (suc e) e (omega arith)
 
 -- one walk after the other
@@ -159,7 +157,7 @@ module _ (s table r : List ℕ) (e k : ℕ) (d : ReadyFrom s table r e k) where
     -- what is known of old nodes and projections that the table fits
     module _ (os : List Node) (xs : List (Option Expression)) (f : Fits os xs (nodes s) table) (b : e < length os) where
       -- so those after child k have
-      known_from : (ys : Expressions) × (all_project xs (drop (k + 1) (children_of r)) ≡ some ys)
+      known_from : (ys : Expressions) × (all_project xs (drop (k + 1) (children_of r)) ≡ Some ys)
       known_from =
           all_known_lem xs (drop (k + 1) (children_of r)) (λ j m.
           let g : get_or (drop (k + 1) (children_of r)) j 0 ≡ get_or (children_of r) (k + 1 + j) 0 = get_or-drop (k + 1) (children_of r) j 0 in
@@ -167,15 +165,15 @@ module _ (s table r : List ℕ) (e k : ℕ) (d : ReadyFrom s table r e k) where
           subst (Projects xs) (sym g) (fits-some os xs (nodes s) table f (get_or (children_of r) (k + 1 + j) 0) (omega (arith, d.children (k + 1 + j) (omega arith) n)) (d.project (k + 1 + j) (omega arith) n)))
 
       -- child k's, and those of the others
-      known_more : (x : Expression) (ys : Expressions) → get_or xs (get_or r (3 + k) 0) none ≡ some x → all_project xs (drop (k + 1) (children_of r)) ≡ some ys → all_project xs (drop k (children_of r)) ≡ some (x ▹ ys)
+      known_more : (x : Expression) (ys : Expressions) → get_or xs (get_or r (3 + k) 0) None ≡ Some x → all_project xs (drop (k + 1) (children_of r)) ≡ Some ys → all_project xs (drop k (children_of r)) ≡ Some (x ▹ ys)
       unfolding all_project both_project
       known_more x ys p q =
-          let p' : get_or xs child none ≡ some x = rw in_row at p in
+          let p' : get_or xs child None ≡ Some x = rw in_row at p in
           rw (begins (children_of r) refl, p', q)
 
     module _ (t table₂ : List ℕ) (a : Added) (w : Walked s table t table₂ (get_or r (3 + k) 0) a) where
       -- there was no room for child k
-      pub child-full : (j : ℕ) → a ≡ Refused j → WalkedFrom s table r t table₂ r e k false
+      pub child-full : (j : Refusal) → a ≡ Err j → WalkedFrom s table r t table₂ r e k false
       unfolding told_from told add_expressions and_then
       child-full j q =
           record {
@@ -197,7 +195,7 @@ module _ (s table r : List ℕ) (e k : ℕ) (d : ReadyFrom s table r e k) where
                 };
           }
 
-      module _ (i : ℕ) (q : a ≡ Number i) where
+      module _ (i : ℕ) (q : a ≡ Ok i) where
         abbrev r₂ : List ℕ
         r₂ = set r (3 + k) i
 
@@ -296,9 +294,9 @@ module _ (s table r : List ℕ) (e k : ℕ) (d : ReadyFrom s table r e k) where
 -- a node that is open, for old nodes and projections that the table fits
 pub record Opened (xs : List (Option Expression)) (r : List ℕ) (e : ℕ) : Type 0 where
   pub expression : Expression
-  pub known : get_or xs e none ≡ some expression
+  pub known : get_or xs e None ≡ Some expression
   pub projected : Expressions
-  pub children-known : all_project xs (children_of r) ≡ some projected
+  pub children-known : all_project xs (children_of r) ≡ Some projected
   pub is : expression ≡ op (get_or r 1 0) projected
   pub row_is : r ≡ operation_row r (children_of r)
   pub few : length (children_of r) ≤ 8
@@ -334,7 +332,7 @@ module _ (s table : List ℕ) (e : ℕ) (d : Ready s table e) where
   ready-below = omega (arith, d.below, extends-longer d.fits.extends, length-decode s)
 
   -- the table has its answer
-  pub entry-answers : (get_or table e 0 ≡ 1 → ⊥) → Walked s table s table e (Number (get_or table e 0 - 2))
+  pub entry-answers : (get_or table e 0 ≡ 1 → ⊥) → Walked s table s table e (Ok (get_or table e 0 - 2))
   unfolding told
   entry-answers o =
       let z : get_or table e 0 ≡ get_or table e 0 - 2 + 2 = omega (arith, d.projects) in
@@ -377,7 +375,7 @@ module _ (s table : List ℕ) (e : ℕ) (d : Ready s table e) where
 
     module _ (t table₂ r' : List ℕ) where
       -- no room for the children: no room for the expression
-      pub children-full : WalkedFrom s table r t table₂ r' e 0 false → (k : ℕ) → Walked s table t table₂ e (Refused k)
+      pub children-full : WalkedFrom s table r t table₂ r' e 0 false → (k : Refusal) → Walked s table t table₂ e (Err k)
       unfolding told told_from add_expression and_then
       children-full w k =
           record {
@@ -434,13 +432,13 @@ module _ (s table : List ℕ) (e : ℕ) (d : Ready s table e) where
               ∙ sym (ap (λ (x : Expression). add_expression x (nodes s)) m.is ∙ rw (← placed-children os xs f b m))
 
           -- its number
-          numbered : (os : List Node) (xs : List (Option Expression)) (f : Fits os xs (nodes s) table) (b : e < length os) (m : Opened xs r e) (i : ℕ) → a ≡ Number i → AddedExpression m.expression (nodes s) i (nodes u)
+          numbered : (os : List Node) (xs : List (Option Expression)) (f : Fits os xs (nodes s) table) (b : e < length os) (m : Opened xs r e) (i : ℕ) → a ≡ Ok i → AddedExpression m.expression (nodes s) i (nodes u)
           unfolding told
           numbered os xs f b m i z =
               add-expression m.expression (nodes s) d.holds.sound (fits-small os xs (nodes s) table f d.holds.sound e b m.expression m.known) i (nodes u) (sym (grown os xs f b m) ∙ rw z)
 
           -- is small
-          pub answer-small : (i : ℕ) → a ≡ Number i → i < 1024
+          pub answer-small : (i : ℕ) → a ≡ Ok i → i < 1024
           answer-small i z = omega (arith, (numbered d.olds d.all d.fits d.below mine i z).below, length-decode u, p.holds.few)
 
           -- the table has a place for it
@@ -456,19 +454,19 @@ module _ (s table : List ℕ) (e : ℕ) (d : Ready s table e) where
           -- the table with the answer fits what it did before
           fits_after : (os : List Node) (xs : List (Option Expression)) (f : Fits os xs (nodes s) table) (b : e < length os) (m : Opened xs r e) (c : Added) → a ≡ c → Fits os xs (nodes u) (settled_as table₂ e c)
           unfolding settled_as
-          fits_after os xs f b m (Number i) z =
+          fits_after os xs f b m (Ok i) z =
               let n = numbered os xs f b m i z in
-              fits_more os xs (nodes u) table₂ (fits_kept os xs (nodes t) table₂ (w.added os xs f b).fits (nodes u) p.extends) e i n.below (m.known ∙ ap (λ (x : Expression). some x) (sym n.is))
-          fits_after os xs f b m (Refused k) z = fits_kept os xs (nodes t) table₂ (w.added os xs f b).fits (nodes u) p.extends
+              fits_more os xs (nodes u) table₂ (fits_kept os xs (nodes t) table₂ (w.added os xs f b).fits (nodes u) p.extends) e i n.below (m.known ∙ ap (λ (x : Expression). Some x) (sym n.is))
+          fits_after os xs f b m (Err k) z = fits_kept os xs (nodes t) table₂ (w.added os xs f b).fits (nodes u) p.extends
 
           -- only entries that were open changed
           settling-after : (c : Added) → Settling table (settled_as table₂ e c)
           unfolding settled_as
-          settling-after (Number i) j h = get_or-set_other table₂ e j (i + 2) 0 (λ z. h (ap (λ (n : ℕ). get_or table n 0) z ∙ o)) ∙ w.settling j h
-          settling-after (Refused k) j h = w.settling j h
+          settling-after (Ok i) j h = get_or-set_other table₂ e j (i + 2) 0 (λ z. h (ap (λ (n : ℕ). get_or table n 0) z ∙ o)) ∙ w.settling j h
+          settling-after (Err k) j h = w.settling j h
 
           -- the entry is the answer's
-          settled-after : (i : ℕ) → a ≡ Number i → get_or (settled_as table₂ e a) e 0 ≡ i + 2
+          settled-after : (i : ℕ) → a ≡ Ok i → get_or (settled_as table₂ e a) e 0 ≡ i + 2
           unfolding settled_as
           settled-after i z = rw z (get_or-set_same table₂ e (i + 2) 0 in_table)
 
@@ -502,18 +500,18 @@ module _ (s table : List ℕ) (e : ℕ) (xs : List (Option Expression)) (holds :
   whole_ready z = record { olds = nodes s; all = xs; holds = holds; fits = whole-fits; below = within; projects = z }
 
   -- there is none
-  pub whole-none : get_or table e 0 ≡ 0 → ◌≡◌ {A = Projected × List ℕ} (Nothing, s) (in_cells (projected_answer (nodes s) (get_or xs e none)))
+  pub whole-none : get_or table e 0 ≡ 0 → ◌≡◌ {A = Projected × List ℕ} (Ok None, s) (in_cells (projected_answer (nodes s) (get_or xs e None)))
   unfolding Says projected_answer in_cells
   whole-none z =
-      let q : get_or xs e none ≡ none = subst (Says (nodes s) xs (nodes s) e) z (says e within) in
+      let q : get_or xs e None ≡ None = subst (Says (nodes s) xs (nodes s) e) z (says e within) in
       rw (q, coded-cells s holds)
 
   -- it was added, or there was no room
-  pub whole-walked : (t table₂ : List ℕ) (a : Added) → Walked s table t table₂ e a → restored_as s t a ≡ in_cells (projected_answer (nodes s) (get_or xs e none))
+  pub whole-walked : (t table₂ : List ℕ) (a : Added) → Walked s table t table₂ e a → restored_as s t a ≡ in_cells (projected_answer (nodes s) (get_or xs e None))
   unfolding restored_as projected_answer placed_answer in_cells told
-  whole-walked t table₂ (Number i) w =
+  whole-walked t table₂ (Ok i) w =
       let g = w.added (nodes s) xs whole-fits within in
       rw (g.known, ← g.is, coded-cells t w.holds)
-  whole-walked t table₂ (Refused k) w =
+  whole-walked t table₂ (Err k) w =
       let g = w.added (nodes s) xs whole-fits within in
       rw (g.known, ← g.is, coded-cells s holds)

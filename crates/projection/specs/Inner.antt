@@ -1,24 +1,22 @@
 -- What the inner functions ask and promise each other. The public contracts cite nothing of this file.
 -- The table of the projections is carried along: the crate projection_table says what its entries mean.
-use Rattle.std.specs.Prelude.{ℕ, zero, suc, ◌+◌, ◌<◌, ◌≤◌, Bool, true, false, List, [], ◌∷◌, map, ◌≡◌, length, get_or, set, take, drop}
-use Rattle.std.proofs.Math.Option.{Option, none, some}
+use Rattle.arena.specs.Refusals.{Added}
+use Rattle.std.specs.Prelude.{ℕ, zero, suc, ◌+◌, ◌<◌, ◌≤◌, Bool, true, false, List, [], ◌∷◌, map, ◌≡◌, length, get_or, set, take, drop, Option, None, Some, Err, Ok}
 use Rattle.arena.specs.Node.{Node}
 use Rattle.arena.specs.Expression.{Expression, Expressions}
 use Rattle.arena.specs.Arena.{Extends, Placed, placed, full, add_expression, add_expressions}
 use Rattle.arena.specs.Layout.{children_of, decode as nodes}
 use Rattle.arena.specs.Inner.{Holds, told, operation_row}
-use Rattle.arena.specs.declared.Added.{Added}
-use Rattle.arena.specs.declared.Added.TheVariants.{Number, Refused}
-use Rattle.projection.specs.declared.Projected.{Projected}
-use Rattle.projection.specs.declared.Projected.TheVariants.{Number as Projected-Number, Refused as Projected-Refused}
+use Rattle.arena.specs.declared.Refusal.TheVariants.{ArenaFull}
+use Rattle.projection.specs.Calls.{Projected}
 use Rattle.projection_table.specs.Inner.{Tabled}
 use Rattle.projection_table.specs.Projecting.{all_project, add_projections}
 
 -- an entry as a projection that was placed
 unfoldable pub answer_of : ℕ → Option ℕ
-answer_of zero = none
-answer_of (suc zero) = none
-answer_of (suc (suc i)) = some i
+answer_of zero = None
+answer_of (suc zero) = None
+answer_of (suc (suc i)) = Some i
 
 -- old nodes and their projections to which a table fits
 pub record Fits (os : List Node) (xs : List (Option Expression)) (ns : List Node) (table : List ℕ) : Type 0 where
@@ -42,7 +40,7 @@ Settling table table' = (j : ℕ) → (get_or table j 0 ≡ 1 → ⊥) → get_o
 pub record Added-as (os : List Node) (xs : List (Option Expression)) (s t table' : List ℕ) (e : ℕ) (answer : Added) : Type 0 where
   pub fits : Fits os xs (nodes t) table'
   pub expression : Expression
-  pub known : get_or xs e none ≡ some expression
+  pub known : get_or xs e None ≡ Some expression
   pub is : told answer (nodes t) ≡ add_expression expression (nodes s)
 
 -- what the walk at node e promises, whichever old nodes and projections the table fitted
@@ -50,7 +48,7 @@ pub record Walked (s table t table' : List ℕ) (e : ℕ) (answer : Added) : Typ
   pub holds : Holds t
   pub extends : Extends (nodes s) (nodes t)
   pub settling : Settling table table'
-  pub settled : (i : ℕ) → answer ≡ Number i → get_or table' e 0 ≡ i + 2
+  pub settled : (i : ℕ) → answer ≡ Ok i → get_or table' e 0 ≡ i + 2
   pub added : (os : List Node) (xs : List (Option Expression)) → Fits os xs (nodes s) table → e < length os → Added-as os xs s t table' e answer
 
 -- what the walk over the children of node e asks from child k on: r is the operation's row, whose children from k on are still those of the node
@@ -75,7 +73,7 @@ told_from false k r ns = full
 pub record AddedFrom (os : List Node) (xs : List (Option Expression)) (s t table' r r' : List ℕ) (k : ℕ) (ok : Bool) : Type 0 where
   pub fits : Fits os xs (nodes t) table'
   pub expressions : Expressions
-  pub known : all_project xs (drop k (children_of r)) ≡ some expressions
+  pub known : all_project xs (drop k (children_of r)) ≡ Some expressions
   pub is : told_from ok k r' (nodes t) ≡ add_expressions expressions (nodes s)
 
 -- what the walk over the children of a node promises from child k on: in the row the numbers of their projections, and nothing else changed
@@ -90,13 +88,13 @@ pub record WalkedFrom (s table r t table' r' : List ℕ) (e k : ℕ) (ok : Bool)
 
 -- the table with an answer for node e
 unfoldable pub settled_as : List ℕ → ℕ → Added → List ℕ
-settled_as table e (Number i) = set table e (i + 2)
-settled_as table e (Refused k) = table
+settled_as table e (Ok i) = set table e (i + 2)
+settled_as table e (Err k) = table
 
 -- what the caller is told of a walk from the cells s to the cells t: its answer; or, where there was no room, 3 and the cells as they were
 unfoldable pub restored_as : List ℕ → List ℕ → Added → Projected × List ℕ
-restored_as s t (Number i) = (Projected-Number i, t)
-restored_as s t (Refused k) = (Projected-Refused 3, s)
+restored_as s t (Ok i) = (Ok (Some i), t)
+restored_as s t (Err k) = (Err ArenaFull, s)
 
 -- the answers that a table has for expressions
 abbrev pub answers_in : List ℕ → List ℕ → List (Option ℕ)
@@ -110,7 +108,7 @@ told_answers false ks ns = full
 -- the projections of a list were added, or there was no room; the table has the answers
 pub record AddedAll (os : List Node) (xs : List (Option Expression)) (s t table' es : List ℕ) (ok : Bool) : Type 0 where
   pub fits : Fits os xs (nodes t) table'
-  pub is : told_answers ok (answers_in table' es) (nodes t) ≡ add_projections (map (λ (e : ℕ). get_or xs e none) es) (nodes s)
+  pub is : told_answers ok (answers_in table' es) (nodes t) ≡ add_projections (map (λ (e : ℕ). get_or xs e None) es) (nodes s)
 
 -- what the walk at one expression of a list asks
 pub record ReadyOne (s table : List ℕ) (e : ℕ) : Type 0 where

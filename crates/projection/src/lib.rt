@@ -13,8 +13,9 @@ pub mod listing;
 pub mod walking;
 
 ghost use Rattle.std.specs.Prelude.{◌≡◌};
-ghost use Rattle.projection.specs.Calls.{projected_expr, projected_expressions};
+ghost use Rattle.projection.specs.Calls.{projected_expr, projected_expressions, told_list};
 
+use arena::Refusal;
 use arena::adding::all_below;
 use arena::cells::{node_count, wide};
 use classes::Group;
@@ -22,47 +23,38 @@ use listing::project_list;
 use mappings::lent::{project_number, read_mapping};
 use walking::project_in;
 
-// What the projection of an expression answers: its number, that there is none, or the number of the refusal.
-#[derive(Clone, Copy)]
-pub enum Projected {
-    Number(u32),
-    Nothing,
-    Refused(u32),
-}
-
-// The projection of an expression. The mapping has for each source the source, its target count and its targets.
+// The projection of an expression: its number, or that there is none. The mapping has for each source the source, its target count and its targets.
 // Refusals: 12, 11, 1, 3.
-pub fn project_expr(cells: &mut [u32; 11265], group: Group, mapping: &[u32], expr: u32) -> Projected
+pub fn project_expr(
+    cells: &mut [u32; 11265],
+    group: Group,
+    mapping: &[u32],
+    expr: u32,
+) -> Result<Option<u32>, Refusal>
     ensures { (result, cells.new) ≡ projected_expr expr mapping.now cells.old group }
 {
-    let number = project_number(cells, group, mapping);
-    if number != 0 {
-        return Projected::Refused(number);
-    }
+    project_number(cells, group, mapping)?;
     let n = node_count(cells);
     if n <= wide(expr) {
-        return Projected::Refused(1);
+        return Err(Refusal::UnknownExpression);
     }
     project_in(cells, group, read_mapping(mapping), expr)
 }
 
 // The projections of a list of expressions, one place of the output for each: its number, or 4,294,967,295 where there
-// is none. The output past the last one is unchanged. The answer is 0 or the refusal: 12, 11, 1, 3, 8.
+// is none. The output past the last one is unchanged. Refusals: 12, 11, 1, 3, 8.
 pub fn project_expressions(
     cells: &mut [u32; 11265],
     group: Group,
     mapping: &[u32],
     exprs: &[u32],
     out: &mut [u32],
-) -> u32
-    ensures { ((result, out.new), cells.new) ≡ projected_expressions exprs.now out.old mapping.now cells.old group }
+) -> Result<(), Refusal>
+    ensures { ((result, out.new), cells.new) ≡ told_list (projected_expressions exprs.now out.old mapping.now cells.old group) }
 {
-    let number = project_number(cells, group, mapping);
-    if number != 0 {
-        return number;
-    }
+    project_number(cells, group, mapping)?;
     if !all_below(exprs, node_count(cells)) {
-        return 1;
+        return Err(Refusal::UnknownExpression);
     }
     project_list(cells, group, read_mapping(mapping), exprs, out)
 }

@@ -7,10 +7,11 @@ ghost use Rattle.classes.specs.Layout.{decode as classes};
 ghost use Rattle.classes.specs.Inner.{Coded};
 ghost use Rattle.mappings.specs.Layout.{decode, Checked};
 ghost use Rattle.projection_table.specs.Projecting.{project_all};
-ghost use Rattle.projection.specs.Calls.{output_of, written_answer};
+ghost use Rattle.projection.specs.Calls.{output_of, written_answer, told_list};
 ghost use Rattle.projection.specs.Inner.{answer_of, answers_in, ReadyOne, WalkedOne, ReadyAll, WalkedAll};
 
 use crate::walking::project_node;
+use arena::Refusal;
 use arena::cells::wide;
 use arena::memo::refused;
 use classes::Group;
@@ -34,13 +35,10 @@ pub fn project_all(cells: &mut [u32; 11265], table: &mut [u32; 1024], exprs: &[u
     requires { ReadyAll cells.old table.old exprs.now }
     ensures { WalkedAll cells.old table.old cells.new table.new exprs.now result }
 {
-    let n = exprs.len();
-    let mut k = 0;
-    while k < n {
+    for k in 0..exprs.len() {
         if !project_one(cells, table, exprs[k]) {
             return false;
         }
-        k += 1;
     }
     true
 }
@@ -57,12 +55,9 @@ fn write_answers(table: &[u32; 1024], exprs: &[u32], out: &mut [u32])
     requires { (length exprs.now ≤ length out.old) × ((k : ℕ) → k < length exprs.now → get_or exprs.now k 0 < 1024) }
     ensures { out.new ≡ map output_of (answers_in table.now exprs.now) ++ drop (length exprs.now) out.old }
 {
-    let n = exprs.len();
-    let mut k = 0;
-    while k < n {
+    for k in 0..exprs.len() {
         let answer = output_of(table[wide(exprs[k])]);
         out[k] = answer;
-        k += 1;
     }
 }
 
@@ -74,20 +69,20 @@ pub fn project_list(
     m: Mapping,
     exprs: &[u32],
     out: &mut [u32],
-) -> u32
+) -> Result<(), Refusal>
     requires { ((Holds cells.old × Checked (count cells.old) m) × Coded g) × ((k : ℕ) → k < length exprs.now → get_or exprs.now k 0 < count cells.old) }
-    ensures { ((result, out.new), cells.new) ≡ in_cells (written_answer out.old (nodes cells.old) (project_all (nodes cells.old) (classes g) (decode m) exprs.now)) }
+    ensures { ((result, out.new), cells.new) ≡ told_list (in_cells (written_answer out.old (nodes cells.old) (project_all (nodes cells.old) (classes g) (decode m) exprs.now))) }
 {
     let saved = *cells;
     let mut table = projection_table(cells, g, m);
     if !project_all(cells, &mut table, exprs) {
         *cells = saved;
-        return 3;
+        return Err(Refusal::ArenaFull);
     }
     if out.len() < exprs.len() {
         *cells = saved;
-        return 8;
+        return Err(Refusal::OutputShort);
     }
     write_answers(&table, exprs, out);
-    0
+    Ok(())
 }

@@ -2,7 +2,7 @@
 use Prim.Native.Nat.{ℕ, zero, suc, ◌+◌, ◌<◌}
 use mathlib.Core.Bool.{true}
 use mathlib.Core.List.{List, [], ◌∷◌, ◌++◌}
-use mathlib.Core.Option.{Option, none, some}
+use Rattle.std.specs.Prelude.{Option, None, Some}
 use mathlib.Core.Path.{◌≡◌, refl, sym, ap, ◌∙◌, subst}
 use native.Mathlib.Omega.{arith}
 use lib.ListN.{length, get_or, take, drop, length-append, length-take, get_or-append}
@@ -42,7 +42,7 @@ length-projected os [] ks = refl
 length-projected os (c ∷ cs) ks = ap suc (length-projected os cs (drop (length c.members) ks))
 
 -- each member of a projected class stands for a member of the class, where the numbers that there are stand for the members in order
-pub projected-member : (T : ℕ → ℕ → Type 0) (os : List Node) (cs : List Class) (ks : List (Option ℕ)) → ((j k : ℕ) → j < length (flat cs) → get_or ks j none ≡ some k → T k (get_or (flat cs) j 0))
+pub projected-member : (T : ℕ → ℕ → Type 0) (os : List Node) (cs : List Class) (ks : List (Option ℕ)) → ((j k : ℕ) → j < length (flat cs) → get_or ks j None ≡ Some k → T k (get_or (flat cs) j 0))
     → (i x : ℕ) → i < length cs → among x (class_at (projected_classes os cs ks) i).members ≡ true → (e : ℕ) × (among e (class_at cs i).members ≡ true) × T x e
 unfolding projected_classes flat
 projected-member T os [] ks h i x l p = absurd (omega arith)
@@ -52,14 +52,14 @@ projected-member T os (c ∷ cs) ks h zero x l p =
     let t = there-place (take n ks) f.0 f.1 in
     let j = t.0 in
     let b : j < n = omega (arith, t.1, length-take n ks) in
-    let q : get_or ks j none ≡ some x = sym (get_or-take n ks j none b) ∙ t.2 ∙ ap (λ (k : ℕ). some k) f.2 in
+    let q : get_or ks j None ≡ Some x = sym (get_or-take n ks j None b) ∙ t.2 ∙ ap (λ (k : ℕ). Some k) f.2 in
     let r : get_or (c.members ++ flat cs) j 0 ≡ get_or c.members j 0 = get_or-append c.members (flat cs) 0 j b in
     (get_or c.members j 0, get_or-among c.members j b, subst (λ (k : ℕ). T x k) r (h j x (omega (arith, length-append c.members (flat cs))) q))
 projected-member T os (c ∷ cs) ks h (suc i) x l p =
     let n = length c.members in
     projected-member T os cs (drop n ks)
     (λ j k b q. subst (λ (e : ℕ). T k e) (get_or-append-add c.members (flat cs) j 0)
-    (h (n + j) k (omega (arith, length-append c.members (flat cs))) (sym (get_or-drop n ks j none) ∙ q)))
+    (h (n + j) k (omega (arith, length-append c.members (flat cs))) (sym (get_or-drop n ks j None) ∙ q)))
     i x (omega arith) p
 
 -- ---- rows
@@ -80,13 +80,13 @@ module _ {A : Type 0} (ns : List Node) (cs : List Class) (ps : List Mapped) (s :
       valued x e.0 b e.1 e.2 ∙ agree i e.0 f.0 b e.1 f.1 ∙ sym (valued y f.0 b f.1 f.2)
     where
       T : ℕ → ℕ → Type 0
-      T x e = projection ns cs ps e ≡ some (expression_at os x)
+      T x e = projection ns cs ps e ≡ Some (expression_at os x)
 
-      answered : (j k : ℕ) → j < length (flat cs) → get_or ks j none ≡ some k → T k (get_or (flat cs) j 0)
+      answered : (j k : ℕ) → j < length (flat cs) → get_or ks j None ≡ Some k → T k (get_or (flat cs) j 0)
       answered j k b q =
           let x = projection ns cs ps (get_or (flat cs) j 0) in
-          let a = answers-kept numbers.later x (get_or ks j none) (numbers.projected.answers j b) in
-          (answers-some os x (get_or ks j none) a k q).1
+          let a = answers-kept numbers.later x (get_or ks j None) (numbers.projected.answers j b) in
+          (answers-some os x (get_or ks j None) a k q).1
 
       member : (x : ℕ) → i < length cs → among x (class_at (projected_classes os cs ks) i).members ≡ true → (e : ℕ) × (among e (class_at cs i).members ≡ true) × T x e
       member x b p = projected-member T os cs ks answered i x b p

@@ -1,9 +1,8 @@
 -- The constants of sources reach their targets: a constant that was said of an expression stays with its class, whatever is said later.
-use Rattle.std.specs.Prelude.{if◌then◌else◌}
+use Rattle.std.specs.Prelude.{if◌then◌else◌, Option, None, Some}
 use Prim.Native.Nat.{ℕ, zero, suc, ◌+◌, ◌<◌}
 use mathlib.Core.Bool.{Bool, true, false}
 use mathlib.Core.List.{List, [], ◌∷◌}
-use mathlib.Core.Option.{Option, none, some}
 use mathlib.Core.Path.{◌≡◌, refl, sym, ap, ◌∙◌, subst}
 use native.Mathlib.Decide.{ℕ_discrete}
 use native.Mathlib.Omega.{arith}
@@ -15,7 +14,9 @@ use Rattle.laws.proofs.First.{first_some}
 use Rattle.arena.specs.Node.{Node, node_at}
 use Rattle.arena.specs.Arena.{Sound, Extends, placed}
 use Rattle.arena.proofs.Made.{made_kept}
-use Rattle.classes.specs.Class.{Constant, no_constant, heterogeneous, unknown, known, Class, is_constant, is_uniform, taken, carried, merged, same_constant}
+use Rattle.classes.specs.declared.Constant.{Constant}
+use Rattle.classes.specs.declared.Constant.TheVariants.{NoConstant as no_constant, Heterogeneous as heterogeneous, Unknown as unknown, Known as known}
+use Rattle.classes.specs.Class.{Class, is_constant, is_uniform, taken, carried, merged, same_constant}
 use Rattle.classes.specs.Group.{among, class_at, class_of, given, constant_at, class_like, constant_for, constant_in, with_constant}
 use Rattle.classes.specs.Good.{Good}
 use Rattle.classes.proofs.Places.{nothing, among-left, among-right, one-among, class_of-some, class_of-only, length-merged_at, merged_at-same, merged_at-other, more-old, more-new, length_more}
@@ -145,7 +146,7 @@ module _ (test : Constant → Bool) (t : Kept test) where
   -- a nonmember in a class that was found or a new one
   has_for : (cs : List Class) (e : ℕ) (c : Constant) (o : Option ℕ) (x : ℕ) → Has cs x → Has (constant_for cs e c o) x
   unfolding constant_for merged
-  has_for cs e c none x h =
+  has_for cs e c None x h =
       let new : Class = record { members = e ∷ []; constant = c } in
       let r = more-old cs new h.place h.below in
       record {
@@ -154,12 +155,12 @@ module _ (test : Constant → Bool) (t : Kept test) where
         holds = ap (λ (d : Class). among x d.members) r ∙ h.holds;
         passes = ap (λ (d : Class). test d.constant) r ∙ h.passes;
       }
-  has_for cs e c (some i) x h = go (ℕ_discrete h.place i)
+  has_for cs e c (Some i) x h = go (ℕ_discrete h.place i)
     where
       new : Class
       new = record { members = e ∷ []; constant = no_constant }
 
-      go : Dec (h.place ≡ i) → Has (constant_for cs e c (some i)) x
+      go : Dec (h.place ≡ i) → Has (constant_for cs e c (Some i)) x
       go (yes q) =
           let b : i < length cs = omega (arith, h.below) in
           let r = merged_at-same cs i new b in
@@ -185,8 +186,8 @@ module _ (test : Constant → Bool) (t : Kept test) where
     has_kept cs e said x h = go (class_of cs e)
       where
         go : (o : Option ℕ) → Has (constant_in two cs e (given ns e said) o) x
-        go (some i) = has-at cs i (given ns e said) x h
-        go none = has_for cs e (given ns e said) (class_like two cs (given ns e said)) x h
+        go (Some i) = has-at cs i (given ns e said) x h
+        go None = has_for cs e (given ns e said) (class_like two cs (given ns e said)) x h
 
     -- an expression of which a constant is said that passes is in such a class
     has-said : (cs : List Class) (e : ℕ) (said : Constant) → test said ≡ true → Has (with_constant two ns cs e said) e
@@ -200,14 +201,14 @@ module _ (test : Constant → Bool) (t : Kept test) where
         passes = t.takes (carried (node_at ns e)) said p
 
         like : Bool → Option ℕ
-        like b = if b then first (λ j. same_constant two (class_at cs j).constant c) (length cs) else none
+        like b = if b then first (λ j. same_constant two (class_at cs j).constant c) (length cs) else None
 
-        alike : (b : Bool) (i : ℕ) → like b ≡ some i → (i < length cs) × (same_constant two (class_at cs i).constant c ≡ true)
+        alike : (b : Bool) (i : ℕ) → like b ≡ Some i → (i < length cs) × (same_constant two (class_at cs i).constant c ≡ true)
         alike true i q = let f = first_some (λ (j : ℕ). same_constant two (class_at cs j).constant c) (length cs) i q in (f.below, f.passes)
         alike false i q = absurd (let z : ◌≡◌ {A = ℕ} 0 1 = cc in omega arith)
 
         found : (o : Option ℕ) → like (is_uniform c) ≡ o → Has (constant_for cs e c o) e
-        found none q =
+        found None q =
             let new : Class = record { members = e ∷ []; constant = c } in
             let r = more-new cs new in
             record {
@@ -216,7 +217,7 @@ module _ (test : Constant → Bool) (t : Kept test) where
               holds = ap (λ (d : Class). among e d.members) r ∙ one-among e;
               passes = ap (λ (d : Class). test d.constant) r ∙ passes;
             }
-        found (some i) q =
+        found (Some i) q =
             let new : Class = record { members = e ∷ []; constant = no_constant } in
             let a = alike (is_uniform c) i q in
             let r = merged_at-same cs i new a.0 in
@@ -228,8 +229,8 @@ module _ (test : Constant → Bool) (t : Kept test) where
             }
 
         go : (o : Option ℕ) → class_of cs e ≡ o → Has (constant_in two cs e c o) e
-        go none q = found (like (is_uniform c)) refl
-        go (some i) q =
+        go None q = found (like (is_uniform c)) refl
+        go (Some i) q =
             let new : Class = record { members = (class_at cs i).members; constant = taken (class_at cs i).constant c } in
             let m = class_of-some cs e i q in
             let r = get_or-set_same cs i new nothing m.0 in
@@ -243,13 +244,13 @@ module _ (test : Constant → Bool) (t : Kept test) where
     -- ---- one after the other
 
     -- all of them leave a class one that passes
-    has-after : (qs : List (ℕ × Constant)) (cs ds : List Class) → constants_said two ns qs cs ≡ some ds → (x : ℕ) → Has cs x → Has ds x
+    has-after : (qs : List (ℕ × Constant)) (cs ds : List Class) → constants_said two ns qs cs ≡ Some ds → (x : ℕ) → Has cs x → Has ds x
     unfolding constants_said
     has-after [] cs ds e x h = let y : cs ≡ ds = cc in subst (λ (l : List Class). Has l x) y h
     has-after (q ∷ qs) cs ds e x h = has-after qs (with_constant two ns cs q.0 q.1) ds (said-first two ns q qs cs ds e).1 x (has_kept cs q.0 q.1 x h)
 
     -- and whatever is said that passes, its expression is in such a class in the end
-    has_all : (qs : List (ℕ × Constant)) (cs ds : List Class) → constants_said two ns qs cs ≡ some ds
+    has_all : (qs : List (ℕ × Constant)) (cs ds : List Class) → constants_said two ns qs cs ≡ Some ds
         → (k : ℕ) → k < length qs → test (get_or qs k nothing_said).1 ≡ true → Has ds (get_or qs k nothing_said).0
     has_all [] cs ds e k l p = absurd (omega arith)
     has_all (q ∷ qs) cs ds e zero l p =
@@ -278,7 +279,7 @@ new-place ns cs (p ∷ ps) (suc i) k l b h =
 
 module _ (ns : List Node) (cs : List Class) (ps : List Mapped) (s : Sound ns) (g : Good ns cs) (o : Over ns ps)
     (ks : List (Option ℕ)) (js : List ℕ) (os : List Node) (placed-is : projected_numbers ns cs ps ≡ placed (ks, js) os)
-    (ds : List Class) (made : projected_group os cs ps ks js ≡ some ds) (i k : ℕ) (l : i < length ps) (b : k < length (mapped_at ps i).targets) where
+    (ds : List Class) (made : projected_group os cs ps ks js ≡ Some ds) (i k : ℕ) (l : i < length ps) (b : k < length (mapped_at ps i).targets) where
   -- a source's constant that passes reaches each of its targets
   reaches : (test : Constant → Bool) → Kept test → test (expr_constant os cs (mapped_at ps i).source) ≡ true → test (class_constant ds (get_or (mapped_at ps i).targets k 0)) ≡ true
   reaches test t h =

@@ -2,14 +2,16 @@
 use Prim.Native.Nat.{ℕ}
 use mathlib.Core.Bool.{true}
 use mathlib.Core.List.{List, [], ◌∷◌, ◌++◌}
-use mathlib.Core.Option.{none, some}
+use Rattle.std.specs.Prelude.{None, Some}
 use mathlib.Core.Path.{◌≡◌, refl}
 use Rattle.laws.specs.Lists.{same_numbers}
 use Rattle.laws.specs.Tests.{each, first, first_from}
 use Rattle.arena.specs.Node.{Node, column, literal, operation, child_numbers, same_node, made, made_after}
 use Rattle.arena.specs.Expression.{those, over, expressions}
 use Rattle.arena.specs.Arena.{placed, and_then, find, placed_at, add, add_expression, add_expressions}
-use Rattle.classes.specs.Class.{Constant, no_constant, heterogeneous, unknown, known, Class, is_constant, is_uniform, taken, carried, single, merged, same_constant}
+use Rattle.classes.specs.declared.Constant.{Constant}
+use Rattle.classes.specs.declared.Constant.TheVariants.{NoConstant as no_constant, Heterogeneous as heterogeneous, Unknown as unknown, Known as known}
+use Rattle.classes.specs.Class.{Class, is_constant, is_uniform, taken, carried, single, merged, same_constant}
 use Rattle.classes.specs.Group.{among, class_of, same_class, total, removed, merged_at, given, constant_at, class_like, constant_for, constant_in, with_constant}
 use Rattle.classes.specs.Good.{flat}
 use Rattle.classes.specs.Steps.{fits}
@@ -45,12 +47,12 @@ abbrev sums : List Mapped
 sums = to 4 (8 ∷ []) ∷ to 5 (9 ∷ []) ∷ []
 
 -- neither a nor b projects; both sources have the normal form a + c, which is there
-sums-numbers : projected_numbers arena equal sums ≡ placed ((none ∷ none ∷ []), (4 ∷ 4 ∷ [])) arena
+sums-numbers : projected_numbers arena equal sums ≡ placed ((None ∷ None ∷ []), (4 ∷ 4 ∷ [])) arena
 unfolding projected_numbers project_all add_projections projections_by made made_after whole_or by_children operation_of all_project both_project becomes or_else target_for is_literal same_class class_of first first_from among flat sources expressions over those normal_by normals_by number_of numbers_of operation_over both_found replaced replaced_by first_of first_at add_expression add_expressions and_then add placed_at find same_node same_numbers
 sums-numbers = refl
 
 -- so x = y
-sums-equal : projected_group arena equal sums (none ∷ none ∷ []) (4 ∷ 4 ∷ []) ≡ some (class (8 ∷ 9 ∷ []) no_constant ∷ [])
+sums-equal : projected_group arena equal sums (None ∷ None ∷ []) (4 ∷ 4 ∷ []) ≡ Some (class (8 ∷ 9 ∷ []) no_constant ∷ [])
 unfolding projected_group projected_list projected_classes source_classes targets_of telling there new_constants constants_said with_constant constant_in constant_at constant_for class_like given fresh each class_from pushed_all pushed extended merged missing without among single carried taken is_uniform is_constant is_trivial same_constant fits total from_classes kept_classes drop_below dropped_at removed bridge_classes bridge_rest bridge_from last_meeting meeting_below bridged merged_at contains_any any_among class_of first first_from constant_by constant_of_node class_constant children_constant constant_or_else made made_after child_numbers
 sums-equal = refl
 
@@ -69,12 +71,12 @@ abbrev wider : List Node
 wider = arena ++ (operation 9 (8 ∷ 10 ∷ []) ∷ operation 9 (9 ∷ 10 ∷ []) ∷ [])
 
 -- both are added, and each source is its own normal form
-members-numbers : projected_numbers arena sum columns ≡ placed ((some 11 ∷ some 12 ∷ []), (0 ∷ 1 ∷ 2 ∷ [])) wider
+members-numbers : projected_numbers arena sum columns ≡ placed ((Some 11 ∷ Some 12 ∷ []), (0 ∷ 1 ∷ 2 ∷ [])) wider
 unfolding projected_numbers project_all add_projections projections_by made made_after whole_or by_children operation_of all_project both_project becomes or_else target_for is_literal same_class class_of first first_from among flat sources expressions over those normal_by normals_by number_of numbers_of operation_over both_found replaced replaced_by first_of first_at add_expression add_expressions and_then add placed_at find same_node same_numbers
 members-numbers = refl
 
 -- so x + z = y + z
-members-equal : projected_group wider sum columns (some 11 ∷ some 12 ∷ []) (0 ∷ 1 ∷ 2 ∷ []) ≡ some (class (11 ∷ 12 ∷ []) no_constant ∷ [])
+members-equal : projected_group wider sum columns (Some 11 ∷ Some 12 ∷ []) (0 ∷ 1 ∷ 2 ∷ []) ≡ Some (class (11 ∷ 12 ∷ []) no_constant ∷ [])
 unfolding projected_group projected_list projected_classes source_classes targets_of telling there new_constants constants_said with_constant constant_in constant_at constant_for class_like given fresh each class_from pushed_all pushed extended merged missing without among single carried taken is_uniform is_constant is_trivial same_constant fits total from_classes kept_classes drop_below dropped_at removed bridge_classes bridge_rest bridge_from last_meeting meeting_below bridged merged_at contains_any any_among class_of first first_from constant_by constant_of_node class_constant children_constant constant_or_else made made_after child_numbers
 members-equal = refl
 
@@ -94,12 +96,12 @@ unfolding from_classes kept_classes drop_below dropped_at is_trivial is_constant
 new-unknowns = refl
 
 -- each member projects, and each source is its own normal form
-unknowns-numbers : projected_numbers arena unknowns pair ≡ placed ((some 8 ∷ some 9 ∷ []), (0 ∷ 1 ∷ [])) arena
+unknowns-numbers : projected_numbers arena unknowns pair ≡ placed ((Some 8 ∷ Some 9 ∷ []), (0 ∷ 1 ∷ [])) arena
 unfolding projected_numbers project_all add_projections projections_by made made_after whole_or by_children operation_of all_project both_project becomes or_else target_for is_literal same_class class_of first first_from among flat sources expressions over those normal_by normals_by number_of numbers_of operation_over both_found replaced replaced_by first_of first_at add_expression add_expressions and_then add placed_at find same_node same_numbers
 unknowns-numbers = refl
 
 -- no class says anything, and then the constants bring x and y together, though nothing said that they are equal
-unknowns_together : projected_group arena unknowns pair (some 8 ∷ some 9 ∷ []) (0 ∷ 1 ∷ []) ≡ some (class (8 ∷ 9 ∷ []) unknown ∷ [])
+unknowns_together : projected_group arena unknowns pair (Some 8 ∷ Some 9 ∷ []) (0 ∷ 1 ∷ []) ≡ Some (class (8 ∷ 9 ∷ []) unknown ∷ [])
 unfolding projected_group projected_list projected_classes source_classes targets_of telling there new_constants constants_said with_constant constant_in constant_at constant_for class_like given fresh each class_from pushed_all pushed extended merged missing without among single carried taken is_uniform is_constant is_trivial same_constant fits total from_classes kept_classes drop_below dropped_at removed bridge_classes bridge_rest bridge_from last_meeting meeting_below bridged merged_at contains_any any_among class_of first first_from constant_by constant_of_node class_constant children_constant constant_or_else made made_after child_numbers
 unknowns_together = refl
 
@@ -110,7 +112,7 @@ unfolding with_constant constant_in constant_at given taken carried is_uniform c
 said-unknowns = refl
 
 -- there too x and y come together
-said_together : projected_group arena (class (0 ∷ 2 ∷ []) unknown ∷ class (1 ∷ 3 ∷ []) unknown ∷ []) pair (some 8 ∷ some 8 ∷ some 9 ∷ some 9 ∷ []) (0 ∷ 1 ∷ []) ≡ some (class (8 ∷ 9 ∷ []) unknown ∷ [])
+said_together : projected_group arena (class (0 ∷ 2 ∷ []) unknown ∷ class (1 ∷ 3 ∷ []) unknown ∷ []) pair (Some 8 ∷ Some 8 ∷ Some 9 ∷ Some 9 ∷ []) (0 ∷ 1 ∷ []) ≡ Some (class (8 ∷ 9 ∷ []) unknown ∷ [])
 unfolding projected_group projected_list projected_classes source_classes targets_of telling there new_constants constants_said with_constant constant_in constant_at constant_for class_like given fresh each class_from pushed_all pushed extended merged missing without among single carried taken is_uniform is_constant is_trivial same_constant fits total from_classes kept_classes drop_below dropped_at removed bridge_classes bridge_rest bridge_from last_meeting meeting_below bridged merged_at contains_any any_among class_of first first_from constant_by constant_of_node class_constant children_constant constant_or_else made made_after child_numbers
 said_together = refl
 
@@ -121,7 +123,7 @@ abbrev varying : List Class
 varying = class (3 ∷ []) heterogeneous ∷ []
 
 -- a source with two targets gives both its constant: they are one class
-two-targets : projected_group arena varying (to 3 (8 ∷ 9 ∷ []) ∷ []) (some 8 ∷ []) (3 ∷ []) ≡ some (class (8 ∷ 9 ∷ []) heterogeneous ∷ [])
+two-targets : projected_group arena varying (to 3 (8 ∷ 9 ∷ []) ∷ []) (Some 8 ∷ []) (3 ∷ []) ≡ Some (class (8 ∷ 9 ∷ []) heterogeneous ∷ [])
 unfolding projected_group projected_list projected_classes source_classes targets_of telling there new_constants constants_said with_constant constant_in constant_at constant_for class_like given fresh each class_from pushed_all pushed extended merged missing without among single carried taken is_uniform is_constant is_trivial same_constant fits total from_classes kept_classes drop_below dropped_at removed bridge_classes bridge_rest bridge_from last_meeting meeting_below bridged merged_at contains_any any_among class_of first first_from constant_by constant_of_node class_constant children_constant constant_or_else made made_after child_numbers
 two-targets = refl
 
@@ -131,11 +133,11 @@ unfolding new_constants is_constant constant_by constant_of_node class_constant 
 two_said = refl
 
 -- an operation over d is constant by its child, so its target is
-child-constant : projected_group arena varying (to 7 (9 ∷ []) ∷ []) (none ∷ []) (7 ∷ []) ≡ some (class (9 ∷ []) heterogeneous ∷ [])
+child-constant : projected_group arena varying (to 7 (9 ∷ []) ∷ []) (None ∷ []) (7 ∷ []) ≡ Some (class (9 ∷ []) heterogeneous ∷ [])
 unfolding projected_group projected_list projected_classes source_classes targets_of telling there new_constants constants_said with_constant constant_in constant_at constant_for class_like given fresh each class_from pushed_all pushed extended merged missing without among single carried taken is_uniform is_constant is_trivial same_constant fits total from_classes kept_classes drop_below dropped_at removed bridge_classes bridge_rest bridge_from last_meeting meeting_below bridged merged_at contains_any any_among class_of first first_from constant_by constant_of_node class_constant children_constant constant_or_else made made_after child_numbers
 child-constant = refl
 
 -- a literal source gives its value
-literal-constant : projected_group arena [] (to 6 (8 ∷ []) ∷ []) [] (6 ∷ []) ≡ some (class (8 ∷ []) (known 7) ∷ [])
+literal-constant : projected_group arena [] (to 6 (8 ∷ []) ∷ []) [] (6 ∷ []) ≡ Some (class (8 ∷ []) (known 7) ∷ [])
 unfolding projected_group projected_list projected_classes source_classes targets_of telling there new_constants constants_said with_constant constant_in constant_at constant_for class_like given fresh each class_from pushed_all pushed extended merged missing without among single carried taken is_uniform is_constant is_trivial same_constant fits total from_classes kept_classes drop_below dropped_at removed bridge_classes bridge_rest bridge_from last_meeting meeting_below bridged merged_at contains_any any_among class_of first first_from constant_by constant_of_node class_constant children_constant constant_or_else made made_after child_numbers
 literal-constant = refl

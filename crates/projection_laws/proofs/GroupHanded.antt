@@ -1,29 +1,31 @@
 -- A projected group passes the check again, beside the cells as they are left; a refusal leaves what was lent as it was.
-use Rattle.std.specs.Prelude.{if◌then◌else◌}
+use Rattle.std.specs.Prelude.{if◌then◌else◌, Option, None, Some, Err}
 use Prim.Native.Nat.{ℕ, zero, suc, ◌<◌}
 use mathlib.Core.Bool.{Bool, true, false}
 use mathlib.Core.List.{List, [], ◌∷◌, ◌++◌}
-use mathlib.Core.Option.{Option, none, some}
 use mathlib.Core.Path.{◌≡◌, refl, sym, ap, ◌∙◌, subst}
 use native.Mathlib.Decide.{ℕ_discrete, dec_lt}
 use native.Mathlib.Omega.{arith}
 use lib.ListN.{length, get_or, get_or-eq_default}
+use Rattle.arena.specs.Refusals.{refusal}
 use Rattle.arena.specs.Node.{Node}
 use Rattle.arena.specs.Arena.{Sound, Placed, placed, full}
 use Rattle.arena.specs.Layout.{lawful, decode as nodes, encode as cells_of}
 use Rattle.arena.specs.Calls.{in_cells}
 use Rattle.arena.proofs.Nodes.{extends-longer}
 use Rattle.arena.proofs.Layouts.{coded-cells, holds-lawful, encode-holds, decode-encode as nodes-cells}
-use Rattle.classes.specs.Class.{Constant, Class}
+use Rattle.classes.specs.declared.Constant.{Constant}
+use Rattle.classes.specs.Class.{Class}
 use Rattle.classes.specs.Good.{flat, Good}
 use Rattle.classes.specs.Steps.{fits}
 use Rattle.classes.specs.Layout.{encode, decode}
-use Rattle.classes.specs.Calls.{group_number}
+use Rattle.classes.specs.Calls.{changed_number, group_number}
 use Rattle.classes.specs.declared.Group.{Group}
 use Rattle.classes.specs.declared.Changed.{Changed}
 use Rattle.group_checks.proofs.HeldLaws.{number-fit, held_number}
 use Rattle.normal.specs.Calls.{on_checked}
 use Rattle.merging.specs.Calls.{made_group, refused_group, made_or_refused}
+use Rattle.merging_laws.proofs.JoinLaws.{number-positive}
 use Rattle.lent_classes.proofs.ListCounts.{fits-few, fits-small}
 use Rattle.mappings.specs.Mapping.{Mapped}
 use Rattle.mappings.specs.Lent.{mapping_lent}
@@ -72,8 +74,8 @@ module _ (ns : List Node) (cs : List Class) (ps : List Mapped) (s : Sound ns) (g
       go : Dec (k < length (flat cs)) → i < length os
       go (yes l) =
           let x = projection ns cs ps (get_or (flat cs) k 0) in
-          (answers-some os x (get_or ks k none) (answers-kept numbers.later x (get_or ks k none) (numbers.projected.answers k l)) i e).0
-      go (no l) = absurd (none-some (get_or-eq_default ks none {n = k} (omega (arith, numbers.projected.counted))) e)
+          (answers-some os x (get_or ks k None) (answers-kept numbers.later x (get_or ks k None) (numbers.projected.answers k l)) i e).0
+      go (no l) = absurd (none-some (get_or-eq_default ks None {n = k} (omega (arith, numbers.projected.counted))) e)
 
   -- and so are the targets
   pub targets-inside : TargetsBelow (length os) ps
@@ -84,20 +86,20 @@ module _ (ns : List Node) (cs : List Class) (ps : List Mapped) (s : Sound ns) (g
   before-within f = from-within os (projected_list os cs ps ks js) (list_fair_projected os cs ps ks js projections-below targets-inside) f
 
   -- a projected group that was made: the list fits, and the constants were said
-  pub group-steps : (ds : List Class) → projected_group os cs ps ks js ≡ some ds
-      → (fits 256 (projected_list os cs ps ks js) ≡ true) × (constants_said true os (new_constants os cs ps) (before_constants os cs ps ks js) ≡ some ds)
+  pub group-steps : (ds : List Class) → projected_group os cs ps ks js ≡ Some ds
+      → (fits 256 (projected_list os cs ps ks js) ≡ true) × (constants_said true os (new_constants os cs ps) (before_constants os cs ps ks js) ≡ Some ds)
   unfolding projected_group
   group-steps ds e = go (fits 256 (projected_list os cs ps ks js)) refl e
     where
       said : Option (List Class)
       said = constants_said true os (new_constants os cs ps) (before_constants os cs ps ks js)
 
-      go : (b : Bool) → fits 256 (projected_list os cs ps ks js) ≡ b → (if b then said else none) ≡ some ds → (fits 256 (projected_list os cs ps ks js) ≡ true) × (said ≡ some ds)
+      go : (b : Bool) → fits 256 (projected_list os cs ps ks js) ≡ b → (if b then said else None) ≡ Some ds → (fits 256 (projected_list os cs ps ks js) ≡ true) × (said ≡ Some ds)
       go true f q = (f, q)
       go false f q = absurd (let z : ◌≡◌ {A = ℕ} 0 1 = cc in omega arith)
 
   -- it is a good group within the bounds
-  pub group-within : (ds : List Class) → projected_group os cs ps ks js ≡ some ds → Within os ds
+  pub group-within : (ds : List Class) → projected_group os cs ps ks js ≡ Some ds → Within os ds
   group-within ds e =
       let p = group-steps ds e in
       said-within true os (new_constants os cs ps) (before_constants os cs ps ks js) ds (constants-below (length os) os cs ps targets-inside) (before-within p.0) p.1
@@ -110,19 +112,19 @@ pub record GroupMade (ps : List Mapped) (g : Group) (ns : List Node) (r : Change
   pub forms : List ℕ
   pub classes : List Class
   pub places : projected_numbers ns (decode g) ps ≡ placed (members, forms) os
-  pub makes : projected_group os (decode g) ps members forms ≡ some classes
+  pub makes : projected_group os (decode g) ps members forms ≡ Some classes
   pub is : r ≡ made_group classes
 
 -- what the call comes to: the projected group, or group and arena as they were
 pub record ProjectedOver (ps : List Mapped) (g : Group) (ns : List Node) (r : Changed × List Node) : Type 0 where
-  pub done : r.0.number ≡ 0 → GroupMade ps g ns r.0 r.1
-  pub refused : (r.0.number ≡ 0 → ⊥) → (r.0.group ≡ g) × (r.1 ≡ ns)
+  pub done : changed_number r.0 ≡ 0 → GroupMade ps g ns r.0 r.1
+  pub refused : (changed_number r.0 ≡ 0 → ⊥) → (r.0.group ≡ g) × (r.1 ≡ ns)
 
 module _ (ps : List Mapped) (g : Group) (ns : List Node) where
   -- a refusal
-  refused_over : (n : ℕ) → (n ≡ 0 → ⊥) → ProjectedOver ps g ns (refused_group n g ns)
+  refused_over : (n : ℕ) → ProjectedOver ps g ns (refused_group n g ns)
   unfolding refused_group
-  refused_over n z = record { done = λ e. absurd (z e); refused = λ h. (refl, refl) }
+  refused_over n = record { done = λ e. absurd (omega (arith, e, number-positive (refusal n))); refused = λ h. (refl, refl) }
 
   -- so comes every projection
   pub project-over : ProjectedOver ps g ns (project_by ps g ns)
@@ -131,12 +133,12 @@ module _ (ps : List Mapped) (g : Group) (ns : List Node) where
     where
       made : (ks : List (Option ℕ)) (js : List ℕ) (os : List Node) → projected_numbers ns (decode g) ps ≡ placed (ks, js) os
           → (d : Option (List Class)) → projected_group os (decode g) ps ks js ≡ d → ProjectedOver ps g ns (made_or_refused g ns os d)
-      made ks js os p (some cs) q = record { done = λ e. record { members = ks; forms = js; classes = cs; places = p; makes = q; is = refl }; refused = λ z. absurd (z refl) }
-      made ks js os p none q = refused_over 4 (λ z. omega arith)
+      made ks js os p (Some cs) q = record { done = λ e. record { members = ks; forms = js; classes = cs; places = p; makes = q; is = refl }; refused = λ z. absurd (z refl) }
+      made ks js os p None q = refused_over 4
 
       go : (p : Placed (List (Option ℕ) × List ℕ)) → projected_numbers ns (decode g) ps ≡ p → ProjectedOver ps g ns (project_placed ps g ns p)
       go (placed kj os) q = made kj.0 kj.1 os q (projected_group os (decode g) ps kj.0 kj.1) refl
-      go full q = refused_over 3 (λ z. omega arith)
+      go full q = refused_over 3
 
 -- ---- on lent cells, a lent group and a lent mapping
 
@@ -153,10 +155,10 @@ module _ (cells numbers : List ℕ) (g : Group) where
 
   -- by whether the check passes: what holds of the outcome over nodes and of the refusal holds of the call
   pub project-by : (P : Changed × List ℕ → Type 0) → (project_number cells g numbers ≡ 0 → P (over.0, cells_of over.1))
-      → ((project_number cells g numbers ≡ 0 → ⊥) → P (record { number = project_number cells g numbers; answer = false; group = g }, cells)) → P (project_answer cells g numbers)
+      → ((project_number cells g numbers ≡ 0 → ⊥) → P (record { answer = Err (refusal (project_number cells g numbers)); group = g }, cells)) → P (project_answer cells g numbers)
   unfolding project_answer on_checked in_cells
   project-by P passed refused =
-      checked-by (project_number cells g numbers) (λ (k : ℕ). record { number = k; answer = false; group = g }) (λ ns cs. project_by (mapping_lent numbers) g ns) cells g P passed refused
+      checked-by (project_number cells g numbers) (λ (k : ℕ). record { answer = Err (refusal k); group = g }) (λ ns cs. project_by (mapping_lent numbers) g ns) cells g P passed refused
 
   module _ (z : project_number cells g numbers ≡ 0) where
     -- the lent group's classes are a group
@@ -175,27 +177,27 @@ module _ (cells numbers : List ℕ) (g : Group) where
 
     -- the arena stays sound
     over-sound : Sound over.1
-    over-sound = go (ℕ_discrete over.0.number 0)
+    over-sound = go (ℕ_discrete (changed_number over.0) 0)
       where
-        go : Dec (over.0.number ≡ 0) → Sound over.1
+        go : Dec (changed_number over.0 ≡ 0) → Sound over.1
         go (yes e) = (made-numbers ((project-over (mapping_lent numbers) g (nodes cells)).done e)).sound
         go (no e) = subst Sound (sym ((project-over (mapping_lent numbers) g (nodes cells)).refused e).1) (lent-holds cells numbers g z).sound
 
   -- a projected group is valid beside the cells as they are left
-  pub project_valid : (project_answer cells g numbers).0.number ≡ 0 → group_number (project_answer cells g numbers).1 (project_answer cells g numbers).0.group ≡ 0
+  pub project_valid : changed_number (project_answer cells g numbers).0 ≡ 0 → group_number (project_answer cells g numbers).1 (project_answer cells g numbers).0.group ≡ 0
   unfolding made_group
   project_valid =
-      project-by (λ (r : Changed × List ℕ). r.0.number ≡ 0 → group_number r.1 r.0.group ≡ 0)
+      project-by (λ (r : Changed × List ℕ). changed_number r.0 ≡ 0 → group_number r.1 r.0.group ≡ 0)
       (λ z e.
       let d = (project-over (mapping_lent numbers) g (nodes cells)).done e in
       let q : over.0.group ≡ encode 256 d.classes = ap (λ (r : Changed). r.group) d.is in
       subst (λ (h : Group). group_number (cells_of over.1) h ≡ 0) (sym q) (within_valid over.1 d.classes (made-numbers z d).sound (made-within z d)))
-      (λ z e. absurd (z e))
+      (λ z e. absurd (omega (arith, e, number-positive (refusal (project_number cells g numbers)))))
 
   -- a refusal hands back the group and leaves every cell as it was
-  pub refusal-keeps-project : ((project_answer cells g numbers).0.number ≡ 0 → ⊥) → ((project_answer cells g numbers).0.group ≡ g) × ((project_answer cells g numbers).1 ≡ cells)
+  pub refusal-keeps-project : (changed_number (project_answer cells g numbers).0 ≡ 0 → ⊥) → ((project_answer cells g numbers).0.group ≡ g) × ((project_answer cells g numbers).1 ≡ cells)
   refusal-keeps-project =
-      project-by (λ (r : Changed × List ℕ). (r.0.number ≡ 0 → ⊥) → (r.0.group ≡ g) × (r.1 ≡ cells))
+      project-by (λ (r : Changed × List ℕ). (changed_number r.0 ≡ 0 → ⊥) → (r.0.group ≡ g) × (r.1 ≡ cells))
       (λ z n. let h = (project-over (mapping_lent numbers) g (nodes cells)).refused n in (h.0, ap cells_of h.1 ∙ coded-cells cells (lent-holds cells numbers g z)))
       (λ z n. (refl, refl))
 

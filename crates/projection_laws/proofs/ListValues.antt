@@ -1,7 +1,7 @@
 -- What the call on a list of expressions writes: for each that there is no projection, or the number of one, which has the expression's value.
 use Prim.Native.Nat.{ℕ, ◌<◌}
 use mathlib.Core.List.{List, ◌++◌, map}
-use mathlib.Core.Option.{Option, none, some}
+use Rattle.std.specs.Prelude.{Option, None, Some}
 use mathlib.Core.Path.{◌≡◌, refl, sym, ap, ◌∙◌, subst}
 use native.Mathlib.Omega.{arith}
 use lib.ListN.{length, get_or, drop, length-map, get_or-append}
@@ -28,18 +28,18 @@ use Rattle.projection_laws.proofs.ProjectedCalls.{checked-by, all, all-projected
 
 -- what an entry of the output says of a projection: that there is none, or its number
 pub record Written (ms : List Node) (x : Option Expression) (entry : ℕ) : Type 0 where
-  pub absent : entry ≡ 4294967295 → x ≡ none
-  pub number : (entry ≡ 4294967295 → ⊥) → (entry < length ms) × (x ≡ some (expression_at ms entry))
+  pub absent : entry ≡ 4294967295 → x ≡ None
+  pub number : (entry ≡ 4294967295 → ⊥) → (entry < length ms) × (x ≡ Some (expression_at ms entry))
 
 -- an answer as it is written; no expression has the number that says that there is none
 answer-written : (ms : List Node) → Sound ms → (x : Option Expression) (answer : Option ℕ) → Answers ms x answer → Written ms x (output_of answer)
 unfolding Answers output_of
-answer-written ms s x none h = record { absent = λ e. h; number = λ z. absurd (z refl) }
-answer-written ms s x (some k) h = record { absent = λ e. absurd (omega (arith, s.few, h.0)); number = λ z. h }
+answer-written ms s x None h = record { absent = λ e. h; number = λ z. absurd (z refl) }
+answer-written ms s x (Some k) h = record { absent = λ e. absurd (omega (arith, s.few, h.0)); number = λ z. h }
 
 -- entry j of answers that were written
-entry_at : (ks : List (Option ℕ)) (rest : List ℕ) (j : ℕ) → j < length ks → get_or (map output_of ks ++ rest) j 0 ≡ output_of (get_or ks j none)
-entry_at ks rest j l = get_or-append (map output_of ks) rest 0 j (omega (arith, length-map ks output_of)) ∙ mapped_at_lem output_of ks j none 0 l
+entry_at : (ks : List (Option ℕ)) (rest : List ℕ) (j : ℕ) → j < length ks → get_or (map output_of ks ++ rest) j 0 ≡ output_of (get_or ks j None)
+entry_at ks rest j l = get_or-append (map output_of ks) rest 0 j (omega (arith, length-map ks output_of)) ∙ mapped_at_lem output_of ks j None 0 l
 
 module _ (cells : List ℕ) (g : Group) (numbers es out : List ℕ) where
   -- the projection of expression j
@@ -74,10 +74,10 @@ module _ (cells : List ℕ) (g : Group) (numbers es out : List ℕ) where
             passed = z;
             known = h.known e;
             written = λ j l.
-                let i : get_or out' j 0 ≡ output_of (get_or d.0 j none) =
+                let i : get_or out' j 0 ≡ output_of (get_or d.0 j None) =
                 ap (λ (o : List ℕ). get_or o j 0) (sym a ∙ d.1.1) ∙ entry_at d.0 (drop (length d.0) out) j (omega (arith, p.counted)) in
                 subst (λ (n : ℕ). Written (nodes cells') (of j) n) (sym i)
-                (subst (λ (ms : List Node). Written ms (of j) (output_of (get_or d.0 j none))) c (answer-written now.1 h.sound (of j) (get_or d.0 j none) (p.answers j l)));
+                (subst (λ (ms : List Node). Written ms (of j) (output_of (get_or d.0 j None))) c (answer-written now.1 h.sound (of j) (get_or d.0 j None) (p.answers j l)));
           }
 
   -- an entry that is a number has on the output row the value that its expression has on the input row
@@ -90,5 +90,5 @@ module _ (cells : List ℕ) (g : Group) (numbers es out : List ℕ) where
       (get_or es j 0) (d.known j l) (expression_at (nodes cells') (get_or out' j 0)) ((d.written j l).number z).1
 
   -- an entry that says so is that of an expression without a projection
-  pub expressions-absent : (out' cells' : List ℕ) → projected_expressions es out numbers cells g ≡ ((0, out'), cells') → (j : ℕ) → j < length es → get_or out' j 0 ≡ 4294967295 → of j ≡ none
+  pub expressions-absent : (out' cells' : List ℕ) → projected_expressions es out numbers cells g ≡ ((0, out'), cells') → (j : ℕ) → j < length es → get_or out' j 0 ≡ 4294967295 → of j ≡ None
   expressions-absent out' cells' q j l = ((expressions-done out' cells' q).written j l).absent

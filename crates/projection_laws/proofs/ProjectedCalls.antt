@@ -1,9 +1,8 @@
 -- What the calls that project answer and leave: a number has the expression's value, a projection that fails adds nothing, a refusal leaves every cell and the output as they were, and the arena stays sound.
-use Rattle.std.specs.Prelude.{if◌then◌else◌}
+use Rattle.std.specs.Prelude.{if◌then◌else◌, Option, None, Some, Ok, Err}
 use Prim.Native.Nat.{ℕ, ◌<◌}
 use mathlib.Core.Bool.{Bool, true, false}
 use mathlib.Core.List.{List, ◌++◌, map}
-use mathlib.Core.Option.{Option, none, some}
 use mathlib.Core.Path.{◌≡◌, refl, sym, ap, ◌∙◌, subst}
 use native.Mathlib.Decide.{ℕ_discrete}
 use native.Mathlib.Omega.{arith}
@@ -11,6 +10,9 @@ use borrow.Author.Tests.{ltb-true, lt-ltb}
 use lib.Dec.{ltb, leb}
 use lib.ListN.{length, get_or, drop}
 use Rattle.laws.specs.Tests.{each}
+use Rattle.arena.specs.declared.Refusal.{Refusal}
+use Rattle.arena.specs.declared.Refusal.TheVariants.{UnknownExpression}
+use Rattle.arena.specs.Refusals.{refusal}
 use Rattle.arena.specs.Node.{Node}
 use Rattle.arena.specs.Expression.{Expression, expression_at}
 use Rattle.arena.specs.Value.{Meaning, Row, value}
@@ -32,9 +34,7 @@ use Rattle.mappings.specs.Lent.{mapping_lent}
 use Rattle.mappings.specs.Calls.{project_number}
 use Rattle.mappings.specs.Agree.{TargetsAgree, Over}
 use Rattle.projection_table.specs.Projecting.{projection, project_all}
-use Rattle.projection.specs.Calls.{placed_answer, projected_answer, project_expr, projected_expr, output_of, written_answer, project_expressions, projected_expressions}
-use Rattle.projection.specs.declared.Projected.{Projected}
-use Rattle.projection.specs.declared.Projected.TheVariants.{Number, Nothing, Refused}
+use Rattle.projection.specs.Calls.{Projected, placed_answer, projected_answer, project_expr, projected_expr, output_of, written_answer, project_expressions, projected_expressions}
 use Rattle.projection.proofs.CallLaws.{each_below, lent-holds}
 use Rattle.projection_laws.proofs.ProjectedValue.{projection-value, projection-small}
 use Rattle.projection_laws.proofs.ProjectedList.{ProjectedAt, project_all-is}
@@ -48,14 +48,14 @@ pub record ProjectedTo (ns : List Node) (cs : List Class) (ps : List Mapped) (e 
   pub sound : Sound ms
   pub extends : Extends ns ms
   pub below : k < length ms
-  pub is : projection ns cs ps e ≡ some (expression_at ms k)
+  pub is : projection ns cs ps e ≡ Some (expression_at ms k)
 
 module _ (ns : List Node) (cs : List Class) (ps : List Mapped) (e : ℕ) where
   -- what every answer says of the arena afterwards: a number's, as above; else it is as it was
   unfoldable pub Answered : Projected → List Node → Type 0
-  Answered (Number k) ms = ProjectedTo ns cs ps e k ms
-  Answered Nothing ms = (ms ≡ ns) × (projection ns cs ps e ≡ none)
-  Answered (Refused k) ms = ms ≡ ns
+  Answered (Ok (Some k)) ms = ProjectedTo ns cs ps e k ms
+  Answered (Ok None) ms = (ms ≡ ns) × (projection ns cs ps e ≡ None)
+  Answered (Err why) ms = ms ≡ ns
 
   module _ (s : Sound ns) (o : Over ns ps) where
     -- and so says the call's
@@ -63,25 +63,25 @@ module _ (ns : List Node) (cs : List Class) (ps : List Mapped) (e : ℕ) where
     unfolding Answered project_expr projected_answer placed_answer
     project_expr-answered = go (ltb e (length ns)) refl (projection ns cs ps e) refl
       where
-        added : e < length ns → (x : Expression) → projection ns cs ps e ≡ some x → (p : Placed ℕ) → add_expression x ns ≡ p → Answered (placed_answer ns p).0 (placed_answer ns p).1
+        added : e < length ns → (x : Expression) → projection ns cs ps e ≡ Some x → (p : Placed ℕ) → add_expression x ns ≡ p → Answered (placed_answer ns p).0 (placed_answer ns p).1
         added l x q (placed k ms) t =
             let a = add-expression x ns s (projection-small ns cs ps s o e l x q) k ms t in
-            record { known = l; sound = a.sound; extends = a.extends; below = a.below; is = q ∙ ap (λ (y : Expression). some y) (sym a.is) }
+            record { known = l; sound = a.sound; extends = a.extends; below = a.below; is = q ∙ ap (λ (y : Expression). Some y) (sym a.is) }
         added l x q full t = refl
 
         known : e < length ns → (x : Option Expression) → projection ns cs ps e ≡ x → Answered (projected_answer ns x).0 (projected_answer ns x).1
-        known l none q = (refl, q)
-        known l (some x) q = added l x q (add_expression x ns) refl
+        known l None q = (refl, q)
+        known l (Some x) q = added l x q (add_expression x ns) refl
 
         answer : Bool → Option Expression → Projected × List Node
-        answer b x = if b then projected_answer ns x else (Refused 1, ns)
+        answer b x = if b then projected_answer ns x else (Err UnknownExpression, ns)
 
         go : (b : Bool) → ltb e (length ns) ≡ b → (x : Option Expression) → projection ns cs ps e ≡ x → Answered (answer b x).0 (answer b x).1
         go true t x q = known (ltb-true e (length ns) t) x q
         go false t x q = refl
 
   -- a projection that fails adds nothing
-  pub failed-adds-nothing : projection ns cs ps e ≡ none → e < length ns → project_expr e ps ns cs ≡ (Nothing, ns)
+  pub failed-adds-nothing : projection ns cs ps e ≡ None → e < length ns → project_expr e ps ns cs ≡ (Ok None, ns)
   unfolding project_expr projected_answer
   failed-adds-nothing q l = rw (lt-ltb e (length ns) l, q)
 
@@ -141,24 +141,24 @@ module _ (cells : List ℕ) (g : Group) (numbers : List ℕ) where
 
     -- what every answer says of the cells afterwards: where it is a number, all that is lent passed and the number is the projection's; else they are as they were
     unfoldable CellsAnswered : Projected → List ℕ → Type 0
-    CellsAnswered (Number k) cells' = (project_number cells g numbers ≡ 0) × (Holds cells' × ProjectedTo (nodes cells) (decode g) (mapping_lent numbers) e k (nodes cells'))
-    CellsAnswered Nothing cells' = cells' ≡ cells
-    CellsAnswered (Refused k) cells' = cells' ≡ cells
+    CellsAnswered (Ok (Some k)) cells' = (project_number cells g numbers ≡ 0) × (Holds cells' × ProjectedTo (nodes cells) (decode g) (mapping_lent numbers) e k (nodes cells'))
+    CellsAnswered (Ok None) cells' = cells' ≡ cells
+    CellsAnswered (Err why) cells' = cells' ≡ cells
 
     -- and so says the call's
     cells-answered : CellsAnswered (projected_expr e numbers cells g).0 (projected_expr e numbers cells g).1
     unfolding CellsAnswered Answered in_cells
     cells-answered =
-        checked-by (project_number cells g numbers) Refused (project_expr e (mapping_lent numbers)) cells g (λ (r : Projected × List ℕ). CellsAnswered r.0 r.1)
+        checked-by (project_number cells g numbers) (λ k. Err (refusal k)) (project_expr e (mapping_lent numbers)) cells g (λ (r : Projected × List ℕ). CellsAnswered r.0 r.1)
         (λ z. go z one.0 one.1 (one-answered z)) (λ z. refl)
       where
         go : project_number cells g numbers ≡ 0 → (a : Projected) (ms : List Node) → Answered (nodes cells) (decode g) (mapping_lent numbers) e a ms → CellsAnswered a (encode ms)
-        go z (Number k) ms h = (z, (encode-holds ms h.sound, subst (ProjectedTo (nodes cells) (decode g) (mapping_lent numbers) e k) (sym (decode-encode ms h.sound)) h))
-        go z Nothing ms h = ap encode h.0 ∙ coded-cells cells (lent-holds cells numbers g z)
-        go z (Refused k) ms h = ap encode h ∙ coded-cells cells (lent-holds cells numbers g z)
+        go z (Ok (Some k)) ms h = (z, (encode-holds ms h.sound, subst (ProjectedTo (nodes cells) (decode g) (mapping_lent numbers) e k) (sym (decode-encode ms h.sound)) h))
+        go z (Ok None) ms h = ap encode h.0 ∙ coded-cells cells (lent-holds cells numbers g z)
+        go z (Err why) ms h = ap encode h ∙ coded-cells cells (lent-holds cells numbers g z)
 
     -- a number that the call answers has on the output row the value that the expression has on the input row
-    pub expr-value : {A : Type 0} (k : ℕ) (cells' : List ℕ) → projected_expr e numbers cells g ≡ (Number k, cells') → (m : Meaning A) (row out : Row A)
+    pub expr-value : {A : Type 0} (k : ℕ) (cells' : List ℕ) → projected_expr e numbers cells g ≡ (Ok (Some k), cells') → (m : Meaning A) (row out : Row A)
         → MembersAgree (nodes cells) (decode g) m row → TargetsAgree (nodes cells) (mapping_lent numbers) m row out
         → value (expression_at (nodes cells') k) m out ≡ value (expression_at (nodes cells) e) m row
     unfolding CellsAnswered
@@ -169,14 +169,14 @@ module _ (cells : List ℕ) (g : Group) (numbers : List ℕ) where
         e t.known (expression_at (nodes cells') k) t.is
 
     -- an answer that there is no projection leaves every cell as it was
-    pub expr-nothing : (projected_expr e numbers cells g).0 ≡ Nothing → (projected_expr e numbers cells g).1 ≡ cells
+    pub expr-nothing : (projected_expr e numbers cells g).0 ≡ Ok None → (projected_expr e numbers cells g).1 ≡ cells
     unfolding CellsAnswered
     expr-nothing q = subst (λ (a : Projected). CellsAnswered a (projected_expr e numbers cells g).1) q cells-answered
 
     -- so does a refusal
-    pub expr-refused : (k : ℕ) → (projected_expr e numbers cells g).0 ≡ Refused k → (projected_expr e numbers cells g).1 ≡ cells
+    pub expr-refused : (why : Refusal) → (projected_expr e numbers cells g).0 ≡ Err why → (projected_expr e numbers cells g).1 ≡ cells
     unfolding CellsAnswered
-    expr-refused k q = subst (λ (a : Projected). CellsAnswered a (projected_expr e numbers cells g).1) q cells-answered
+    expr-refused why q = subst (λ (a : Projected). CellsAnswered a (projected_expr e numbers cells g).1) q cells-answered
 
     -- cells that are an arena stay one
     pub expr-lawful : lawful cells ≡ true → lawful (projected_expr e numbers cells g).1 ≡ true
@@ -184,9 +184,9 @@ module _ (cells : List ℕ) (g : Group) (numbers : List ℕ) where
     expr-lawful l = go (projected_expr e numbers cells g).0 (projected_expr e numbers cells g).1 cells-answered
       where
         go : (a : Projected) (cells' : List ℕ) → CellsAnswered a cells' → lawful cells' ≡ true
-        go (Number k) cells' h = holds-lawful cells' h.1.0
-        go Nothing cells' h = ap lawful h ∙ l
-        go (Refused k) cells' h = ap lawful h ∙ l
+        go (Ok (Some k)) cells' h = holds-lawful cells' h.1.0
+        go (Ok None) cells' h = ap lawful h ∙ l
+        go (Err why) cells' h = ap lawful h ∙ l
 
   module _ (es out : List ℕ) where
     -- the call over nodes

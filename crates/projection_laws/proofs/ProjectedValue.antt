@@ -2,7 +2,7 @@
 use Prim.Native.Nat.{ℕ, zero, suc, ◌<◌}
 use mathlib.Core.Bool.{Bool, true}
 use mathlib.Core.List.{List, [], ◌∷◌}
-use mathlib.Core.Option.{Option, none, some}
+use Rattle.std.specs.Prelude.{Option, None, Some}
 use mathlib.Core.Path.{◌≡◌, refl, sym, ap, ap₂, ◌∙◌, subst}
 use native.Mathlib.Omega.{arith}
 use borrow.Author.Tests.{eqb-true}
@@ -33,25 +33,25 @@ module _ (ns : List Node) (cs : List Class) (ps : List Mapped) (s : Sound ns) wh
   module _ (P : ℕ → Expression → Type 0) (whole : (e i : ℕ) → e < length ns → Becomes ns cs ps e i → P e (expression_at ns i))
       (children : (e label : ℕ) (ks : List ℕ) (ys : Expressions) → e < length ns → node_at ns e ≡ operation label ks → Pairwise P ks ys → P e (op label ys)) where
     -- below a bound
-    projects-below : (n e : ℕ) → e < n → e < length ns → (x : Expression) → projection ns cs ps e ≡ some x → P e x
+    projects-below : (n e : ℕ) → e < n → e < length ns → (x : Expression) → projection ns cs ps e ≡ Some x → P e x
     unfolding whole_or Allowed
     projects-below zero e b l x q = absurd (omega arith)
     projects-below (suc n) e b l x q = go (becomes ns cs ps e) refl (λ k i y. projects-below n k (omega arith) (omega arith) y)
       where
-        go : (o : Option ℕ) → becomes ns cs ps e ≡ o → ((k : ℕ) → k < e → (y : Expression) → projection ns cs ps k ≡ some y → P k y) → P e x
-        go (some i) t r =
-            let z : some (expression_at ns i) ≡ some x = sym (projection-at ns cs ps s e l ∙ rw t) ∙ q in
+        go : (o : Option ℕ) → becomes ns cs ps e ≡ o → ((k : ℕ) → k < e → (y : Expression) → projection ns cs ps k ≡ Some y → P k y) → P e x
+        go (Some i) t r =
+            let z : Some (expression_at ns i) ≡ Some x = sym (projection-at ns cs ps s e l ∙ rw t) ∙ q in
             let y : expression_at ns i ≡ x = cc in
             subst (P e) y (whole e i l (becomes-is ns cs ps e i t))
-        go none t r =
-            let z : by_children (projections ns cs ps) (node_at ns e) ≡ some x = sym (projection-at ns cs ps s e l ∙ rw t) ∙ q in
+        go None t r =
+            let z : by_children (projections ns cs ps) (node_at ns e) ≡ Some x = sym (projection-at ns cs ps s e l ∙ rw t) ∙ q in
             let c = over-children (projections ns cs ps) (node_at ns e) x z in
             let a : Allowed e (operation c.label c.children) = subst (Allowed e) c.node (s.allowed e l) in
             subst (P e) (sym c.is) (children e c.label c.children c.projected l c.node
             (all-pairwise P (projections ns cs ps) c.children (λ j b. r (get_or c.children j 0) (a.1 j b)) c.projected c.known))
 
     -- for all
-    pub projects-by : (e : ℕ) → e < length ns → (x : Expression) → projection ns cs ps e ≡ some x → P e x
+    pub projects-by : (e : ℕ) → e < length ns → (x : Expression) → projection ns cs ps e ≡ Some x → P e x
     projects-by e l x q = projects-below (length ns) e l l x q
 
 -- ---- values
@@ -93,7 +93,7 @@ module _ {A : Type 0} (ns : List Node) (cs : List Class) (ps : List Mapped) (s :
       found-value (λ s. same_class cs s e) i f ∙ agree t.place (mapped_at ps f.place).source e t.below t.left t.right
 
   -- a projection has on the output row the value that the expression has on the input row
-  pub projection-value : (e : ℕ) → e < length ns → (x : Expression) → projection ns cs ps e ≡ some x → value x m out ≡ value (expression_at ns e) m row
+  pub projection-value : (e : ℕ) → e < length ns → (x : Expression) → projection ns cs ps e ≡ Some x → value x m out ≡ value (expression_at ns e) m row
   unfolding value over
   projection-value =
       projects-by ns cs ps s (λ e x. value x m out ≡ value (expression_at ns e) m row) becomes-value
@@ -115,7 +115,7 @@ module _ (ns : List Node) (cs : List Class) (ps : List Mapped) (s : Sound ns) (o
   becomes-below e i l (by-class f) = found_below (λ s. same_class cs s e) i f
 
   -- a projection is small enough for an arena
-  pub projection-small : (e : ℕ) → e < length ns → (x : Expression) → projection ns cs ps e ≡ some x → Small x
+  pub projection-small : (e : ℕ) → e < length ns → (x : Expression) → projection ns cs ps e ≡ Some x → Small x
   unfolding Small Allowed
   projection-small =
       projects-by ns cs ps s (λ e x. Small x) (λ e i l b. expression-small ns s i (becomes-below e i l b))

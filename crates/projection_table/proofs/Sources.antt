@@ -1,9 +1,8 @@
 -- The search over the sources of a mapping in its struct: its turns, and for another test that agrees.
-use Rattle.std.specs.Prelude.{if◌then◌else◌}
+use Rattle.std.specs.Prelude.{if◌then◌else◌, Some}
 use Prim.Native.Nat.{ℕ, suc, ◌+◌, ◌<◌, ◌≤◌}
 use mathlib.Core.Bool.{Bool, true, false}
 use mathlib.Core.List.{List, [], ◌∷◌}
-use mathlib.Core.Option.{some}
 use mathlib.Core.Path.{◌≡◌, refl, sym, ap, ◌∙◌}
 use native.Mathlib.Omega.{arith}
 use lib.ListN.{length, get_or, drop, drop_of_length-le}
@@ -41,7 +40,7 @@ module _ (test : ℕ → Bool) (m : Mapping) where
     searching_ends l = sym (ap entry_of h.goes ∙ rw (drop_of_length-le (decode m) {i = i} (omega (arith, decode-length m))))
 
     module _ (l : i < m.count) where
-      turn : (b : Bool) → test (read_in m i).expr ≡ b → target_for test (decode m) ≡ (if b then some (first_target (mapped_of (read_in m i))) else target_for test (drop (i + 1) (decode m)))
+      turn : (b : Bool) → test (read_in m i).expr ≡ b → target_for test (decode m) ≡ (if b then Some (first_target (mapped_of (read_in m i))) else target_for test (drop (i + 1) (decode m)))
       unfolding target_for
       turn b e = h.goes ∙ ap (target_for test) (read-rest m i l) ∙ rw (mapped-source (read_in m i), e)
 

@@ -2,7 +2,7 @@
 use Prim.Native.Nat.{ℕ, zero, suc, ◌+◌, ◌<◌}
 use mathlib.Core.Bool.{Bool, true, false, not, ◌&&◌, and-true}
 use mathlib.Core.List.{List, [], ◌∷◌}
-use mathlib.Core.Option.{Option, none, some}
+use Rattle.std.specs.Prelude.{Option, None, Some}
 use mathlib.Core.Path.{◌≡◌, refl, sym, ap, ◌∙◌, subst}
 use native.Mathlib.Decide.{ℕ_discrete}
 use native.Mathlib.Omega.{arith}
@@ -29,13 +29,13 @@ use Rattle.projection_table.proofs.Becoming.{becomes-is, becomes-below, entry-no
 -- ---- the projection of a node
 
 -- the projections of children look only at their numbers
-all_cong : (xs ys : List (Option Expression)) (ks : List ℕ) → ((k : ℕ) → k < length ks → get_or xs (get_or ks k 0) none ≡ get_or ys (get_or ks k 0) none) → all_project xs ks ≡ all_project ys ks
+all_cong : (xs ys : List (Option Expression)) (ks : List ℕ) → ((k : ℕ) → k < length ks → get_or xs (get_or ks k 0) None ≡ get_or ys (get_or ks k 0) None) → all_project xs ks ≡ all_project ys ks
 unfolding all_project
 all_cong xs ys [] h = refl
 all_cong xs ys (k ∷ ks) h = rw (h 0 (omega arith), all_cong xs ys ks (λ j l. h (suc j) (omega arith)))
 
 -- what the children give a node that may have the number i looks only below i
-children_cong : (xs ys : List (Option Expression)) (i : ℕ) (n : Node) → Allowed i n → ((k : ℕ) → k < i → get_or xs k none ≡ get_or ys k none) → by_children xs n ≡ by_children ys n
+children_cong : (xs ys : List (Option Expression)) (i : ℕ) (n : Node) → Allowed i n → ((k : ℕ) → k < i → get_or xs k None ≡ get_or ys k None) → by_children xs n ≡ by_children ys n
 unfolding by_children Allowed
 children_cong xs ys i (column name index) a h = refl
 children_cong xs ys i (literal value) a h = refl
@@ -44,15 +44,15 @@ children_cong xs ys i (operation label (k ∷ ks)) a h = ap (operation_of label)
 
 -- a number's projection is what it becomes as a whole, or what its children give, for any account of what becomes of a whole expression
 pub projection-by-at : (ns : List Node) (to : ℕ → Option ℕ) → Sound ns → (e : ℕ) → e < length ns
-    → get_or (projections_by ns to) e none ≡ whole_or ns (by_children (projections_by ns to) (node_at ns e)) (to e)
+    → get_or (projections_by ns to) e None ≡ whole_or ns (by_children (projections_by ns to) (node_at ns e)) (to e)
 unfolding projections_by
 projection-by-at ns to s e l =
-    made-is (λ xs i n. whole_or ns (by_children xs n) (to i)) none ns s
+    made-is (λ xs i n. whole_or ns (by_children xs n) (to i)) None ns s
     (λ xs ys i n a h. ap (λ (x : Option Expression). whole_or ns x (to i)) (children_cong xs ys i n a h)) e l
 
 -- by a group and a mapping
 pub projection-at : (ns : List Node) (cs : List Class) (ps : List Mapped) → Sound ns → (e : ℕ) → e < length ns
-    → get_or (projections ns cs ps) e none ≡ whole_or ns (by_children (projections ns cs ps) (node_at ns e)) (becomes ns cs ps e)
+    → get_or (projections ns cs ps) e None ≡ whole_or ns (by_children (projections ns cs ps) (node_at ns e)) (becomes ns cs ps e)
 projection-at ns cs ps s e l = projection-by-at ns (becomes ns cs ps) s e l
 
 -- ---- projections of children
@@ -60,32 +60,32 @@ projection-at ns cs ps s e l = projection-by-at ns (becomes ns cs ps) s e l
 -- node e has a projection
 pub record Projects (xs : List (Option Expression)) (e : ℕ) : Type 0 where
   pub expression : Expression
-  pub known : get_or xs e none ≡ some expression
+  pub known : get_or xs e None ≡ Some expression
 
 -- no projection is one
-pub none-some : {A : Type 0} {o : Option A} {x : A} → o ≡ none → o ≡ some x → ⊥
+pub none-some : {A : Type 0} {o : Option A} {x : A} → o ≡ None → o ≡ Some x → ⊥
 none-some p q = let z : ◌≡◌ {A = ℕ} 0 1 = cc in omega arith
 
 -- the first of several children, and the others
 record Parted (xs : List (Option Expression)) (k : ℕ) (ks : List ℕ) (ys : Expressions) : Type 0 where
   one : Expression
   others : Expressions
-  one_known : get_or xs k none ≡ some one
-  others-known : all_project xs ks ≡ some others
+  one_known : get_or xs k None ≡ Some one
+  others-known : all_project xs ks ≡ Some others
   is : ys ≡ one ▹ others
 
 -- they are such where all have projections
-parted : (xs : List (Option Expression)) (k : ℕ) (ks : List ℕ) (ys : Expressions) → all_project xs (k ∷ ks) ≡ some ys → Parted xs k ks ys
+parted : (xs : List (Option Expression)) (k : ℕ) (ks : List ℕ) (ys : Expressions) → all_project xs (k ∷ ks) ≡ Some ys → Parted xs k ks ys
 unfolding all_project both_project
-parted xs k ks ys e = go (get_or xs k none) (all_project xs ks) refl refl e
+parted xs k ks ys e = go (get_or xs k None) (all_project xs ks) refl refl e
   where
-    go : (a : Option Expression) (b : Option Expressions) → get_or xs k none ≡ a → all_project xs ks ≡ b → both_project a b ≡ some ys → Parted xs k ks ys
-    go none b p q z = absurd (none-some refl z)
-    go (some x) none p q z = absurd (none-some refl z)
-    go (some x) (some zs) p q z = record { one = x; others = zs; one_known = p; others-known = q; is = cc }
+    go : (a : Option Expression) (b : Option Expressions) → get_or xs k None ≡ a → all_project xs ks ≡ b → both_project a b ≡ Some ys → Parted xs k ks ys
+    go None b p q z = absurd (none-some refl z)
+    go (Some x) None p q z = absurd (none-some refl z)
+    go (Some x) (Some zs) p q z = record { one = x; others = zs; one_known = p; others-known = q; is = cc }
 
 -- where each child has a projection, they all do
-pub all_known_lem : (xs : List (Option Expression)) (ks : List ℕ) → ((j : ℕ) → j < length ks → Projects xs (get_or ks j 0)) → (ys : Expressions) × (all_project xs ks ≡ some ys)
+pub all_known_lem : (xs : List (Option Expression)) (ks : List ℕ) → ((j : ℕ) → j < length ks → Projects xs (get_or ks j 0)) → (ys : Expressions) × (all_project xs ks ≡ Some ys)
 unfolding all_project both_project
 all_known_lem xs [] h = (∅, refl)
 all_known_lem xs (k ∷ ks) h =
@@ -94,18 +94,18 @@ all_known_lem xs (k ∷ ks) h =
     (p.expression ▹ q.0, rw (p.known, q.1))
 
 -- where they all do, each does
-pub all-child : (xs : List (Option Expression)) (ks : List ℕ) (ys : Expressions) → all_project xs ks ≡ some ys → (j : ℕ) → j < length ks → Projects xs (get_or ks j 0)
+pub all-child : (xs : List (Option Expression)) (ks : List ℕ) (ys : Expressions) → all_project xs ks ≡ Some ys → (j : ℕ) → j < length ks → Projects xs (get_or ks j 0)
 all-child xs [] ys e j l = absurd (omega arith)
 all-child xs (k ∷ ks) ys e zero l = let p = parted xs k ks ys e in record { expression = p.one; known = p.one_known }
 all-child xs (k ∷ ks) ys e (suc j) l = let p = parted xs k ks ys e in all-child xs ks p.others p.others-known j (omega arith)
 
 -- where one has none, they don't
-none-known : (xs : List (Option Expression)) (ks : List ℕ) (k : ℕ) → k < length ks → get_or xs (get_or ks k 0) none ≡ none → all_project xs ks ≡ none
+none-known : (xs : List (Option Expression)) (ks : List ℕ) (k : ℕ) → k < length ks → get_or xs (get_or ks k 0) None ≡ None → all_project xs ks ≡ None
 none-known xs ks k l e = go (all_project xs ks) refl
   where
-    go : (o : Option Expressions) → all_project xs ks ≡ o → all_project xs ks ≡ none
-    go none q = q
-    go (some ys) q = absurd (none-some e (all-child xs ks ys q k l).known)
+    go : (o : Option Expressions) → all_project xs ks ≡ o → all_project xs ks ≡ None
+    go None q = q
+    go (Some ys) q = absurd (none-some e (all-child xs ks ys q k l).known)
 
 -- numbers and expressions, equally many, each pair in a relation
 unfoldable pub Pairwise : (ℕ → Expression → Type 0) → List ℕ → Expressions → Type 0
@@ -116,8 +116,8 @@ Pairwise P (k ∷ ks) (x ▹ xs) = P k x × Pairwise P ks xs
 
 -- children and their projections, where each child's projection is in the relation
 pub all-pairwise : (P : ℕ → Expression → Type 0) (xs : List (Option Expression)) (ks : List ℕ)
-    → ((k : ℕ) → k < length ks → (x : Expression) → get_or xs (get_or ks k 0) none ≡ some x → P (get_or ks k 0) x)
-    → (ys : Expressions) → all_project xs ks ≡ some ys → Pairwise P ks ys
+    → ((k : ℕ) → k < length ks → (x : Expression) → get_or xs (get_or ks k 0) None ≡ Some x → P (get_or ks k 0) x)
+    → (ys : Expressions) → all_project xs ks ≡ Some ys → Pairwise P ks ys
 unfolding all_project Pairwise
 all-pairwise P xs [] h ys e = let z : ∅ ≡ ys = cc in subst (Pairwise P []) z tt
 all-pairwise P xs (k ∷ ks) h ys e =
@@ -138,20 +138,20 @@ pub record OverChildren (xs : List (Option Expression)) (n : Node) (x : Expressi
   pub children : List ℕ
   pub projected : Expressions
   pub node : n ≡ operation label children
-  pub known : all_project xs children ≡ some projected
+  pub known : all_project xs children ≡ Some projected
   pub is : x ≡ op label projected
 
 -- so is one whose children give it a projection
-pub over-children : (xs : List (Option Expression)) (n : Node) (x : Expression) → by_children xs n ≡ some x → OverChildren xs n x
+pub over-children : (xs : List (Option Expression)) (n : Node) (x : Expression) → by_children xs n ≡ Some x → OverChildren xs n x
 unfolding by_children operation_of
 over-children xs (column name index) x e = absurd (none-some refl e)
 over-children xs (literal value) x e = absurd (none-some refl e)
 over-children xs (operation label []) x e = absurd (none-some refl e)
 over-children xs (operation label (k ∷ ks)) x e = go (all_project xs (k ∷ ks)) refl e
   where
-    go : (o : Option Expressions) → all_project xs (k ∷ ks) ≡ o → operation_of label o ≡ some x → OverChildren xs (operation label (k ∷ ks)) x
-    go none q z = absurd (none-some refl z)
-    go (some ys) q z = record { label = label; children = k ∷ ks; projected = ys; node = refl; known = q; is = cc }
+    go : (o : Option Expressions) → all_project xs (k ∷ ks) ≡ o → operation_of label o ≡ Some x → OverChildren xs (operation label (k ∷ ks)) x
+    go None q z = absurd (none-some refl z)
+    go (Some ys) q z = record { label = label; children = k ∷ ks; projected = ys; node = refl; known = q; is = cc }
 
 -- ---- what an entry says
 
@@ -163,7 +163,7 @@ says_some os xs ns e (suc zero) h z = record { expression = h.0; known = h.1.0 }
 says_some os xs ns e (suc (suc i)) h z = record { expression = expression_at ns i; known = h.1 }
 
 -- a node without children gets nothing from them
-leaf_none : (xs : List (Option Expression)) (n : Node) → length (child_numbers n) ≡ 0 → by_children xs n ≡ none
+leaf_none : (xs : List (Option Expression)) (n : Node) → length (child_numbers n) ≡ 0 → by_children xs n ≡ None
 unfolding by_children child_numbers
 leaf_none xs (column name index) z = refl
 leaf_none xs (literal value) z = refl
@@ -171,7 +171,7 @@ leaf_none xs (operation label []) z = refl
 leaf_none xs (operation label (k ∷ ks)) z = absurd (omega arith)
 
 -- so does one with a child that has no projection
-children-none : (xs : List (Option Expression)) (n : Node) (k : ℕ) → k < length (child_numbers n) → get_or xs (get_or (child_numbers n) k 0) none ≡ none → by_children xs n ≡ none
+children-none : (xs : List (Option Expression)) (n : Node) (k : ℕ) → k < length (child_numbers n) → get_or xs (get_or (child_numbers n) k 0) None ≡ None → by_children xs n ≡ None
 unfolding by_children child_numbers operation_of
 children-none xs (column name index) k l e = refl
 children-none xs (literal value) k l e = refl
@@ -179,7 +179,7 @@ children-none xs (operation label []) k l e = refl
 children-none xs (operation label (j ∷ ks)) k l e = ap (operation_of label) (none-known xs (j ∷ ks) k l e)
 
 -- one whose children all have projections is an operation over them
-children-some : (xs : List (Option Expression)) (n : Node) → (length (child_numbers n) ≡ 0 → ⊥) → ((k : ℕ) → k < length (child_numbers n) → Projects xs (get_or (child_numbers n) k 0)) → (x : Expression) × (by_children xs n ≡ some x)
+children-some : (xs : List (Option Expression)) (n : Node) → (length (child_numbers n) ≡ 0 → ⊥) → ((k : ℕ) → k < length (child_numbers n) → Projects xs (get_or (child_numbers n) k 0)) → (x : Expression) × (by_children xs n ≡ Some x)
 unfolding by_children child_numbers operation_of
 children-some xs (column name index) z h = absurd (z refl)
 children-some xs (literal value) z h = absurd (z refl)
@@ -216,18 +216,18 @@ module _ (ns : List Node) (cs : List Class) (m : Mapping) (s : Sound ns) (e : �
   says-whole c h = go (becomes ns cs (decode m) e) refl
     where
       go : (o : Option ℕ) → becomes ns cs (decode m) e ≡ o → Says ns All ns e whole
-      go none t = absurd (h (q ∙ ap entry_of t))
-      go (some i) t =
+      go None t = absurd (h (q ∙ ap entry_of t))
+      go (Some i) t =
           let y : whole ≡ i + 2 = q ∙ ap entry_of t in
           let w : suc (suc i) ≡ whole = omega arith in
           subst (Says ns All ns e) w (becomes-below ns cs (length ns) m e c l i (becomes-is ns cs (decode m) e i t), projection-at ns cs (decode m) s e l ∙ rw t)
 
   module _ (z : whole ≡ 0) where
     -- nothing does: what the children give
-    by-children : get_or All e none ≡ by_children All (node_at ns e)
+    by-children : get_or All e None ≡ by_children All (node_at ns e)
     unfolding whole_or
     by-children =
-        let t : becomes ns cs (decode m) e ≡ none = entry-none (becomes ns cs (decode m) e) (sym z ∙ q) in
+        let t : becomes ns cs (decode m) e ≡ None = entry-none (becomes ns cs (decode m) e) (sym z ∙ q) in
         projection-at ns cs (decode m) s e l ∙ rw t
 
     -- there are none

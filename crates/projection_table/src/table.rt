@@ -25,14 +25,11 @@ fn source_entry(m: Mapping, e: u32) -> u32
     requires { Checked 1024 m }
     ensures { result ≡ entry_of (target_for (λ s. eqb s e) (decode m)) }
 {
-    let n = m.count;
-    let mut i = 0;
-    while i < n {
+    for i in 0..m.count {
         let source = m.list[i];
         if source.expr == e {
             return source.targets[0] + 2;
         }
-        i += 1;
     }
     0
 }
@@ -42,14 +39,11 @@ fn class_entry(m: Mapping, places: &[u32; 1024], e: u32) -> u32
     requires { Checked 1024 m × (e < 1024) }
     ensures { result ≡ entry_of (target_for (λ s. same_place places.now s e) (decode m)) }
 {
-    let n = m.count;
-    let mut i = 0;
-    while i < n {
+    for i in 0..m.count {
         let one = m.list[i];
         if same_place(places, wide(one.expr), wide(e)) {
             return one.targets[0] + 2;
         }
-        i += 1;
     }
     0
 }
@@ -74,16 +68,7 @@ fn children_project(cells: &[u32; 11265], table: &[u32; 1024], e: usize) -> bool
     requires { Known cells.now e }
     ensures { result ≡ each (λ k. not (eqb (get_or table.now (get_or (child_numbers (node_at (nodes cells.now) e)) k 0) 0) 0)) (length (child_numbers (node_at (nodes cells.now) e))) }
 {
-    let n = child_count(cells, e);
-    let mut k = 0;
-    while k < n {
-        let child = wide(child_in(cells, e, k));
-        if table[child] == 0 {
-            return false;
-        }
-        k += 1;
-    }
-    true
+    (0..child_count(cells, e)).all(|k| table[wide(child_in(cells, e, k))] != 0)
 }
 
 // The entry of node e, by the table of the nodes before it.
@@ -120,11 +105,9 @@ pub fn projection_table(cells: &[u32; 11265], g: Group, m: Mapping) -> [u32; 102
     let n = node_count(cells);
     let places = class_places(g, n);
     let mut table = [0u32; 1024];
-    let mut e = 0;
-    while e < n {
+    for e in 0..n {
         let entry = node_entry(cells, g, m, &places, &table, e);
         table[e] = entry;
-        e += 1;
     }
     table
 }

@@ -1,25 +1,25 @@
 -- The demands, sentence by sentence, in their order. Demand 2 is shown by runs beside the Rust and by the contracts themselves; docs/PROMISES.md says where.
 -- What a call answers is said by the definition that its contract cites, over the lent cells and the lent struct, so a statement on those definitions is one on the code that runs.
+use Rattle.std.specs.Prelude.{Ok, Err}
 use Prim.Native.Nat.{ℕ, ◌≤◌, ◌<◌}
 use mathlib.Core.Bool.{true}
 use mathlib.Core.List.{List, [], map}
 use mathlib.Core.Logic.{◌↔◌}
 use mathlib.Core.Path.{◌≡◌}
 use lib.ListN.{length, get_or, take}
+use Rattle.arena.specs.Refusals.{refusal}
 use Rattle.arena.specs.Expression.{expression_at}
 use Rattle.arena.specs.Value.{Row, Meaning, value}
 use Rattle.arena.specs.Layout.{lawful, decode as nodes}
-use Rattle.arena.specs.declared.Added.TheVariants.{Number}
 use Rattle.classes.specs.Agree.{PairsAgree}
 use Rattle.classes.specs.Group.{same_class}
 use Rattle.classes.specs.Layout.{decode}
 use Rattle.classes.specs.Steps.{refused}
-use Rattle.classes.specs.Calls.{ask_group}
+use Rattle.classes.specs.Calls.{ask_group, changed_number}
 use Rattle.group_checks.specs.Calls.{opened}
 use Rattle.classes.specs.declared.Group.{Group}
 use Rattle.conditions.specs.Steps.{Chain}
 use Rattle.questions.specs.Calls.{equal_answer}
-use Rattle.questions.specs.declared.Answer.TheVariants.{Yes, Refused as Answer-Refused}
 use Rattle.normal.specs.Calls.{normalized}
 use Rattle.promises.specs.Sequence.{calls, group_after, accepted_pairs, seen}
 use Rattle.promises.proofs.EveryCall as EveryCall
@@ -51,7 +51,7 @@ every_refusal_keeps = EveryRefusal.every_refusal_keeps
 -- ---- Demand 3
 
 -- From an empty group and any sequence of equal conditions:
-module _ (cells : List ℕ) (arena : lawful cells ≡ true) (limit : ℕ) (opens : (opened limit).number ≡ 0) (pairs : List (ℕ × ℕ)) where
+module _ (cells : List ℕ) (arena : lawful cells ≡ true) (limit : ℕ) (opens : changed_number (opened limit) ≡ 0) (pairs : List (ℕ × ℕ)) where
   -- the group afterwards
   abbrev pub group : Group
   group = group_after cells pairs (opened limit).group
@@ -65,17 +65,17 @@ module _ (cells : List ℕ) (arena : lawful cells ≡ true) (limit : ℕ) (opens
   share_a_class_exactly = Conditions.share_a_class_exactly cells arena limit opens pairs
 
   -- A yes of the equality question stays yes after any further conditions.
-  pub yes_stays_yes : (further : List (ℕ × ℕ)) (x y : ℕ) → ask_group (λ k. Answer-Refused k) (equal_answer x y) cells group ≡ Yes
-      → ask_group (λ k. Answer-Refused k) (equal_answer x y) cells (group_after cells further group) ≡ Yes
+  pub yes_stays_yes : (further : List (ℕ × ℕ)) (x y : ℕ) → ask_group (λ k. Err (refusal k)) (equal_answer x y) cells group ≡ Ok true
+      → ask_group (λ k. Err (refusal k)) (equal_answer x y) cells (group_after cells further group) ≡ Ok true
   yes_stays_yes = Conditions.yes_stays_yes cells arena limit opens pairs
 
   -- A larger member limit gives the same answers and classes up to the smaller one's first refusal.
-  pub larger-limit-same : (larger : ℕ) → limit ≤ larger → (opened larger).number ≡ 0
+  pub larger-limit-same : (larger : ℕ) → limit ≤ larger → changed_number (opened larger) ≡ 0
       → (k : ℕ) → ((i : ℕ) → i < k → i < length pairs → (get_or (map seen (calls cells pairs (opened limit).group)) i (refused 0 [])).number ≡ 0)
       → take k (map seen (calls cells pairs (opened larger).group)) ≡ take k (map seen (calls cells pairs (opened limit).group))
   larger-limit-same = Conditions.larger-limit-same cells arena limit opens pairs
 
   -- On every row where all accepted pairs agree, a normalised expression has the value of the original, for any meaning of the operations.
   pub normal_form_has_the_value : {A : Type 0} (m : Meaning A) (row : Row A) → PairsAgree (nodes cells) joining m row
-      → (e i : ℕ) (cells' : List ℕ) → normalized e cells group ≡ (Number i, cells') → value (expression_at (nodes cells') i) m row ≡ value (expression_at (nodes cells) e) m row
+      → (e i : ℕ) (cells' : List ℕ) → normalized e cells group ≡ (Ok i, cells') → value (expression_at (nodes cells') i) m row ≡ value (expression_at (nodes cells) e) m row
   normal_form_has_the_value = Conditions.normal_form_has_the_value cells arena limit opens pairs

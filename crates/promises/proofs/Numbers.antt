@@ -3,10 +3,12 @@ use Rattle.std.specs.Prelude.{if◌then◌else◌}
 use Prim.Native.Nat.{ℕ}
 use mathlib.Core.Bool.{Bool, true, false, ◌&&◌, ◌||◌}
 use mathlib.Core.List.{List, [], ◌∷◌}
-use mathlib.Core.Path.{◌≡◌, refl, subst}
+use mathlib.Core.Path.{◌≡◌, refl, sym, subst}
 use borrow.Author.Tests.{eqb-true}
 use lib.Dec.{eqb}
 use Rattle.laws.proofs.Booleans.{true_not_false, and_left, and_right}
+use Rattle.arena.specs.Refusals.{refusal_number, refusal}
+use Rattle.arena.proofs.Refusals.{Listed, refused-number}
 use Rattle.classes.specs.Group.{among}
 
 -- a number is 0 or one of some
@@ -22,6 +24,18 @@ done = record { is = refl }
 pub either : {A : Type 0} (P : A → Type 0) (b : Bool) {x y : A} → P x → P y → P (if b then x else y)
 either P true p q = p
 either P false p q = q
+
+-- what holds of an answer, and of a refusal where the check's number is not 0, holds of what the check comes to
+pub unless-zero : {A : Type 0} (P : A → Type 0) (k : ℕ) {x y : A} → P x → (eqb k 0 ≡ false → P y) → P (if eqb k 0 then x else y)
+unless-zero P k {x} {y} p q = by (eqb k 0) refl
+  where
+    by : (b : Bool) → eqb k 0 ≡ b → P (if b then x else y)
+    by true z = p
+    by false z = q z
+
+-- the number of a refusal that a check gives is the check's
+pub as-refusal : {numbers : List ℕ} {k : ℕ} → Listed k → OneOf numbers k → eqb k 0 ≡ false → OneOf numbers (refusal_number (refusal k))
+as-refusal {numbers} {k} l o z = subst (OneOf numbers) (sym (refused-number k l z)) o
 
 -- ---- more numbers
 

@@ -1,4 +1,9 @@
 -- Which numbers the calls on expressions give.
+use Rattle.arena.specs.declared.Read.{Read}
+use Rattle.arena.specs.declared.Refusal.TheVariants.{BadState}
+use Rattle.std.specs.Prelude.{Option, Result, Err}
+use Rattle.arena.specs.declared.Refusal.{Refusal}
+use Rattle.arena.specs.Refusals.{Added}
 use Prim.Native.Nat.{ℕ}
 use mathlib.Core.Bool.{true}
 use mathlib.Core.List.{List, [], ◌∷◌}
@@ -7,34 +12,29 @@ use lib.Dec.{ltb, leb}
 use lib.IntN.{ℤ}
 use lib.ListN.{length, get_or}
 use Rattle.laws.specs.Tests.{each}
-use Rattle.arena.specs.Node.{Node, column, literal, operation, node_at, child_numbers}
+use Rattle.arena.specs.Node.{Node, node_at, child_numbers}
 use Rattle.arena.specs.Expression.{expression_at}
 use Rattle.arena.specs.Arena.{Placed, placed, full}
 use Rattle.arena.specs.Layout.{decode as nodes, lawful}
-use Rattle.arena.specs.Calls.{Outcome, answered, add_column, add_literal, add_operation, read_of, read_node, read_child, on_lent, in_cells, lent, checked, added_number, read_number, child_number}
-use Rattle.arena.specs.declared.Added.{Added}
-use Rattle.arena.specs.declared.Read.{Read}
-use Rattle.arena.specs.declared.Read.TheVariants.{Refused as Read-Refused}
-use Rattle.arena.specs.declared.Child.{Child}
-use Rattle.arena.specs.declared.Child.TheVariants.{Refused as Child-Refused}
+use Rattle.arena.specs.Calls.{Outcome, answered, add_column, add_literal, add_operation, read_node, read_child, on_lent, in_cells, lent, checked, added_number, read_number, child_number}
 use Rattle.shifting.specs.Shift.{moved, can_move}
 use Rattle.shifting.specs.Calls.{shifted_outcome, add_offset}
 use Rattle.classes.specs.Group.{among}
 use Rattle.answers.specs.Answers.{on_first}
 use Rattle.group_answers.specs.Answers.{added_in, read_in, child_in}
 use Rattle.promises.proofs.Numbers.{OneOf, done, either, all_among, wider}
-use Rattle.promises.proofs.NumbersOfAnswers.{added_in_lem, read_in_lem, child_in_lem}
+use Rattle.promises.proofs.NumbersOfAnswers.{told_number}
 
 -- the number of an addition beside an arena
 abbrev pub Adds : {B : Type 0} → List ℕ → Added × B → Type 0
 Adds numbers o = OneOf numbers (added_number o.0)
 
 -- of a node that is read
-abbrev Reads : Read → Type 0
+abbrev Reads : Result Read Refusal → Type 0
 Reads a = OneOf (11 ∷ 1 ∷ []) (read_number a)
 
 -- of a child that is read
-abbrev ReadsChild : Child → Type 0
+abbrev ReadsChild : Result (Option ℕ) Refusal → Type 0
 ReadsChild a = OneOf (11 ∷ 1 ∷ []) (child_number a)
 
 -- the check of an arena
@@ -51,9 +51,9 @@ answered-number ns full = record { is = refl }
 -- a call that adds to the arena in lent cells
 lent-number : {numbers : List ℕ} (old : List ℕ) (call : List Node → Outcome) (cells : List ℕ) → all_among (11 ∷ []) (0 ∷ numbers) ≡ true → ((ns : List Node) → OneOf numbers (added_number (call ns).0))
     → OneOf numbers (on_first (added_in old) (lent call cells)).0.0
-unfolding on_first on_lent in_cells among
+unfolding on_first added_in on_lent in_cells among
 lent-number {numbers} old call cells a h =
-    added_in_lem old (lent call cells).0
+    told_number _ old (lent call cells).0
     (either (Adds numbers) (lawful cells) (h (nodes cells)) (wider {ms = 11 ∷ []} {r = 11} (record { is = refl }) a))
 
 -- a column
@@ -94,25 +94,17 @@ shifted-number old e offset cells =
     (either (Adds shift_numbers) (can_move (moved offset) (expression_at ns e)) (wider (answered-number ns _) refl) (record { is = refl }))
     (record { is = refl }))
 
--- a node that is there
-node-read : {numbers : List ℕ} (n : Node) → OneOf numbers (read_number (read_of n))
-unfolding read_of
-node-read (column name index) = done
-node-read (literal value) = done
-node-read (operation label children) = done
-
 -- a node
-pub read_number_lem : (old : List ℕ) (e : ℕ) (cells : List ℕ) → OneOf (11 ∷ 1 ∷ []) (read_in old (on_lent (Read-Refused 11) (read_node e) cells)).0
-unfolding on_lent read_node among
+pub read_number_lem : (old : List ℕ) (e : ℕ) (cells : List ℕ) → OneOf (11 ∷ 1 ∷ []) (read_in old (on_lent (Err BadState) (read_node e) cells)).0
+unfolding read_in on_lent read_node among
 read_number_lem old e cells =
-    read_in_lem old (on_lent (Read-Refused 11) (read_node e) cells)
-    (either Reads (lawful cells) (either Reads (ltb e (length (nodes cells))) (node-read (node_at (nodes cells) e)) (record { is = refl })) (record { is = refl }))
+    told_number _ old (on_lent (Err BadState) (read_node e) cells) (either Reads (lawful cells) (either Reads (ltb e (length (nodes cells))) done (record { is = refl })) (record { is = refl }))
 
 -- a child
-pub child-number : (old : List ℕ) (e k : ℕ) (cells : List ℕ) → OneOf (11 ∷ 1 ∷ []) (child_in old (on_lent (Child-Refused 11) (read_child e k) cells)).0
-unfolding on_lent read_child among
+pub child-number : (old : List ℕ) (e k : ℕ) (cells : List ℕ) → OneOf (11 ∷ 1 ∷ []) (child_in old (on_lent (Err BadState) (read_child e k) cells)).0
+unfolding child_in on_lent read_child among
 child-number old e k cells =
-    child_in_lem old (on_lent (Child-Refused 11) (read_child e k) cells)
+    told_number _ old (on_lent (Err BadState) (read_child e k) cells)
     (either ReadsChild (lawful cells)
     (either ReadsChild (ltb e (length (nodes cells))) (either ReadsChild (ltb k (length (child_numbers (node_at (nodes cells) e)))) done done) (record { is = refl }))
     (record { is = refl }))

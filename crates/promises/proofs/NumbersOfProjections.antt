@@ -2,11 +2,12 @@
 use Prim.Native.Nat.{ℕ}
 use mathlib.Core.Bool.{◌&&◌}
 use mathlib.Core.List.{List, [], ◌∷◌}
-use mathlib.Core.Option.{Option, none, some}
+use Rattle.std.specs.Prelude.{Option, None, Some, Err}
 use mathlib.Core.Path.{refl}
 use lib.Dec.{eqb, ltb, leb}
 use lib.ListN.{length, get_or}
 use Rattle.laws.specs.Tests.{each}
+use Rattle.arena.specs.Refusals.{refusal}
 use Rattle.arena.specs.Node.{Node}
 use Rattle.arena.specs.Expression.{Expression}
 use Rattle.arena.specs.Arena.{Placed, placed, full}
@@ -14,21 +15,20 @@ use Rattle.arena.specs.Layout.{decode as nodes}
 use Rattle.arena.specs.Calls.{in_cells}
 use Rattle.classes.specs.Group.{among}
 use Rattle.classes.specs.Layout.{in_set}
-use Rattle.classes.specs.Calls.{group_number}
+use Rattle.classes.specs.Calls.{group_number, changed_number}
 use Rattle.classes.specs.declared.Group.{Group}
 use Rattle.merging.specs.Calls.{refused_group}
 use Rattle.mappings.specs.Mapping.{Mapped, mapping_below}
 use Rattle.mappings.specs.Lent.{targets_given, lawful_mapping, mapping_lent}
 use Rattle.mappings.specs.Calls.{project_number}
-use Rattle.projection.specs.Calls.{placed_answer, projected_answer, project_expr, projected_expr, written_answer, project_expressions, projected_expressions, projected_is_number}
-use Rattle.projection.specs.declared.Projected.{Projected}
-use Rattle.projection.specs.declared.Projected.TheVariants.{Refused as Projected-Refused}
+use Rattle.mappings.proofs.ProjectNumbers.{project-listed}
+use Rattle.projection.specs.Calls.{Projected, placed_answer, projected_answer, project_expr, projected_expr, written_answer, project_expressions, projected_expressions, projected_is_number}
 use Rattle.group_projection.specs.Calls.{project_placed, project_by, project_answer}
 use Rattle.group_states.specs.Groups.{stored_group}
 use Rattle.answers.specs.Answers.{on_first}
 use Rattle.group_answers.specs.Answers.{projected_in}
-use Rattle.promises.proofs.Numbers.{OneOf, done, either, all_among, wider}
-use Rattle.promises.proofs.NumbersOfAnswers.{group_in, projected_in_lem}
+use Rattle.promises.proofs.Numbers.{OneOf, done, either, unless-zero, as-refusal, all_among, wider}
+use Rattle.promises.proofs.NumbersOfAnswers.{told_number}
 use Rattle.promises.proofs.NumbersOfGroups.{ChangesBeside, group-number, made-number, on_checked-number}
 
 -- the check of what a projection is lent
@@ -47,17 +47,18 @@ abbrev project_numbers : List ℕ
 project_numbers = 12 ∷ 11 ∷ 1 ∷ 3 ∷ 4 ∷ []
 
 -- a projected group once the nodes are there
-project_placed-number : (ps : List Mapped) (g : Group) (ns : List Node) (p : Placed (List (Option ℕ) × List ℕ)) → OneOf project_numbers (project_placed ps g ns p).0.number
-unfolding project_placed refused_group all_among among
+project_placed-number : (ps : List Mapped) (g : Group) (ns : List Node) (p : Placed (List (Option ℕ) × List ℕ)) → OneOf project_numbers (changed_number (project_placed ps g ns p).0)
+unfolding project_placed refused_group refusal all_among among
 project_placed-number ps g ns (placed kj os) = wider (made-number g ns os _) refl
 project_placed-number ps g ns full = record { is = refl }
 
 -- the projection of a group
 pub project-number : (old cells : List ℕ) (g : Group) (mapping : List ℕ) → OneOf project_numbers (on_first (stored_group old) (project_answer cells g mapping)).0.0
-unfolding on_first project_answer project_by in_cells all_among among
+unfolding on_first stored_group project_answer project_by in_cells all_among among
 project-number old cells g mapping =
-    group_in old (project_answer cells g mapping).0
-    (either (ChangesBeside project_numbers) (eqb (project_number cells g mapping) 0) (project_placed-number (mapping_lent mapping) g (nodes cells) _) (wider (project-check-number cells g mapping) refl))
+    told_number _ old (project_answer cells g mapping).0.answer
+    (unless-zero (ChangesBeside project_numbers) (project_number cells g mapping) (project_placed-number (mapping_lent mapping) g (nodes cells) _)
+    (as-refusal (project-listed cells g mapping) (wider (project-check-number cells g mapping) refl)))
 
 -- the numbers of a projected expression
 abbrev expr_numbers : List ℕ
@@ -76,15 +77,15 @@ placed-number ns full = record { is = refl }
 -- a projection, or that there is none
 projected-number : (ns : List Node) (x : Option Expression) → Projects (projected_answer ns x)
 unfolding projected_answer
-projected-number ns none = done
-projected-number ns (some x) = placed-number ns _
+projected-number ns None = done
+projected-number ns (Some x) = placed-number ns _
 
 -- the projection of an expression
 pub project_expr-number : (old : List ℕ) (e : ℕ) (mapping cells : List ℕ) (g : Group) → OneOf expr_numbers (on_first (projected_in old) (projected_expr e mapping cells g)).0.0
-unfolding on_first project_expr all_among among
+unfolding on_first projected_in project_expr all_among among
 project_expr-number old e mapping cells g =
-    projected_in_lem old (projected_expr e mapping cells g).0
-    (on_checked-number projected_is_number (project_number cells g mapping) Projected-Refused (project_expr e (mapping_lent mapping)) cells g (wider (project-check-number cells g mapping) refl)
+    told_number _ old (projected_expr e mapping cells g).0
+    (on_checked-number projected_is_number (project_number cells g mapping) (λ k. Err (refusal k)) (project_expr e (mapping_lent mapping)) cells g (as-refusal (project-listed cells g mapping) (wider (project-check-number cells g mapping) refl))
     (λ ns cs. either Projects (ltb e (length ns)) (projected-number ns _) (record { is = refl })))
 
 -- the numbers of several
@@ -105,5 +106,5 @@ written-number out ns full = record { is = refl }
 pub project_expressions-number : (es out mapping cells : List ℕ) (g : Group) → OneOf exprs_numbers (projected_expressions es out mapping cells g).0.0
 unfolding project_expressions all_among among
 project_expressions-number es out mapping cells g =
-    on_checked-number (λ (r : ℕ × List ℕ). r.0) (project_number cells g mapping) (λ k. (k, out)) (project_expressions es out (mapping_lent mapping)) cells g (wider (project-check-number cells g mapping) refl)
+    on_checked-number (λ (r : ℕ × List ℕ). r.0) (project_number cells g mapping) (λ k. (k, out)) (project_expressions es out (mapping_lent mapping)) cells g (λ z. wider (project-check-number cells g mapping) refl)
     (λ ns cs. either Writes (each (λ k. ltb (get_or es k 0) (length ns)) (length es)) (written-number out ns _) (record { is = refl }))

@@ -2,6 +2,7 @@
 use Rattle.laws.proofs.Determined.{one-result}
 use Rattle.promises.proofs.Once.{OneAnswer, OneWith}
 use Rattle.dependencies.proofs.checking.lawful_map.Reads as DependenciesCheckingLawfulMap
+use Rattle.dependencies.proofs.checking.check_insert.Reads as DependenciesCheckingCheckInsert
 use Rattle.dependencies.proofs.checking.check_map.Reads as DependenciesCheckingCheckMap
 use Rattle.dependencies.proofs.inserting.nothing.Reads as DependenciesInsertingNothing
 use Rattle.dependencies.proofs.inserting.refusal.Reads as DependenciesInsertingRefusal
@@ -21,7 +22,6 @@ use Rattle.products.proofs.choosing.choice_at.Reads as ProductsChoosingChoiceAt
 use Rattle.products.proofs.choosing.count_choices.Reads as ProductsChoosingCountChoices
 use Rattle.products.proofs.ordering.factorial.Reads as ProductsOrderingFactorial
 use Rattle.products.proofs.ordering.ordering_at.Reads as ProductsOrderingOrderingAt
-use Rattle.dependency_orderings.proofs.answering.refused.Reads as DependencyOrderingsAnsweringRefused
 use Rattle.dependency_orderings.proofs.answering.answer_prefixes.Reads as DependencyOrderingsAnsweringAnswerPrefixes
 use Rattle.dependency_orderings.proofs.checking.prefix_number.Reads as DependencyOrderingsCheckingPrefixNumber
 use Rattle.dependency_orderings.proofs.checking.generate_number.Reads as DependencyOrderingsCheckingGenerateNumber
@@ -33,6 +33,9 @@ use Rattle.dependency_orderings.proofs.writing.measure_all.Reads as DependencyOr
 
 pub dependencies-checking-lawful_map : (κs : _) (a : _) → OneAnswer (DependenciesCheckingLawfulMap.Learnt κs a)
 dependencies-checking-lawful_map κs a r r' s s' = one-result
+
+pub dependencies-checking-check_insert : (κs : _) (a : _) → OneAnswer (DependenciesCheckingCheckInsert.Learnt κs a)
+dependencies-checking-check_insert κs a r r' s s' = one-result
 
 pub dependencies-checking-check_map : (κs : _) (a : _) → OneAnswer (DependenciesCheckingCheckMap.Learnt κs a)
 dependencies-checking-check_map κs a r r' s s' = one-result
@@ -96,9 +99,6 @@ pub products-ordering-ordering_at : (κs : _) (a : _) → OneAnswer (ProductsOrd
 products-ordering-ordering_at κs a r r' s s' = one-result
 
 -- ---- dependency_orderings
-
-pub dependency_orderings-answering-refused : (κs : _) (a : _) → OneAnswer (DependencyOrderingsAnsweringRefused.Learnt κs a)
-dependency_orderings-answering-refused κs a r r' s s' = one-result
 
 pub dependency_orderings-answering-answer_prefixes : (κs : _) (a : _) → OneWith (λ s. s.1.1.0.now) (DependencyOrderingsAnsweringAnswerPrefixes.Learnt κs a)
 dependency_orderings-answering-answer_prefixes κs a r r' s s' = one-result

@@ -21,6 +21,7 @@ use Rattle.arena.proofs.read_node.Reads as ArenaReadNode
 use Rattle.arena.proofs.read_child.Reads as ArenaReadChild
 use Rattle.arena.proofs.memo.note.Reads as ArenaMemoNote
 use Rattle.arena.proofs.memo.refused.Reads as ArenaMemoRefused
+use Rattle.arena.proofs.refusing.number_of.Reads as ArenaRefusingNumberOf
 use Rattle.arena.proofs.reading.read_in.Reads as ArenaReadingReadIn
 use Rattle.arena.proofs.reading.child_count.Reads as ArenaReadingChildCount
 use Rattle.arena.proofs.reading.child_in.Reads as ArenaReadingChildIn
@@ -89,6 +90,9 @@ arena-memo-note κs a r r' s s' = one-result
 
 pub arena-memo-refused : (κs : _) (a : _) → OneAnswer (ArenaMemoRefused.Learnt κs a)
 arena-memo-refused κs a r r' s s' = one-result
+
+pub arena-refusing-number_of : (κs : _) (a : _) → OneAnswer (ArenaRefusingNumberOf.Learnt κs a)
+arena-refusing-number_of κs a r r' s s' = one-result
 
 pub arena-reading-read_in : (κs : _) (a : _) → OneAnswer (ArenaReadingReadIn.Learnt κs a)
 arena-reading-read_in κs a r r' s s' = one-result

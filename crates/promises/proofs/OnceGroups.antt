@@ -3,9 +3,11 @@ use Rattle.laws.proofs.Determined.{one-result}
 use Rattle.promises.proofs.Once.{OneAnswer, OneWith}
 use Rattle.classes.proofs.building.empty.Reads as ClassesBuildingEmpty
 use Rattle.classes.proofs.building.class_start.Reads as ClassesBuildingClassStart
-use Rattle.classes.proofs.building.taken_over.Reads as ClassesBuildingTakenOver
-use Rattle.classes.proofs.building.mark_from.Reads as ClassesBuildingMarkFrom
-use Rattle.classes.proofs.building.mark_of.Reads as ClassesBuildingMarkOf
+use Rattle.classes.proofs.Constant.flavour.Reads as ClassesConstantsFlavour
+use Rattle.classes.proofs.Constant.value.Reads as ClassesConstantsValue
+use Rattle.classes.proofs.Constant.from_numbers.Reads as ClassesConstantsFromNumbers
+use Rattle.classes.proofs.Constant.taken_over.Reads as ClassesConstantsTakenOver
+use Rattle.classes.proofs.building.constant_of.Reads as ClassesBuildingConstantOf
 use Rattle.classes.proofs.building.add_class.Reads as ClassesBuildingAddClass
 use Rattle.classes.proofs.building.merge_last.Reads as ClassesBuildingMergeLast
 use Rattle.classes.proofs.building.set_constant.Reads as ClassesBuildingSetConstant
@@ -15,7 +17,7 @@ use Rattle.classes.proofs.building.first_member.Reads as ClassesBuildingFirstMem
 use Rattle.classes.proofs.building.class_size.Reads as ClassesBuildingClassSize
 use Rattle.classes.proofs.finding.find_class.Reads as ClassesFindingFindClass
 use Rattle.classes.proofs.refusing.no_group.Reads as ClassesRefusingNoGroup
-use Rattle.classes.proofs.single.carried_mark.Reads as ClassesSingleCarriedMark
+use Rattle.classes.proofs.single.carried.Reads as ClassesSingleCarried
 use Rattle.classes.proofs.single.one_class.Reads as ClassesSingleOneClass
 use Rattle.classes.proofs.single.single_group.Reads as ClassesSingleSingleGroup
 use Rattle.group_checks.proofs.checking.known_flavour.Reads as GroupChecksCheckingKnownFlavour
@@ -56,14 +58,20 @@ classes-building-empty κs a r r' s s' = one-result
 pub classes-building-class_start : (κs : _) (a : _) → OneAnswer (ClassesBuildingClassStart.Learnt κs a)
 classes-building-class_start κs a r r' s s' = one-result
 
-pub classes-building-taken_over : (κs : _) (a : _) → OneAnswer (ClassesBuildingTakenOver.Learnt κs a)
-classes-building-taken_over κs a r r' s s' = one-result
+pub classes-constants-flavour : (κs : _) (a : _) → OneAnswer (ClassesConstantsFlavour.Learnt κs a)
+classes-constants-flavour κs a r r' s s' = one-result
 
-pub classes-building-mark_from : (κs : _) (a : _) → OneAnswer (ClassesBuildingMarkFrom.Learnt κs a)
-classes-building-mark_from κs a r r' s s' = one-result
+pub classes-constants-value : (κs : _) (a : _) → OneAnswer (ClassesConstantsValue.Learnt κs a)
+classes-constants-value κs a r r' s s' = one-result
 
-pub classes-building-mark_of : (κs : _) (a : _) → OneAnswer (ClassesBuildingMarkOf.Learnt κs a)
-classes-building-mark_of κs a r r' s s' = one-result
+pub classes-constants-from_numbers : (κs : _) (a : _) → OneAnswer (ClassesConstantsFromNumbers.Learnt κs a)
+classes-constants-from_numbers κs a r r' s s' = one-result
+
+pub classes-constants-taken_over : (κs : _) (a : _) → OneAnswer (ClassesConstantsTakenOver.Learnt κs a)
+classes-constants-taken_over κs a r r' s s' = one-result
+
+pub classes-building-constant_of : (κs : _) (a : _) → OneAnswer (ClassesBuildingConstantOf.Learnt κs a)
+classes-building-constant_of κs a r r' s s' = one-result
 
 pub classes-building-add_class : (κs : _) (a : _) → OneAnswer (ClassesBuildingAddClass.Learnt κs a)
 classes-building-add_class κs a r r' s s' = one-result
@@ -92,8 +100,8 @@ classes-finding-find_class κs a r r' s s' = one-result
 pub classes-refusing-no_group : (κs : _) (a : _) → OneAnswer (ClassesRefusingNoGroup.Learnt κs a)
 classes-refusing-no_group κs a r r' s s' = one-result
 
-pub classes-single-carried_mark : (κs : _) (a : _) → OneAnswer (ClassesSingleCarriedMark.Learnt κs a)
-classes-single-carried_mark κs a r r' s s' = one-result
+pub classes-single-carried : (κs : _) (a : _) → OneAnswer (ClassesSingleCarried.Learnt κs a)
+classes-single-carried κs a r r' s s' = one-result
 
 pub classes-single-one_class : (κs : _) (a : _) → OneAnswer (ClassesSingleOneClass.Learnt κs a)
 classes-single-one_class κs a r r' s s' = one-result

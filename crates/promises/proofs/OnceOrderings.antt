@@ -25,7 +25,6 @@ use Rattle.reduction.proofs.add_orderings.Reads as ReductionAddOrderings
 use Rattle.reduction.proofs.new.Reads as ReductionNew
 use Rattle.reduction.proofs.extend.Reads as ReductionExtend
 use Rattle.reduction.proofs.reducing.remove_redundant_entries.Reads as ReductionReducingRemoveRedundantEntries
-use Rattle.ordering_joins.proofs.joining.no_output.Reads as OrderingJoinsJoiningNoOutput
 use Rattle.ordering_joins.proofs.joining.output_in.Reads as OrderingJoinsJoiningOutputIn
 use Rattle.ordering_joins.proofs.joining.join_in.Reads as OrderingJoinsJoiningJoinIn
 use Rattle.ordering_joins.proofs.add_offset.Reads as OrderingJoinsAddOffset
@@ -112,9 +111,6 @@ pub reduction-reducing-remove_redundant_entries : (κs : _) (a : _) → OneAnswe
 reduction-reducing-remove_redundant_entries κs a r r' s s' = one-result
 
 -- ---- ordering_joins
-
-pub ordering_joins-joining-no_output : (κs : _) (a : _) → OneAnswer (OrderingJoinsJoiningNoOutput.Learnt κs a)
-ordering_joins-joining-no_output κs a r r' s s' = one-result
 
 pub ordering_joins-joining-output_in : (κs : _) (a : _) → OneAnswer (OrderingJoinsJoiningOutputIn.Learnt κs a)
 ordering_joins-joining-output_in κs a r r' s s' = one-result

@@ -49,8 +49,7 @@ opened {r = r} {r' = r'} p q = by (ltb r r') refl (ltb r' r) refl
 -- ---- classes
 
 pub classes-refusing-refusal : (κs : _) (a : _) → OneAnswer (ClassesRefusingRefusal.Learnt κs a)
-classes-refusing-refusal κs a r r' s s' p q =
-    λ i. record { number = one-result p.0 q.0 i; answer = one-result p.1.0 q.1.0 i; group = one-result p.1.1 q.1.1 i }
+classes-refusing-refusal κs a r r' s s' p q = λ i. record { answer = one-result p.0 q.0 i; group = one-result p.1 q.1 i }
 
 -- ---- enumeration
 

@@ -11,9 +11,8 @@ use Rattle.states.proofs.orders.load_orderings.Reads as StatesOrdersLoadOrdering
 use Rattle.states.proofs.orders.store_orderings.Reads as StatesOrdersStoreOrderings
 use Rattle.group_states.proofs.groups.load_group.Reads as GroupStatesGroupsLoadGroup
 use Rattle.group_states.proofs.groups.store_group.Reads as GroupStatesGroupsStoreGroup
-use Rattle.answers.proofs.put_1.Reads as AnswersPut1
-use Rattle.answers.proofs.put_2.Reads as AnswersPut2
-use Rattle.answers.proofs.put_sizes.Reads as AnswersPutSizes
+use Rattle.answers.proofs.bit_of.Reads as AnswersBitOf
+use Rattle.answers.proofs.maybe_of.Reads as AnswersMaybeOf
 use Rattle.answers.proofs.put_one.Reads as AnswersPutOne
 use Rattle.answers.proofs.put_options.Reads as AnswersPutOptions
 use Rattle.answers.proofs.put_partial.Reads as AnswersPutPartial
@@ -75,14 +74,11 @@ group_states-groups-store_group κs a r r' s s' = one-result
 
 -- ---- answers
 
-pub answers-put-1 : (κs : _) (a : _) → OneLent (λ s. s.0.now) (AnswersPut1.Learnt κs a)
-answers-put-1 κs a r r' s s' = one-result
+pub answers-bit_of : (κs : _) (a : _) → OneAnswer (AnswersBitOf.Learnt κs a)
+answers-bit_of κs a r r' s s' = one-result
 
-pub answers-put-2 : (κs : _) (a : _) → OneLent (λ s. s.0.now) (AnswersPut2.Learnt κs a)
-answers-put-2 κs a r r' s s' = one-result
-
-pub answers-put_sizes : (κs : _) (a : _) → OneLent (λ s. s.0.now) (AnswersPutSizes.Learnt κs a)
-answers-put_sizes κs a r r' s s' = one-result
+pub answers-maybe_of : (κs : _) (a : _) → OneAnswer (AnswersMaybeOf.Learnt κs a)
+answers-maybe_of κs a r r' s s' = one-result
 
 pub answers-put_one : (κs : _) (a : _) → OneLent (λ s. s.1.0.now) (AnswersPutOne.Learnt κs a)
 answers-put_one κs a r r' s s' = one-result

@@ -1,21 +1,39 @@
 -- A sequence of calls comes to what the definitions say of the list of classes.
-use Rattle.std.specs.Prelude.{if◌then◌else◌}
+use Rattle.std.specs.Prelude.{if◌then◌else◌, Err}
 use Prim.Native.Nat.{ℕ}
-use mathlib.Core.Bool.{false}
+use mathlib.Core.Bool.{Bool, true, false, ◌&&◌}
 use mathlib.Core.List.{List, [], ◌∷◌, ◌++◌, map}
 use mathlib.Core.Path.{◌≡◌, refl, ap, ap₂, ◌∙◌}
-use lib.Dec.{eqb}
+use lib.Dec.{eqb, ltb}
+use lib.ListN.{length}
+use Rattle.arena.specs.Refusals.{refusal, number_of}
+use Rattle.arena.specs.Node.{Node}
 use Rattle.arena.specs.Layout.{decode as nodes}
 use Rattle.classes.specs.Class.{Class}
+use Rattle.classes.specs.Group.{equal_condition}
 use Rattle.classes.specs.Layout.{encode, decode}
-use Rattle.classes.specs.Steps.{Outcome}
-use Rattle.classes.specs.Calls.{group_number, changed, on_group}
+use Rattle.classes.specs.Steps.{Outcome, fits, judged, refused}
+use Rattle.classes.specs.Calls.{group_number, answer_of, changed, changed_number, on_group}
 use Rattle.classes.specs.declared.Group.{Group}
 use Rattle.classes.specs.declared.Changed.{Changed}
 use Rattle.classes.proofs.Codec.{decode-encode}
 use Rattle.conditions.specs.Steps.{add_equal, outcomes, after, accepted}
 use Rattle.demands.proofs.Valid.{valid_equal}
-use Rattle.promises.specs.Sequence.{equal_call, calls, group_after, accepted_pairs, seen}
+use Rattle.promises.specs.Sequence.{equal_call, calls, group_after, accepted_pairs, said, seen}
+
+-- what is told of an outcome of an equal condition is the outcome
+told-is : (limit : ℕ) (ns : List Node) (a b : ℕ) (cs : List Class) → let o : Outcome = add_equal limit ns a b cs in
+    ◌≡◌ {A = Outcome} (record { number = number_of (answer_of o); answer = said (answer_of o); classes = o.classes }) o
+unfolding add_equal judged refused answer_of refusal
+told-is limit ns a b cs = by (ltb a (length ns) && ltb b (length ns)) (fits limit (equal_condition ns cs a b).1)
+  where
+    told : Outcome → Outcome
+    told o = record { number = number_of (answer_of o); answer = said (answer_of o); classes = o.classes }
+
+    by : (p q : Bool) → let o : Outcome = if p then (if q then record { number = 0; answer = (equal_condition ns cs a b).0; classes = (equal_condition ns cs a b).1 } else refused 4 cs) else refused 1 cs in told o ≡ o
+    by true true = refl
+    by true false = refl
+    by false q = refl
 
 module _ (cells : List ℕ) where
   -- the outcome of one pair, over the list of classes
@@ -25,14 +43,15 @@ module _ (cells : List ℕ) where
   -- a call on a checked group comes to it
   call-is : (p : ℕ × ℕ) (g : Group) → group_number cells g ≡ 0 → equal_call cells p g ≡ changed g.limit (outcome_of p g)
   unfolding on_group
-  call-is p g z = ap (λ (k : ℕ). if eqb k 0 then changed g.limit (outcome_of p g) else record { number = k; answer = false; group = g }) z
+  call-is p g z = ap (λ (k : ℕ). if eqb k 0 then changed g.limit (outcome_of p g) else record { answer = Err (refusal k); group = g }) z
 
   -- so what is seen of the call is the outcome
   seen-is : (p : ℕ × ℕ) (g : Group) → group_number cells g ≡ 0 → seen (equal_call cells p g) ≡ outcome_of p g
   unfolding changed
   seen-is p g z =
       ap seen (call-is p g z)
-      ∙ ap {B = Outcome} (λ (cs : List Class). record { number = (outcome_of p g).number; answer = (outcome_of p g).answer; classes = cs }) (decode-encode g.limit (outcome_of p g).classes)
+      ∙ ap {B = Outcome} (λ (cs : List Class). record { number = changed_number (changed g.limit (outcome_of p g)); answer = said (answer_of (outcome_of p g)); classes = cs }) (decode-encode g.limit (outcome_of p g).classes)
+      ∙ told-is g.limit (nodes cells) p.0 p.1 (decode g)
 
   -- and the limit stays
   limit_is : (p : ℕ × ℕ) (g : Group) → group_number cells g ≡ 0 → (equal_call cells p g).group.limit ≡ g.limit

@@ -1,19 +1,15 @@
 -- Document 01's small examples P1 to P13 as one table: what is asked, and what the paper says is answered. What is asked is answered by the definitions that the contracts of the calls cite.
-use Rattle.std.specs.Prelude.{ℕ, ◌+◌, ◌*◌, Bool, true, false, List, [], ◌∷◌}
-use Rattle.std.proofs.Math.Option.{some}
+use Rattle.std.specs.Prelude.{ℕ, ◌+◌, ◌*◌, Bool, true, false, List, [], ◌∷◌, Some, Err, Ok}
+use Rattle.arena.specs.declared.Refusal.{Refusal}
+use Rattle.arena.specs.Refusals.{Added}
 use Rattle.arena.specs.Node.{Node, column, literal, operation}
 use Rattle.arena.specs.Expression.{Expression, col, op, ∅, ◌▹◌, expression_at}
-use Rattle.arena.specs.declared.Added.{Added}
-use Rattle.arena.specs.declared.Added.TheVariants.{Number, Refused}
-use Rattle.classes.specs.Class.{Constant, no_constant, heterogeneous, unknown, Class}
-use Rattle.classes.specs.Layout.{mark_of}
+use Rattle.classes.specs.declared.Constant.{Constant}
+use Rattle.classes.specs.declared.Constant.TheVariants.{NoConstant as no_constant, Heterogeneous as heterogeneous, Unknown as unknown}
+use Rattle.classes.specs.Class.{Class}
 use Rattle.classes.specs.Steps.{Outcome}
 use Rattle.conditions.specs.Steps.{add_equal, add_constant}
-use Rattle.questions.specs.Calls.{equal_answer, constant_answer}
-use Rattle.questions.specs.declared.Answer.{Answer}
-use Rattle.questions.specs.declared.Answer.TheVariants.{Yes, No}
-use Rattle.questions.specs.declared.ConstantIs.{ConstantIs}
-use Rattle.questions.specs.declared.ConstantIs.TheVariants.{Is}
+use Rattle.questions.specs.Calls.{Answer, ConstantIs, equal_answer, constant_answer}
 use Rattle.normal.specs.Calls.{normalize_expr}
 use Rattle.orderings.specs.Layout.{encode}
 use Rattle.orderings.specs.Lists.{join_suffix}
@@ -22,8 +18,7 @@ use Rattle.orderings.specs.declared.Listed.{Listed}
 use Rattle.reduction.specs.Calls.{reduced_list}
 use Rattle.dependencies.specs.Map.{Dependent, inserted}
 use Rattle.enumeration.specs.Walk.{prefix_orderings}
-use Rattle.dependency_orderings.specs.Calls.{walk_answer}
-use Rattle.dependency_orderings.specs.declared.Enumerated.{Enumerated}
+use Rattle.dependency_orderings.specs.Calls.{Answer as Enumeration, walk_answer}
 
 -- the expressions of the examples: the columns 0 to 5, which the paper calls a to f, and x and y; 6 is f(b); 7 and 8 are the labels 1 and 2 over (a,b); 9 and 10 the literals 1 and 2; 11 is f(literal)
 abbrev pub nodes : List Node
@@ -57,16 +52,16 @@ pub data Asked : Type 0 where
 pub data Told : Type 0 where
   outcome : Outcome → Told
   form : Expression → Told
-  no_form : (refusal : ℕ) → Told
+  no_form : (why : Refusal) → Told
   answer : Answer → Told
   constant_is : ConstantIs → Told
   list : Listed → Told
-  output : Enumerated × List ℕ → Told
+  output : Enumeration → Told
 
 -- the number of a normal form stands for this expression of the arena afterwards
 unfoldable pub form_told : Added × List Node → Told
-form_told (Number e, ns) = form (expression_at ns e)
-form_told (Refused k, ns) = no_form k
+form_told (Ok e, ns) = form (expression_at ns e)
+form_told (Err why, ns) = no_form why
 
 -- what the definitions answer, for a group of limit 256
 unfoldable pub told : Asked → Told
@@ -85,7 +80,7 @@ done said cs = outcome (record { number = 0; answer = said; classes = cs })
 
 -- a call on a list of orderings is done, with these orderings
 abbrev pub orderings : List (List ℕ) → Told
-orderings os = list (record { number = 0; list = encode os })
+orderings os = list (record { done = Ok tt; list = encode os })
 
 -- the table
 abbrev pub paper : List (Asked × Told)
@@ -103,11 +98,11 @@ paper =
     ∷ (constant 0 unknown [], done false (record { members = 0 ∷ []; constant = unknown } ∷ []))
     ∷ (constant 1 unknown (record { members = 0 ∷ []; constant = unknown } ∷ []), done false (record { members = 0 ∷ 1 ∷ []; constant = unknown } ∷ []))
     -- P6 empty group: label 1 over (a,b) equals label 2 over (a,b)
-    ∷ (equality 7 8 [], answer Yes)
+    ∷ (equality 7 8 [], answer (Ok true))
     -- P7 literals 1 and 2 don't
-    ∷ (equality 9 10 [], answer No)
+    ∷ (equality 9 10 [], answer (Ok false))
     -- P8 f(literal) is heterogeneous
-    ∷ (constant_of 11 [], constant_is (Is (mark_of heterogeneous)))
+    ∷ (constant_of 11 [], constant_is (Ok heterogeneous))
     -- P9 [a,b],[b,c] reduce to [a],[b,c]
     ∷ (reduction ((ascending 0 ∷ ascending 1 ∷ []) ∷ (ascending 1 ∷ ascending 2 ∷ []) ∷ []), orderings ((ascending 0 ∷ []) ∷ (ascending 1 ∷ ascending 2 ∷ []) ∷ []))
     -- P10 [a],[a,b] to [a,b]
@@ -117,5 +112,5 @@ paper =
     -- P12 [a],[b] suffixed by [c],[d]: [a,c],[b,c],[a,d],[b,d]
     ∷ (suffixed ((ascending 0 ∷ []) ∷ (ascending 1 ∷ []) ∷ []) ((ascending 2 ∷ []) ∷ (ascending 3 ∷ []) ∷ []), orderings ((ascending 0 ∷ ascending 2 ∷ []) ∷ (ascending 1 ∷ ascending 2 ∷ []) ∷ (ascending 0 ∷ ascending 3 ∷ []) ∷ (ascending 1 ∷ ascending 3 ∷ []) ∷ []))
     -- P13 a key with itself as target and only dependency: no ordering
-    ∷ (prefixes (ascending 1) (inserted [] (ascending 1) (some (ascending 1)) (some (ascending 1))), output (record { number = 0; count = 0; used = 0 }, 9 ∷ 9 ∷ 9 ∷ 9 ∷ []))
+    ∷ (prefixes (ascending 1) (inserted [] (ascending 1) (Some (ascending 1)) (Some (ascending 1))), output (Ok (record { count = 0; used = 0 }), 9 ∷ 9 ∷ 9 ∷ 9 ∷ []))
     ∷ []

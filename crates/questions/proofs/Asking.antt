@@ -14,7 +14,9 @@ use Rattle.laws.proofs.Each.{each_all, each_holds, each_cong}
 use Rattle.arena.specs.Node.{Node, column, literal, operation, node_at, child_numbers, made}
 use Rattle.arena.specs.Arena.{Allowed, Sound}
 use Rattle.arena.proofs.Made.{made-is}
-use Rattle.classes.specs.Class.{Constant, no_constant, heterogeneous, Class, carried, is_constant}
+use Rattle.classes.specs.declared.Constant.{Constant}
+use Rattle.classes.specs.declared.Constant.TheVariants.{NoConstant as no_constant, Heterogeneous as heterogeneous}
+use Rattle.classes.specs.Class.{Class, carried, is_constant}
 use Rattle.classes.specs.Group.{same_class}
 use Rattle.questions.specs.Questions.{children_equal, equals, equal_by, exprs_equal, children_constant, or_else, constant_of_node, constant_by}
 

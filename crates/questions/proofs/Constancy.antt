@@ -19,14 +19,13 @@ use Rattle.arena.specs.Inner.{Known}
 use Rattle.arena.proofs.Layouts.{length-decode, node-decode, at-row_of}
 use Rattle.arena.proofs.NodeCells.{node-column, node-literal, node-operation}
 use Rattle.arena.proofs.Children.{child-below, known-lower}
-use Rattle.classes.specs.Class.{Constant, no_constant, heterogeneous, unknown, known, Class, carried, is_constant}
+use Rattle.classes.specs.declared.Constant.{Constant}
+use Rattle.classes.specs.declared.Constant.TheVariants.{NoConstant as no_constant, Heterogeneous as heterogeneous, Unknown as unknown, Known as known}
+use Rattle.classes.specs.Class.{Class, carried, is_constant}
 use Rattle.classes.specs.Group.{class_at, class_of}
-use Rattle.classes.specs.Layout.{flavour_of, value_of}
-use Rattle.classes.specs.Inner.{mark_of, place_of}
-use Rattle.classes.specs.declared.Mark.{Mark}
-use Rattle.classes.specs.declared.Place.TheVariants.{At, Nowhere}
+use Rattle.classes.specs.Layout.{flavour_of}
+use Rattle.std.specs.Prelude.{None, Some}
 use Rattle.classes.proofs.Numbers.{zeros-at}
-use Rattle.classes.proofs.ClassPlaces.{place_at, place-nowhere}
 use Rattle.questions.specs.Questions.{class_constant, or_else, constant_by, expr_constant}
 use Rattle.questions.specs.Inner.{marked_by, Marked, ToldConstant, AskedConstant, AnsweredConstant, AskedConstants, AnsweredConstants}
 use Rattle.questions.proofs.Asking.{constant_by-is, child-under}
@@ -208,19 +207,18 @@ module _ (s marks seen : List ℕ) (e : ℕ) (q : AskedConstant s marks seen e) 
             at x h (no y) = w.told x (sym (get_or-set_other t e x 1 0 y) ∙ h)
 
 -- the first k children are constant
-pub record Passing (s marks : List ℕ) (e n : ℕ) (seen : List ℕ) (k : ℕ) : Type 0 where
-  pub within : k ≤ n
+pub record Passing (s marks : List ℕ) (e : ℕ) (seen : List ℕ) (k : ℕ) : Type 0 where
   pub all : each (Child s marks e) k ≡ true
   pub told : ToldConstant (nodes s) marks seen
 
 module _ (s marks seen₀ : List ℕ) (e n : ℕ) (q : AskedConstants s marks seen₀ e n) where
-  pub passing_begins : Passing s marks e n seen₀ 0
-  passing_begins = record { within = omega arith; all = each_none (Child s marks e); told = q.asked.told }
+  pub passing_begins : Passing s marks e seen₀ 0
+  passing_begins = record { all = each_none (Child s marks e); told = q.asked.told }
 
-  module _ (seen : List ℕ) (k : ℕ) (g : Passing s marks e n seen k) where
+  module _ (seen : List ℕ) (k : ℕ) (g : Passing s marks e seen k) where
     -- the loop ends
-    pub passing-ends : n ≤ k → AnsweredConstants s marks seen e n true
-    passing-ends l = record { is = each-ends (Child s marks e) n k g.within l g.all; told = g.told }
+    pub passing-ends : k ≤ n → n ≤ k → AnsweredConstants s marks seen e n true
+    passing-ends w l = record { is = each-ends (Child s marks e) n k w l g.all; told = g.told }
 
     module _ (l : k < n) where
       pub child-there : k < length (Children s e)
@@ -238,8 +236,8 @@ module _ (s marks seen₀ : List ℕ) (e n : ℕ) (q : AskedConstants s marks se
         child-is : (t : List ℕ) (r : Bool) → AnsweredConstant s marks t x r → Child s marks e k ≡ r
         child-is t r w = sym (w.is ∙ rw ex)
 
-        pub passing-on : (t : List ℕ) → AnsweredConstant s marks t x true → Passing s marks e n t (k + 1)
-        passing-on t w = record { within = omega arith; all = each_more (Child s marks e) k g.all (child-is t true w); told = w.told }
+        pub passing-on : (t : List ℕ) → AnsweredConstant s marks t x true → Passing s marks e t (k + 1)
+        passing-on t w = record { all = each_more (Child s marks e) k g.all (child-is t true w); told = w.told }
 
         pub passing-stops : (t : List ℕ) → AnsweredConstant s marks t x false → AnsweredConstants s marks t e n false
         passing-stops t w = record { is = each-stops (Child s marks e) n k l (child-is t false w); told = w.told }
@@ -249,42 +247,39 @@ pub fresh-constant : (ns : List Node) (marks : List ℕ) (n : ℕ) → ToldConst
 fresh-constant ns marks n e h = absurd (let z = zeros-at n e in omega arith)
 
 -- the constant of a class, by the answer of the search
-pub mark-at : (cs : List Class) (e i : ℕ) (m : Mark) → At i ≡ place_of (class_of cs e) → m ≡ mark_of (class_at cs i).constant → m ≡ mark_of (class_constant cs e)
+pub mark-at : (cs : List Class) (e i : ℕ) → class_of cs e ≡ Some i → (class_at cs i).constant ≡ class_constant cs e
 unfolding class_constant
-mark-at cs e i m p q = q ∙ rw (place_at (class_of cs e) i p)
+mark-at cs e i p = rw p
 
-pub mark-nowhere : (cs : List Class) (e : ℕ) → Nowhere ≡ place_of (class_of cs e) → record { flavour = 0; value = 0 } ≡ mark_of (class_constant cs e)
-unfolding class_constant flavour_of value_of
-mark-nowhere cs e p = rw (place-nowhere (class_of cs e) p)
+pub mark-nowhere : (cs : List Class) (e : ℕ) → class_of cs e ≡ None → no_constant ≡ class_constant cs e
+unfolding class_constant
+mark-nowhere cs e p = rw p
 
 -- a table of flavours that holds below e, and the answer for e written into it
-pub marked_more : (cs : List Class) (marks : List ℕ) (e : ℕ) (m : Mark) → e < length marks → Marked cs e marks → m ≡ mark_of (class_constant cs e) → Marked cs (e + 1) (set marks e m.flavour)
-marked_more cs marks e m l h q j b = at (ℕ_discrete j e)
+pub marked_more : (cs : List Class) (marks : List ℕ) (e f : ℕ) → e < length marks → Marked cs e marks → f ≡ flavour_of (class_constant cs e) → Marked cs (e + 1) (set marks e f)
+marked_more cs marks e f l h q j b = at (ℕ_discrete j e)
   where
-    at : Dec (j ≡ e) → get_or (set marks e m.flavour) j 0 ≡ flavour_of (class_constant cs j)
-    at (yes t) = rw t (get_or-set_same marks e m.flavour 0 l ∙ ap (λ (o : Mark). o.flavour) q)
-    at (no t) = get_or-set_other marks e j m.flavour 0 t ∙ h j (omega arith)
+    at : Dec (j ≡ e) → get_or (set marks e f) j 0 ≡ flavour_of (class_constant cs j)
+    at (yes t) = rw t (get_or-set_same marks e f 0 l ∙ q)
+    at (no t) = get_or-set_other marks e j f 0 t ∙ h j (omega arith)
 
 -- the answers of the constant question
 module _ (s : List ℕ) (cs : List Class) (e : ℕ) (k : Known s e) where
-  pub literal-mark : cell_of s e 0 ≡ 2 → record { flavour = 3; value = cell_of s e 1 } ≡ mark_of (expr_constant (nodes s) cs e)
-  unfolding or_else flavour_of value_of
-  literal-mark q =
-      let c : expr_constant (nodes s) cs e ≡ known (cell_of s e 1) =
-      constant_by-is (nodes s) k.holds.sound (class_constant cs) e (known-inside s e k) ∙ rw (literal_carries s e k q) in
-      rw c
+  pub literal-mark : cell_of s e 0 ≡ 2 → known (cell_of s e 1) ≡ expr_constant (nodes s) cs e
+  unfolding or_else
+  literal-mark q = sym (constant_by-is (nodes s) k.holds.sound (class_constant cs) e (known-inside s e k) ∙ rw (literal_carries s e k q))
 
-  module _ (o : cell_of s e 0 ≡ 2 → ⊥) (own : Mark) (q : own ≡ mark_of (class_constant cs e)) where
-    flavour-is : own.flavour ≡ flavour_of (class_constant cs e)
-    flavour-is = ap (λ (m : Mark). m.flavour) q
+  module _ (o : cell_of s e 0 ≡ 2 → ⊥) (own : Constant) (q : own ≡ class_constant cs e) where
+    flavour-is : flavour_of own ≡ flavour_of (class_constant cs e)
+    flavour-is = ap flavour_of q
 
-    pub class-mark : (own.flavour ≡ 0 → ⊥) → own ≡ mark_of (expr_constant (nodes s) cs e)
+    pub class-mark : (flavour_of own ≡ 0 → ⊥) → own ≡ expr_constant (nodes s) cs e
     class-mark z =
         q
-        ∙ ap (λ (c : Constant). mark_of c) (sym (by-class (nodes s) k.holds.sound (class_constant cs) e (known-inside s e k) (other_carries s e k o)
-        (flavour-some (class_constant cs e) (λ f. z (flavour-is ∙ f)))))
+        ∙ sym (by-class (nodes s) k.holds.sound (class_constant cs) e (known-inside s e k) (other_carries s e k o)
+        (flavour-some (class_constant cs e) (λ f. z (flavour-is ∙ f))))
 
-    module _ (z : own.flavour ≡ 0) (marks : List ℕ) (h : Marked cs (count s) marks) where
+    module _ (z : flavour_of own ≡ 0) (marks : List ℕ) (h : Marked cs (count s) marks) where
       flagged : (r : Bool) → r ≡ is_constant (constant_by (nodes s) (marked_by marks) e) → expr_constant (nodes s) cs e ≡ (if r then heterogeneous else no_constant)
       flagged r a =
           let t : r ≡ is_constant (expr_constant (nodes s) cs e) =
@@ -292,10 +287,8 @@ module _ (s : List ℕ) (cs : List Class) (e : ℕ) (k : Known s e) where
           by_flag (nodes s) k.holds.sound (class_constant cs) e (known-inside s e k) (other_carries s e k o) (flavour-none (class_constant cs e) (sym flavour-is ∙ z))
           ∙ ap (λ (b : Bool). if b then heterogeneous else no_constant) (sym t)
 
-      pub walk_yes : true ≡ is_constant (constant_by (nodes s) (marked_by marks) e) → record { flavour = 1; value = 0 } ≡ mark_of (expr_constant (nodes s) cs e)
-      unfolding flavour_of value_of
-      walk_yes a = rw (flagged true a)
+      pub walk_yes : true ≡ is_constant (constant_by (nodes s) (marked_by marks) e) → heterogeneous ≡ expr_constant (nodes s) cs e
+      walk_yes a = sym (flagged true a)
 
-      pub walk_no : false ≡ is_constant (constant_by (nodes s) (marked_by marks) e) → record { flavour = 0; value = 0 } ≡ mark_of (expr_constant (nodes s) cs e)
-      unfolding flavour_of value_of
-      walk_no a = rw (flagged false a)
+      pub walk_no : false ≡ is_constant (constant_by (nodes s) (marked_by marks) e) → no_constant ≡ expr_constant (nodes s) cs e
+      walk_no a = sym (flagged false a)

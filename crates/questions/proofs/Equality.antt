@@ -118,19 +118,18 @@ module _ (s places seen : List ℕ) (a b : ℕ) (q : Asked s places seen a b) wh
           at x y lx ly m (no e) f = w.told x y lx ly (h x y lx ly m (λ v. e v.0))
 
 -- the first k children are pairwise equal
-pub record Going (s places : List ℕ) (a b n : ℕ) (seen : List ℕ) (k : ℕ) : Type 0 where
-  pub within : k ≤ n
+pub record Going (s places : List ℕ) (a b : ℕ) (seen : List ℕ) (k : ℕ) : Type 0 where
   pub equal : each (Pair s places a b) k ≡ true
   pub told : Told (nodes s) places seen
 
 module _ (s places seen₀ : List ℕ) (a b n : ℕ) (q : AskedAll s places seen₀ a b n) where
-  pub going-begins : Going s places a b n seen₀ 0
-  going-begins = record { within = omega arith; equal = each_none (Pair s places a b); told = q.asked.told }
+  pub going-begins : Going s places a b seen₀ 0
+  going-begins = record { equal = each_none (Pair s places a b); told = q.asked.told }
 
-  module _ (seen : List ℕ) (k : ℕ) (g : Going s places a b n seen k) where
+  module _ (seen : List ℕ) (k : ℕ) (g : Going s places a b seen k) where
     -- the loop ends
-    pub going-ends : n ≤ k → AnsweredAll s places seen a b n true
-    going-ends l = record { is = each-ends (Pair s places a b) n k g.within l g.equal; told = g.told }
+    pub going-ends : k ≤ n → n ≤ k → AnsweredAll s places seen a b n true
+    going-ends w l = record { is = each-ends (Pair s places a b) n k w l g.equal; told = g.told }
 
     module _ (l : k < n) where
       pub left_there : k < length (Children s a)
@@ -160,8 +159,8 @@ module _ (s places seen₀ : List ℕ) (a b n : ℕ) (q : AskedAll s places seen
         pair_is : (t : List ℕ) (r : Bool) → Answered s places t x y r → Pair s places a b k ≡ r
         pair_is t r w = sym (w.is ∙ rw (ex, ey))
 
-        pub going_on : (t : List ℕ) → Answered s places t x y true → Going s places a b n t (k + 1)
-        going_on t w = record { within = omega arith; equal = each_more (Pair s places a b) k g.equal (pair_is t true w); told = w.told }
+        pub going_on : (t : List ℕ) → Answered s places t x y true → Going s places a b t (k + 1)
+        going_on t w = record { equal = each_more (Pair s places a b) k g.equal (pair_is t true w); told = w.told }
 
         pub going-stops : (t : List ℕ) → Answered s places t x y false → AnsweredAll s places t a b n false
         going-stops t w = record { is = each-stops (Pair s places a b) n k l (pair_is t false w); told = w.told }

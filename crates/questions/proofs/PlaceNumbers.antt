@@ -1,7 +1,7 @@
 -- The places of the nodes' classes as numbers: an answer of the search, a table of the answers, and "in one class" by such a table.
 use Prim.Native.Nat.{ℕ, ◌+◌, ◌<◌}
 use mathlib.Core.List.{List}
-use mathlib.Core.Option.{Option, none, some}
+use Rattle.std.specs.Prelude.{Option, None, Some}
 use mathlib.Core.Path.{◌≡◌, refl, ap, ◌∙◌}
 use native.Mathlib.Decide.{ℕ_discrete}
 use native.Mathlib.Omega.{arith}
@@ -12,19 +12,7 @@ use lib.Seq.{get_or-set_same, get_or-set_other}
 use Rattle.laws.proofs.Booleans.{same_test}
 use Rattle.classes.specs.Class.{Class}
 use Rattle.classes.specs.Group.{class_of, same_class}
-use Rattle.classes.specs.Inner.{place_of}
-use Rattle.classes.specs.declared.Place.TheVariants.{At, Nowhere}
-use Rattle.classes.proofs.ClassPlaces.{place_at, place-nowhere}
 use Rattle.questions.specs.Inner.{place_number, Placed, same_place}
-
--- as a number
-pub number_at : (o : Option ℕ) (i : ℕ) → At i ≡ place_of o → i + 1 ≡ place_number o
-unfolding place_number
-number_at o i e = rw (place_at o i e)
-
-pub number-nowhere : (o : Option ℕ) → Nowhere ≡ place_of o → 0 ≡ place_number o
-unfolding place_number
-number-nowhere o e = rw (place-nowhere o e)
 
 -- a table that holds below e, and the answer for e written into it
 pub placed-more : (cs : List Class) (places : List ℕ) (e v : ℕ) → e < length places → Placed cs e places → v ≡ place_number (class_of cs e) → Placed cs (e + 1) (set places e v)
@@ -43,9 +31,9 @@ same-placed cs n places h x y lx ly = go (class_of cs x) (class_of cs y) refl re
     number e l o q = h e l ∙ ap place_number q
 
     go : (o p : Option ℕ) → class_of cs x ≡ o → class_of cs y ≡ p → same_place places x y ≡ same_class cs x y
-    go none none e f = rw (number x lx none e, e, f)
-    go none (some j) e f = rw (number x lx none e, e, f)
-    go (some i) none e f = rw (number x lx (some i) e, number y ly none f, e, f, ne_eqb (i + 1) 0 (λ z. omega arith))
-    go (some i) (some j) e f =
-        rw (number x lx (some i) e, number y ly (some j) f, e, f, ne_eqb (i + 1) 0 (λ z. omega arith))
+    go None None e f = rw (number x lx None e, e, f)
+    go None (Some j) e f = rw (number x lx None e, e, f)
+    go (Some i) None e f = rw (number x lx (Some i) e, number y ly None f, e, f, ne_eqb (i + 1) 0 (λ z. omega arith))
+    go (Some i) (Some j) e f =
+        rw (number x lx (Some i) e, number y ly (Some j) f, e, f, ne_eqb (i + 1) 0 (λ z. omega arith))
         (same_test (eqb (i + 1) (j + 1)) (eqb i j) (λ t. let q : i + 1 ≡ j + 1 = eqb-true _ _ t in eq-eqb i j (omega arith)) (λ t. let q : i ≡ j = eqb-true _ _ t in eq-eqb (i + 1) (j + 1) (omega arith)))

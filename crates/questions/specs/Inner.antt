@@ -1,19 +1,20 @@
 -- What the inner functions ask and promise each other. The public contracts cite nothing of this file.
-use Rattle.std.specs.Prelude.{ℕ, ◌+◌, ◌*◌, ◌/◌, ◌%◌, ◌^◌, ◌<◌, Bool, true, false, ◌&&◌, List, ◌≡◌, eqb, ltb, length, get_or, if◌then◌else◌}
-use Rattle.std.proofs.Math.Option.{Option, none, some}
+use Rattle.std.specs.Prelude.{ℕ, ◌+◌, ◌*◌, ◌/◌, ◌%◌, ◌^◌, ◌<◌, Bool, true, false, ◌&&◌, List, ◌≡◌, eqb, ltb, length, get_or, if◌then◌else◌, Option, None, Some}
 use Rattle.laws.specs.Tests.{each}
 use Rattle.arena.specs.Node.{Node, node_at, child_numbers}
 use Rattle.arena.specs.Layout.{decode as nodes}
 use Rattle.arena.specs.Inner.{Known}
-use Rattle.classes.specs.Class.{Constant, no_constant, heterogeneous, Class, is_constant}
+use Rattle.classes.specs.declared.Constant.{Constant}
+use Rattle.classes.specs.declared.Constant.TheVariants.{NoConstant as no_constant, Heterogeneous as heterogeneous}
+use Rattle.classes.specs.Class.{Class, is_constant}
 use Rattle.classes.specs.Group.{class_of}
 use Rattle.classes.specs.Layout.{flavour_of}
 use Rattle.questions.specs.Questions.{equal_by, class_constant, constant_by}
 
 -- the place of a class as a number: 0 where there is none
 unfoldable pub place_number : Option ℕ → ℕ
-place_number none = 0
-place_number (some i) = i + 1
+place_number None = 0
+place_number (Some i) = i + 1
 
 -- a table holds the place of each node's class
 abbrev pub Placed : List Class → ℕ → List ℕ → Type 0

@@ -1,9 +1,10 @@
 -- The two questions. Each is answered for every number of the arena, from the answers for the nodes before it.
-use Rattle.std.specs.Prelude.{ℕ, Bool, false, ◌&&◌, ◌||◌, List, eqb, ltb, length, get_or, if◌then◌else◌}
-use Rattle.std.proofs.Math.Option.{Option, none, some}
+use Rattle.std.specs.Prelude.{ℕ, Bool, false, ◌&&◌, ◌||◌, List, eqb, ltb, length, get_or, if◌then◌else◌, Option, None, Some}
 use Rattle.laws.specs.Tests.{each}
 use Rattle.arena.specs.Node.{Node, node_at, child_numbers, made}
-use Rattle.classes.specs.Class.{Constant, no_constant, heterogeneous, unknown, known, Class, carried, is_constant}
+use Rattle.classes.specs.declared.Constant.{Constant}
+use Rattle.classes.specs.declared.Constant.TheVariants.{NoConstant as no_constant, Heterogeneous as heterogeneous, Unknown as unknown, Known as known}
+use Rattle.classes.specs.Class.{Class, carried, is_constant}
 use Rattle.classes.specs.Group.{class_at, class_of, same_class}
 
 -- both have children, equally many, pairwise equal by the answers for lower numbers. Labels are not compared
@@ -27,8 +28,8 @@ unfoldable pub class_constant : List Class → ℕ → Constant
 class_constant cs e = constant_of (class_of cs e)
   where
     constant_of : Option ℕ → Constant
-    constant_of none = no_constant
-    constant_of (some i) = (class_at cs i).constant
+    constant_of None = no_constant
+    constant_of (Some i) = (class_at cs i).constant
 
 -- it has children and all are constant
 unfoldable pub children_constant : List Constant → List ℕ → Bool

@@ -6,15 +6,15 @@ ghost use Rattle.arena.specs.Layout.{decode as nodes};
 ghost use Rattle.arena.specs.Inner.{Known};
 ghost use Rattle.classes.specs.Group.{class_of};
 ghost use Rattle.classes.specs.Layout.{decode};
-ghost use Rattle.classes.specs.Inner.{Coded, mark_of};
+ghost use Rattle.classes.specs.Inner.{Coded};
 ghost use Rattle.questions.specs.Questions.{exprs_equal, class_constant, expr_constant};
 ghost use Rattle.questions.specs.Inner.{Placed, Asked, Answered, AskedAll, AnsweredAll, pair_up, place_number, same_place, told_pair, Marked, AskedConstant, AnsweredConstant, AskedConstants, AnsweredConstants};
 
 use arena::cells::{cell_of, narrow, node_count, wide};
 use arena::reading::{child_count, child_in};
-use classes::building::mark_of;
+use classes::building::constant_of;
 use classes::finding::find_class;
-use classes::{Group, Mark, Place};
+use classes::{Constant, Group};
 
 // The place of the class of an expression as a number: 0 where there is none.
 fn place_number(g: Group, e: u32) -> u32
@@ -22,8 +22,8 @@ fn place_number(g: Group, e: u32) -> u32
     ensures { result ≡ place_number (class_of (decode g) e) }
 {
     match find_class(g, e) {
-        Place::At(i) => narrow(i + 1),
-        Place::Nowhere => 0,
+        Some(i) => narrow(i + 1),
+        None => 0,
     }
 }
 
@@ -33,11 +33,8 @@ pub fn class_places(g: Group, n: usize) -> [u32; 1024]
     ensures { Placed (decode g) n result }
 {
     let mut places = [0u32; 1024];
-    let mut e = 0;
-    while e < n {
-        let place = place_number(g, narrow(e));
-        places[e] = place;
-        e += 1;
+    for e in 0..n {
+        places[e] = place_number(g, narrow(e));
     }
     places
 }
@@ -60,15 +57,13 @@ fn add_pair(seen: &mut [u64; 16384], a: usize, b: usize)
 }
 
 // Two expressions are in one class, by the places of their classes.
+#[tactic(auto, unfolding(crate::specs::Inner::same_place))]
 pub fn same_place(places: &[u32; 1024], a: usize, b: usize) -> bool
     requires { (a < 1024) × (b < 1024) }
     ensures { result ≡ same_place places.now a b }
 {
     let i = places[a];
-    if i == 0 {
-        return false;
-    }
-    i == places[b]
+    i != 0 && i == places[b]
 }
 
 // Both have children, equally many.
@@ -76,10 +71,7 @@ fn children_pair_up(cells: &[u32; 11265], x: usize, y: usize) -> bool
     requires { Known cells.now x × Known cells.now y }
     ensures { result ≡ pair_up (child_numbers (node_at (nodes cells.now) x)) (child_numbers (node_at (nodes cells.now) y)) }
 {
-    if cell_of(cells, x, 2) == 0 {
-        return false;
-    }
-    cell_of(cells, x, 2) == cell_of(cells, y, 2)
+    cell_of(cells, x, 2) != 0 && cell_of(cells, x, 2) == cell_of(cells, y, 2)
 }
 
 // The children of a and b, n each, are pairwise equal.
@@ -95,14 +87,12 @@ fn children_equal(
     requires { AskedAll cells.now places.now seen.old a b n }
     ensures { AnsweredAll cells.now places.now seen.new a b n result }
 {
-    let mut k = 0;
-    while k < n {
+    for k in 0..n {
         let x = child_in(cells, wide(a), k);
         let y = child_in(cells, wide(b), k);
         if !nodes_equal(cells, places, seen, x, y) {
             return false;
         }
-        k += 1;
     }
     true
 }
@@ -119,12 +109,9 @@ fn nodes_equal(
     requires { Asked cells.now places.now seen.old a b }
     ensures { Answered cells.now places.now seen.new a b result }
 {
-    if a == b {
-        return true;
-    }
     let x = wide(a);
     let y = wide(b);
-    if same_place(places, x, y) {
+    if a == b || same_place(places, x, y) {
         return true;
     }
     if !children_pair_up(cells, x, y) {
@@ -153,16 +140,13 @@ pub fn equal_in(cells: &[u32; 11265], g: Group, a: u32, b: u32) -> bool
 }
 
 // The constant of the class of an expression, none where it has no class.
-fn class_mark(g: Group, e: u32) -> Mark
+fn class_mark(g: Group, e: u32) -> Constant
     requires { Coded g }
-    ensures { result ≡ mark_of (class_constant (decode g) e) }
+    ensures { result ≡ class_constant (decode g) e }
 {
     match find_class(g, e) {
-        Place::At(i) => mark_of(g, i),
-        Place::Nowhere => Mark {
-            flavour: 0,
-            value: 0,
-        },
+        Some(i) => constant_of(g, i),
+        None => Constant::NoConstant,
     }
 }
 
@@ -172,11 +156,8 @@ pub fn class_marks(g: Group, n: usize) -> [u32; 1024]
     ensures { Marked (decode g) n result }
 {
     let mut marks = [0u32; 1024];
-    let mut e = 0;
-    while e < n {
-        let mark = class_mark(g, narrow(e));
-        marks[e] = mark.flavour;
-        e += 1;
+    for e in 0..n {
+        marks[e] = class_mark(g, narrow(e)).flavour();
     }
     marks
 }
@@ -193,13 +174,11 @@ fn children_constant(
     requires { AskedConstants cells.now marks.now seen.old e n }
     ensures { AnsweredConstants cells.now marks.now seen.new e n result }
 {
-    let mut k = 0;
-    while k < n {
+    for k in 0..n {
         let x = child_in(cells, wide(e), k);
         if !node_constant(cells, marks, seen, x) {
             return false;
         }
-        k += 1;
     }
     true
 }
@@ -211,13 +190,7 @@ fn node_constant(cells: &[u32; 11265], marks: &[u32; 1024], seen: &mut [u8; 1024
     ensures { AnsweredConstant cells.now marks.now seen.new e result }
 {
     let i = wide(e);
-    if cell_of(cells, i, 0) == 2 {
-        return true;
-    }
-    if marks[i] != 0 {
-        return true;
-    }
-    if seen[i] == 1 {
+    if cell_of(cells, i, 0) == 2 || marks[i] != 0 || seen[i] == 1 {
         return true;
     }
     let n = child_count(cells, i);
@@ -233,30 +206,25 @@ fn node_constant(cells: &[u32; 11265], marks: &[u32; 1024], seen: &mut [u8; 1024
 
 // The constant question, on an arena and a group that are checked already: a literal's own value, else its
 // class's constant, else heterogeneous where its children are all constant.
-pub fn constant_in(cells: &[u32; 11265], g: Group, e: u32) -> Mark
+pub fn constant_in(cells: &[u32; 11265], g: Group, e: u32) -> Constant
     requires { Known cells.now e × Coded g }
-    ensures { result ≡ mark_of (expr_constant (nodes cells.now) (decode g) e) }
+    ensures { result ≡ expr_constant (nodes cells.now) (decode g) e }
 {
     let i = wide(e);
     if cell_of(cells, i, 0) == 2 {
         let value = cell_of(cells, i, 1);
-        return Mark { flavour: 3, value };
+        return Constant::Known(value);
     }
     let own = class_mark(g, e);
-    if own.flavour != 0 {
+    if own.flavour() != 0 {
         return own;
     }
     let n = node_count(cells);
     let marks = class_marks(g, n);
     let mut seen = [0u8; 1024];
     if node_constant(cells, &marks, &mut seen, e) {
-        return Mark {
-            flavour: 1,
-            value: 0,
-        };
-    }
-    Mark {
-        flavour: 0,
-        value: 0,
+        Constant::Heterogeneous
+    } else {
+        Constant::NoConstant
     }
 }

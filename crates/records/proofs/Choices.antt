@@ -2,7 +2,7 @@
 use Prim.Native.Nat.{ℕ, ◌<◌, ◌≤◌}
 use mathlib.Core.Bool.{true, false}
 use mathlib.Core.List.{List}
-use mathlib.Core.Option.{none, some}
+use Rattle.std.specs.Prelude.{None, Some}
 use mathlib.Core.Path.{◌≡◌, sym}
 use native.Mathlib.Omega.{arith}
 use borrow.Author.Tests.{lt-ltb, le-ltb}
@@ -29,18 +29,18 @@ module _ (bytes : List ℕ) where
 
 -- the side that a kind keeps
 module _ {A : Type 0} (kind : ℕ) (left right : A) where
-  pub side-low : kind < 4 → side_of kind left right ≡ none
+  pub side-low : kind < 4 → side_of kind left right ≡ None
   unfolding side_of
   side-low a = rw (lt-ltb kind 4 a)
 
-  pub side_left : 4 ≤ kind → kind < 7 → side_of kind left right ≡ some left
+  pub side_left : 4 ≤ kind → kind < 7 → side_of kind left right ≡ Some left
   unfolding side_of
   side_left a b = rw (le-ltb kind 4 a, lt-ltb kind 7 b)
 
-  pub side_right : 7 ≤ kind → kind < 10 → side_of kind left right ≡ some right
+  pub side_right : 7 ≤ kind → kind < 10 → side_of kind left right ≡ Some right
   unfolding side_of
   side_right a b = rw (le-ltb kind 4 (omega arith), le-ltb kind 7 a, lt-ltb kind 10 b)
 
-  pub side-high : 10 ≤ kind → side_of kind left right ≡ none
+  pub side-high : 10 ≤ kind → side_of kind left right ≡ None
   unfolding side_of
   side-high a = rw (le-ltb kind 4 (omega arith), le-ltb kind 7 (omega arith), le-ltb kind 10 a)

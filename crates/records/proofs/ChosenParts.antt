@@ -1,9 +1,8 @@
 -- For join kinds 4 to 9: what is handed back, and what it doesn't depend on.
-use Rattle.std.specs.Prelude.{if◌then◌else◌}
+use Rattle.std.specs.Prelude.{if◌then◌else◌, Option, None, Some}
 use Prim.Native.Nat.{ℕ, ◌+◌, ◌<◌, ◌≤◌}
 use mathlib.Core.Bool.{Bool, true, false}
 use mathlib.Core.List.{List, [], ◌++◌}
-use mathlib.Core.Option.{Option, none, some}
 use mathlib.Core.Path.{◌≡◌, refl, sym, ap, ◌∙◌}
 use native.Mathlib.Decide.{ℕ_discrete}
 use native.Mathlib.Omega.{arith}
@@ -42,7 +41,7 @@ module _ (bytes : List ℕ) where
       go false g = refl
 
   -- no refusal: a group record
-  group-there : number_of (some bytes) ≡ 0 → is_group_record bytes ≡ true
+  group-there : number_of (Some bytes) ≡ 0 → is_group_record bytes ≡ true
   unfolding number_of
   group-there = go (is_group_record bytes)
     where
@@ -50,7 +49,7 @@ module _ (bytes : List ℕ) where
       go true e = refl
       go false e = absurd (omega arith)
 
-  group-missing : (number_of (some bytes) ≡ 0 → ⊥) → group_part bytes ≡ []
+  group-missing : (number_of (Some bytes) ≡ 0 → ⊥) → group_part bytes ≡ []
   unfolding number_of group_part
   group-missing = go (is_group_record bytes)
     where
@@ -61,7 +60,7 @@ module _ (bytes : List ℕ) where
 -- a part was handed back
 pub record Kept (kind : ℕ) (left right : List ℕ) : Type 0 where
   pub side : List ℕ
-  pub kept : side_of kind left right ≡ some side
+  pub kept : side_of kind left right ≡ Some side
   pub starts : Starts (chosen_part kind left right) side
 
 module _ (kind : ℕ) (left right : List ℕ) where
@@ -71,8 +70,8 @@ module _ (kind : ℕ) (left right : List ℕ) where
   chosen-kept = go (side_of kind left right) refl
     where
       go : (o : Option (List ℕ)) → side_of kind left right ≡ o → number_of o ≡ 0 → Kept kind left right
-      go none e n = absurd (omega arith)
-      go (some side) e n = record { side = side; kept = e; starts = rw e (part-starts side (group-there side n)) }
+      go None e n = absurd (omega arith)
+      go (Some side) e n = record { side = side; kept = e; starts = rw e (part-starts side (group-there side n)) }
 
   -- the part is empty exactly where there is a refusal
   pub refused-empty : (chosen_number kind left right ≡ 0 → ⊥) → chosen_part kind left right ≡ []
@@ -80,8 +79,8 @@ module _ (kind : ℕ) (left right : List ℕ) where
   refused-empty = go (side_of kind left right)
     where
       go : (o : Option (List ℕ)) → (number_of o ≡ 0 → ⊥) → part_of o ≡ []
-      go none n = refl
-      go (some side) n = group-missing side n
+      go None n = refl
+      go (Some side) n = group-missing side n
 
   pub empty-refused : chosen_part kind left right ≡ [] → chosen_number kind left right ≡ 0 → ⊥
   empty-refused e n =
@@ -182,7 +181,7 @@ module _ (a b : List ℕ) (same : SameHeader a b) where
   unfolding record_size
   same-part = length_part a ∙ (rw (same-group, same-field 0 (omega arith)) (sym (length_part b)))
 
-  same_number : number_of (some a) ≡ number_of (some b)
+  same_number : number_of (Some a) ≡ number_of (Some b)
   unfolding number_of
   same_number = rw same-group
 
@@ -192,7 +191,7 @@ module _ (kind : ℕ) (left left' right right' : List ℕ) (l : SameHeader left 
   unfolding chosen_part part_of side_of
   unread_part = go (ltb kind 4) (ltb kind 7) (ltb kind 10)
     where
-      go : (x y z : Bool) → length (part_of (if x then none else (if y then some left else (if z then some right else none)))) ≡ length (part_of (if x then none else (if y then some left' else (if z then some right' else none))))
+      go : (x y z : Bool) → length (part_of (if x then None else (if y then Some left else (if z then Some right else None)))) ≡ length (part_of (if x then None else (if y then Some left' else (if z then Some right' else None))))
       go true y z = refl
       go false true z = same-part left left' l
       go false false true = same-part right right' r
@@ -202,7 +201,7 @@ module _ (kind : ℕ) (left left' right right' : List ℕ) (l : SameHeader left 
   unfolding chosen_number side_of
   unread_number = go (ltb kind 4) (ltb kind 7) (ltb kind 10)
     where
-      go : (x y z : Bool) → number_of (if x then none else (if y then some left else (if z then some right else none))) ≡ number_of (if x then none else (if y then some left' else (if z then some right' else none)))
+      go : (x y z : Bool) → number_of (if x then None else (if y then Some left else (if z then Some right else None))) ≡ number_of (if x then None else (if y then Some left' else (if z then Some right' else None)))
       go true y z = refl
       go false true z = same_number left left' l
       go false false true = same_number right right' r

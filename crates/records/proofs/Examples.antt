@@ -1,7 +1,7 @@
 -- The definitions of specs/, tried on small examples by computing them.
 use Prim.Native.Nat.{ℕ}
 use mathlib.Core.List.{List, [], ◌∷◌}
-use mathlib.Core.Option.{none, some}
+use Rattle.std.specs.Prelude.{None, Some}
 use mathlib.Core.Path.{◌≡◌, refl}
 use lib.ListN.{drop}
 use Rattle.laws.specs.Lists.{table}
@@ -14,7 +14,7 @@ abbrev input : List ℕ
 input = 4 ∷ 0 ∷ 1 ∷ 0 ∷ 0 ∷ 0 ∷ 0 ∷ 0 ∷ 4 ∷ 0 ∷ 1 ∷ 0 ∷ 1 ∷ 0 ∷ 1 ∷ 0 ∷ 6 ∷ 0 ∷ 3 ∷ 0 ∷ 7 ∷ 0 ∷ 0 ∷ 0 ∷ 1 ∷ 0 ∷ 4 ∷ 0 ∷ 4 ∷ 0 ∷ 0 ∷ 0 ∷ 1 ∷ 0 ∷ 2 ∷ 0 ∷ 6 ∷ 0 ∷ 2 ∷ 0 ∷ 4 ∷ 0 ∷ 7 ∷ 0 ∷ 0 ∷ 0 ∷ 1 ∷ 0 ∷ []
 
 -- record by record, and where the next one starts
-first_read : read_record input ≡ some (column 0 0)
+first_read : read_record input ≡ Some (column 0 0)
 unfolding read_record is_whole body_of record_in column_in field
 first_read = refl
 
@@ -22,11 +22,11 @@ first-size : record_size input ≡ 8
 unfolding record_size field
 first-size = refl
 
-second-read : read_record (drop 8 input) ≡ some (column 1 1)
+second-read : read_record (drop 8 input) ≡ Some (column 1 1)
 unfolding read_record is_whole body_of record_in column_in field
 second-read = refl
 
-third-read : read_record (drop 16 input) ≡ some (operation 7 (1 ∷ []))
+third-read : read_record (drop 16 input) ≡ Some (operation 7 (1 ∷ []))
 unfolding read_record is_whole body_of record_in operation_in wide_field fields field table
 third-read = refl
 
@@ -34,11 +34,11 @@ third-size : record_size (drop 16 input) ≡ 10
 unfolding record_size field
 third-size = refl
 
-fourth-read : read_record (drop 26 input) ≡ some (equal_pair 0 1)
+fourth-read : read_record (drop 26 input) ≡ Some (equal_pair 0 1)
 unfolding read_record is_whole body_of record_in equal_pair_in field
 fourth-read = refl
 
-fifth_read : read_record (drop 34 input) ≡ some (normal_form_of 2)
+fifth_read : read_record (drop 34 input) ≡ Some (normal_form_of 2)
 unfolding read_record is_whole body_of record_in normal_form_in field
 fifth_read = refl
 
@@ -46,7 +46,7 @@ fifth_size : record_size (drop 34 input) ≡ 6
 unfolding record_size field
 fifth_size = refl
 
-sixth_read : read_record (drop 40 input) ≡ some (equality_of 0 1)
+sixth_read : read_record (drop 40 input) ≡ Some (equality_of 0 1)
 unfolding read_record is_whole body_of record_in equality_in field
 sixth_read = refl
 
@@ -55,36 +55,36 @@ all_read : drop 48 input ≡ []
 all_read = refl
 
 -- the other kinds: a literal, a constant, an ordering of two keys
-literal-read : read_record (4 ∷ 0 ∷ 2 ∷ 0 ∷ 1 ∷ 2 ∷ 3 ∷ 4 ∷ []) ≡ some (literal 67305985)
+literal-read : read_record (4 ∷ 0 ∷ 2 ∷ 0 ∷ 1 ∷ 2 ∷ 3 ∷ 4 ∷ []) ≡ Some (literal 67305985)
 unfolding read_record is_whole body_of record_in literal_in wide_field field
 literal-read = refl
 
-constant-read : read_record (8 ∷ 0 ∷ 5 ∷ 0 ∷ 1 ∷ 0 ∷ 2 ∷ 0 ∷ 9 ∷ 0 ∷ 0 ∷ 0 ∷ []) ≡ some (constant 1 2 9)
+constant-read : read_record (8 ∷ 0 ∷ 5 ∷ 0 ∷ 1 ∷ 0 ∷ 2 ∷ 0 ∷ 9 ∷ 0 ∷ 0 ∷ 0 ∷ []) ≡ Some (constant 1 2 9)
 unfolding read_record is_whole body_of record_in constant_in wide_field field
 constant-read = refl
 
-ordering-read : read_record (8 ∷ 0 ∷ 8 ∷ 0 ∷ 1 ∷ 0 ∷ 0 ∷ 0 ∷ 2 ∷ 0 ∷ 3 ∷ 0 ∷ []) ≡ some (one_ordering ((1, 0) ∷ (2, 3) ∷ []))
+ordering-read : read_record (8 ∷ 0 ∷ 8 ∷ 0 ∷ 1 ∷ 0 ∷ 0 ∷ 0 ∷ 2 ∷ 0 ∷ 3 ∷ 0 ∷ []) ≡ Some (one_ordering ((1, 0) ∷ (2, 3) ∷ []))
 unfolding read_record is_whole body_of record_in ordering_in keys_in field table
 ordering-read = refl
 
 -- malformed: a kind 9, a kind 16, a cut header, a cut body, a column of three bytes
-kind-9 : read_record (4 ∷ 0 ∷ 9 ∷ 0 ∷ 0 ∷ 0 ∷ 0 ∷ 0 ∷ []) ≡ none
+kind-9 : read_record (4 ∷ 0 ∷ 9 ∷ 0 ∷ 0 ∷ 0 ∷ 0 ∷ 0 ∷ []) ≡ None
 unfolding read_record is_whole body_of record_in field
 kind-9 = refl
 
-kind-16 : read_record (2 ∷ 0 ∷ 16 ∷ 0 ∷ 0 ∷ 0 ∷ []) ≡ none
+kind-16 : read_record (2 ∷ 0 ∷ 16 ∷ 0 ∷ 0 ∷ 0 ∷ []) ≡ None
 unfolding read_record is_whole body_of record_in field
 kind-16 = refl
 
-header-cut : read_record (4 ∷ 0 ∷ 1 ∷ []) ≡ none
+header-cut : read_record (4 ∷ 0 ∷ 1 ∷ []) ≡ None
 unfolding read_record is_whole field
 header-cut = refl
 
-body_cut : read_record (4 ∷ 0 ∷ 1 ∷ 0 ∷ 0 ∷ 0 ∷ 0 ∷ []) ≡ none
+body_cut : read_record (4 ∷ 0 ∷ 1 ∷ 0 ∷ 0 ∷ 0 ∷ 0 ∷ []) ≡ None
 unfolding read_record is_whole field
 body_cut = refl
 
-three-bytes : read_record (3 ∷ 0 ∷ 1 ∷ 0 ∷ 0 ∷ 0 ∷ 0 ∷ []) ≡ none
+three-bytes : read_record (3 ∷ 0 ∷ 1 ∷ 0 ∷ 0 ∷ 0 ∷ 0 ∷ []) ≡ None
 unfolding read_record is_whole body_of record_in column_in field
 three-bytes = refl
 

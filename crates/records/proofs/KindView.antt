@@ -1,7 +1,7 @@
 -- A kind is one of 1 to 8, or none of them; and the body that each kind asks for.
 use Prim.Native.Nat.{ℕ, zero, suc, ◌≤◌}
 use mathlib.Core.List.{List}
-use mathlib.Core.Option.{none}
+use Rattle.std.specs.Prelude.{None}
 use mathlib.Core.Path.{◌≡◌, refl}
 use native.Mathlib.Omega.{arith}
 use borrow.Author.Tests.{ne_eqb}
@@ -67,14 +67,14 @@ module _ (kind : ℕ) (body : List ℕ) where
   kind-ordering e = rw e
 
   -- no other kind is read
-  pub kind-zero : kind ≡ 0 → record_in kind body ≡ none
+  pub kind-zero : kind ≡ 0 → record_in kind body ≡ None
   unfolding record_in
   kind-zero e = rw e
 
-  pub kind-none : (kind ≡ 1 → ⊥) → (kind ≡ 2 → ⊥) → (kind ≡ 3 → ⊥) → (kind ≡ 4 → ⊥) → (kind ≡ 5 → ⊥) → (kind ≡ 6 → ⊥) → (kind ≡ 7 → ⊥) → (kind ≡ 8 → ⊥) → record_in kind body ≡ none
+  pub kind-none : (kind ≡ 1 → ⊥) → (kind ≡ 2 → ⊥) → (kind ≡ 3 → ⊥) → (kind ≡ 4 → ⊥) → (kind ≡ 5 → ⊥) → (kind ≡ 6 → ⊥) → (kind ≡ 7 → ⊥) → (kind ≡ 8 → ⊥) → record_in kind body ≡ None
   unfolding record_in
   kind-none n1 n2 n3 n4 n5 n6 n7 n8 = rw (ne_eqb kind 1 n1, ne_eqb kind 2 n2, ne_eqb kind 3 n3, ne_eqb kind 4 n4, ne_eqb kind 5 n5, ne_eqb kind 6 n6, ne_eqb kind 7 n7, ne_eqb kind 8 n8)
 
-  pub kind-over : 9 ≤ kind → record_in kind body ≡ none
+  pub kind-over : 9 ≤ kind → record_in kind body ≡ None
   kind-over l =
       kind-none (λ e. omega arith) (λ e. omega arith) (λ e. omega arith) (λ e. omega arith) (λ e. omega arith) (λ e. omega arith) (λ e. omega arith) (λ e. omega arith)

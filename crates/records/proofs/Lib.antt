@@ -4,6 +4,7 @@ pub mod Headers
 pub mod Reading
 pub mod Items
 pub mod Choices
+pub mod Numbers
 pub mod FieldBytes
 pub mod Records
 pub mod ChosenParts

@@ -2,7 +2,7 @@
 use Prim.Native.Nat.{ℕ, ◌+◌, ◌-◌, ◌*◌, ◌/◌, ◌<◌, ◌≤◌}
 use mathlib.Core.Bool.{true}
 use mathlib.Core.List.{List, [], ◌++◌, append_assoc}
-use mathlib.Core.Option.{some}
+use Rattle.std.specs.Prelude.{Some}
 use mathlib.Core.Path.{◌≡◌, refl, sym, ap, ap₂, ◌∙◌}
 use native.Mathlib.Omega.{arith}
 use lib.ListN.{length, take, length-append}
@@ -73,7 +73,7 @@ pub record Accepted (bytes : List ℕ) (r : Record) : Type 0 where
   pub well : WellFormed r
 
 -- what the reader accepts is this record: the bytes from the start on, as many as the header says, are the record's own, and it is well-formed
-pub accepted : (bytes : List ℕ) (r : Record) → AllBelow 256 bytes → read_record bytes ≡ some r → Accepted bytes r
+pub accepted : (bytes : List ℕ) (r : Record) → AllBelow 256 bytes → read_record bytes ≡ Some r → Accepted bytes r
 unfolding record_size body_of record_bytes
 accepted bytes r small e =
     let h = was_read bytes r e in
@@ -140,7 +140,7 @@ module _ (r : Record) (more : List ℕ) where
       whole_from (record_bytes r ++ more) (omega arith) (omega arith)
 
   -- each well-formed record is accepted, whatever stands after
-  pub accepts : WellFormed r → read_record (record_bytes r ++ more) ≡ some r
+  pub accepts : WellFormed r → read_record (record_bytes r ++ more) ≡ Some r
   accepts w = is_read (record_bytes r ++ more) r (record { whole = whole_again; kind = kind-again; stands = rw body_kept (body_stands r w) })
 
   -- and takes as many bytes as it was written with

@@ -1,10 +1,11 @@
 -- A record of a session: a body length, a kind, the body. Kinds 1 to 8; anything else is malformed.
-use Rattle.std.specs.Prelude.{ℕ, ◌+◌, ◌-◌, ◌*◌, ◌/◌, ◌%◌, ◌<◌, ◌≤◌, Bool, ◌&&◌, List, [], ◌∷◌, ◌++◌, eqb, leb, length, get_or, take, drop, if◌then◌else◌}
-use Rattle.std.proofs.Math.Option.{Option, none, some}
+use Rattle.std.specs.Prelude.{ℕ, ◌+◌, ◌-◌, ◌*◌, ◌/◌, ◌%◌, ◌<◌, ◌≤◌, Bool, ◌&&◌, List, [], ◌∷◌, ◌++◌, eqb, leb, length, get_or, take, drop, if◌then◌else◌, Option, None, Some, Result, Ok, Err}
 use Rattle.laws.specs.Lists.{table}
 use Rattle.records.specs.Fields.{field, wide_field, fields}
 use Rattle.records.specs.declared.Item.{Item}
-use Rattle.records.specs.declared.Item.TheVariants.{Column, Literal, Operation, EqualPair, Constant, NormalFormOf, EqualityOf, OneOrdering, Malformed}
+use Rattle.records.specs.declared.Item.TheVariants.{Column, Literal, Operation, EqualPair, Constant, NormalFormOf, EqualityOf, OneOrdering}
+use Rattle.arena.specs.declared.Refusal.{Refusal}
+use Rattle.arena.specs.declared.Refusal.TheVariants.{Malformed}
 
 -- what a record of kinds 1 to 8 says. A key of an ordering is an expression and options
 pub data Record : Type 0 where
@@ -31,35 +32,35 @@ body_of bytes = take (field bytes 0) (drop 4 bytes)
 
 -- the bodies of the kinds, by their lengths
 unfoldable pub column_in : List ℕ → Option Record
-column_in body = if eqb (length body) 4 then some (column (field body 0) (field body 2)) else none
+column_in body = if eqb (length body) 4 then Some (column (field body 0) (field body 2)) else None
 
 unfoldable pub literal_in : List ℕ → Option Record
-literal_in body = if eqb (length body) 4 then some (literal (wide_field body 0)) else none
+literal_in body = if eqb (length body) 4 then Some (literal (wide_field body 0)) else None
 
 -- a label, then two bytes a child
 unfoldable pub operation_in : List ℕ → Option Record
 operation_in body =
-    if leb 4 (length body) && eqb (length body % 2) 0 then some (operation (wide_field body 0) (fields body 4 ((length body - 4) / 2)))
-    else none
+    if leb 4 (length body) && eqb (length body % 2) 0 then Some (operation (wide_field body 0) (fields body 4 ((length body - 4) / 2)))
+    else None
 
 unfoldable pub equal_pair_in : List ℕ → Option Record
-equal_pair_in body = if eqb (length body) 4 then some (equal_pair (field body 0) (field body 2)) else none
+equal_pair_in body = if eqb (length body) 4 then Some (equal_pair (field body 0) (field body 2)) else None
 
 unfoldable pub constant_in : List ℕ → Option Record
-constant_in body = if eqb (length body) 8 then some (constant (field body 0) (field body 2) (wide_field body 4)) else none
+constant_in body = if eqb (length body) 8 then Some (constant (field body 0) (field body 2) (wide_field body 4)) else None
 
 unfoldable pub normal_form_in : List ℕ → Option Record
-normal_form_in body = if eqb (length body) 2 then some (normal_form_of (field body 0)) else none
+normal_form_in body = if eqb (length body) 2 then Some (normal_form_of (field body 0)) else None
 
 unfoldable pub equality_in : List ℕ → Option Record
-equality_in body = if eqb (length body) 4 then some (equality_of (field body 0) (field body 2)) else none
+equality_in body = if eqb (length body) 4 then Some (equality_of (field body 0) (field body 2)) else None
 
 -- 1 to 16 keys, each an expression and options
 unfoldable pub keys_in : List ℕ → List (ℕ × ℕ)
 keys_in body = table (λ k. (field body (4 * k), field body (4 * k + 2))) (length body / 4)
 
 unfoldable pub ordering_in : List ℕ → Option Record
-ordering_in body = if leb 4 (length body) && leb (length body) 64 && eqb (length body % 4) 0 then some (one_ordering (keys_in body)) else none
+ordering_in body = if leb 4 (length body) && leb (length body) 64 && eqb (length body % 4) 0 then Some (one_ordering (keys_in body)) else None
 
 -- a body by its kind: kinds 1 to 8, and no other
 unfoldable pub record_in : ℕ → List ℕ → Option Record
@@ -71,23 +72,23 @@ record_in kind body =
     (if eqb kind 5 then constant_in body else
     (if eqb kind 6 then normal_form_in body else
     (if eqb kind 7 then equality_in body else
-    (if eqb kind 8 then ordering_in body else none)))))))
+    (if eqb kind 8 then ordering_in body else None)))))))
 
 -- the record at the start of some bytes; none where it is malformed
 unfoldable pub read_record : List ℕ → Option Record
-read_record bytes = if is_whole bytes then record_in (field bytes 2) (body_of bytes) else none
+read_record bytes = if is_whole bytes then record_in (field bytes 2) (body_of bytes) else None
 
--- what the reader answers: the numbers of the record; of an operation how many children follow, of an ordering how many keys
-unfoldable pub item_of : Option Record → Item
-item_of none = Malformed
-item_of (some (column name index)) = Column name index
-item_of (some (literal value)) = Literal value
-item_of (some (operation label children)) = Operation label (length children)
-item_of (some (equal_pair a b)) = EqualPair a b
-item_of (some (constant e flavour value)) = Constant e flavour value
-item_of (some (normal_form_of e)) = NormalFormOf e
-item_of (some (equality_of a b)) = EqualityOf a b
-item_of (some (one_ordering keys)) = OneOrdering (length keys)
+-- what the reader answers: the numbers of the record; of an operation how many children follow, of an ordering how many keys; or the refusal of a malformed one
+unfoldable pub item_of : Option Record → Result Item Refusal
+item_of None = Err Malformed
+item_of (Some (column name index)) = Ok (Column name index)
+item_of (Some (literal value)) = Ok (Literal value)
+item_of (Some (operation label children)) = Ok (Operation label (length children))
+item_of (Some (equal_pair a b)) = Ok (EqualPair a b)
+item_of (Some (constant e flavour value)) = Ok (Constant e flavour value)
+item_of (Some (normal_form_of e)) = Ok (NormalFormOf e)
+item_of (Some (equality_of a b)) = Ok (EqualityOf a b)
+item_of (Some (one_ordering keys)) = Ok (OneOrdering (length keys))
 
 -- the bytes of a number of 16 bits, of 32 bits, and of several of 16 bits
 unfoldable pub field_bytes : ℕ → List ℕ

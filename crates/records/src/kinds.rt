@@ -1,12 +1,13 @@
 // The header of a record, and the body by its kind.
 ghost use Rattle.std.specs.Prelude.{true, ◌≡◌, ◌≤◌, length};
+ghost use Rattle.arena.specs.Refusals.{outcome};
 ghost use Rattle.records.specs.Fields.{field as field_of};
 ghost use Rattle.records.specs.Record.{is_whole, record_size, body_of, column_in, literal_in, operation_in, equal_pair_in, constant_in, normal_form_in, equality_in, ordering_in, record_in, item_of};
 ghost use Rattle.records.specs.Chosen.{is_group_record, group_part, number_of};
-ghost use Rattle.std.proofs.Math.Option.{some};
 
 use crate::Item;
 use crate::fields::{field, index, wide_field};
+use arena::Refusal;
 
 // The length of the body, as the header says it.
 pub fn body_length(bytes: &[u8]) -> usize
@@ -28,105 +29,109 @@ pub fn record_size(bytes: &[u8]) -> usize
 pub fn is_whole(bytes: &[u8]) -> bool
     ensures { result ≡ is_whole bytes.now }
 {
-    if bytes.len() < 4 {
-        return false;
-    }
-    body_length(bytes) <= bytes.len() - 4
+    4 <= bytes.len() && body_length(bytes) <= bytes.len() - 4
 }
 
 // A column: name and index.
-fn column(body: &[u8]) -> Item
+#[tactic(auto, unfolding(crate::specs::Record::item_of, crate::specs::Record::column_in))]
+fn column(body: &[u8]) -> Result<Item, Refusal>
     ensures { result ≡ item_of (column_in body.now) }
 {
-    if body.len() != 4 {
-        return Item::Malformed;
+    if body.len() == 4 {
+        Ok(Item::Column(field(body, 0), field(body, 2)))
+    } else {
+        Err(Refusal::Malformed)
     }
-    Item::Column(field(body, 0), field(body, 2))
 }
 
 // A literal: a 32-bit value.
-fn literal(body: &[u8]) -> Item
+#[tactic(auto, unfolding(crate::specs::Record::item_of, crate::specs::Record::literal_in))]
+fn literal(body: &[u8]) -> Result<Item, Refusal>
     ensures { result ≡ item_of (literal_in body.now) }
 {
-    if body.len() != 4 {
-        return Item::Malformed;
+    if body.len() == 4 {
+        Ok(Item::Literal(wide_field(body, 0)))
+    } else {
+        Err(Refusal::Malformed)
     }
-    Item::Literal(wide_field(body, 0))
 }
 
 // An operation: a 32-bit label, then two bytes a child.
-fn operation(body: &[u8]) -> Item
+#[tactic(auto, unfolding(crate::specs::Record::item_of, crate::specs::Record::operation_in))]
+fn operation(body: &[u8]) -> Result<Item, Refusal>
     ensures { result ≡ item_of (operation_in body.now) }
 {
     let n = body.len();
-    if n < 4 {
-        return Item::Malformed;
+    if 4 <= n && n % 2 == 0 {
+        Ok(Item::Operation(wide_field(body, 0), (n - 4) / 2))
+    } else {
+        Err(Refusal::Malformed)
     }
-    if n % 2 != 0 {
-        return Item::Malformed;
-    }
-    Item::Operation(wide_field(body, 0), (n - 4) / 2)
 }
 
 // An equal pair.
-fn equal_pair(body: &[u8]) -> Item
+#[tactic(auto, unfolding(crate::specs::Record::item_of, crate::specs::Record::equal_pair_in))]
+fn equal_pair(body: &[u8]) -> Result<Item, Refusal>
     ensures { result ≡ item_of (equal_pair_in body.now) }
 {
-    if body.len() != 4 {
-        return Item::Malformed;
+    if body.len() == 4 {
+        Ok(Item::EqualPair(field(body, 0), field(body, 2)))
+    } else {
+        Err(Refusal::Malformed)
     }
-    Item::EqualPair(field(body, 0), field(body, 2))
 }
 
 // A constant: expression, flavour, a 32-bit value.
-fn constant(body: &[u8]) -> Item
+#[tactic(auto, unfolding(crate::specs::Record::item_of, crate::specs::Record::constant_in))]
+fn constant(body: &[u8]) -> Result<Item, Refusal>
     ensures { result ≡ item_of (constant_in body.now) }
 {
-    if body.len() != 8 {
-        return Item::Malformed;
+    if body.len() == 8 {
+        Ok(Item::Constant(field(body, 0), field(body, 2), wide_field(body, 4)))
+    } else {
+        Err(Refusal::Malformed)
     }
-    Item::Constant(field(body, 0), field(body, 2), wide_field(body, 4))
 }
 
 // The expression of a normal form.
-fn normal_form(body: &[u8]) -> Item
+#[tactic(auto, unfolding(crate::specs::Record::item_of, crate::specs::Record::normal_form_in))]
+fn normal_form(body: &[u8]) -> Result<Item, Refusal>
     ensures { result ≡ item_of (normal_form_in body.now) }
 {
-    if body.len() != 2 {
-        return Item::Malformed;
+    if body.len() == 2 {
+        Ok(Item::NormalFormOf(field(body, 0)))
+    } else {
+        Err(Refusal::Malformed)
     }
-    Item::NormalFormOf(field(body, 0))
 }
 
 // The two expressions of an equality question.
-fn equality(body: &[u8]) -> Item
+#[tactic(auto, unfolding(crate::specs::Record::item_of, crate::specs::Record::equality_in))]
+fn equality(body: &[u8]) -> Result<Item, Refusal>
     ensures { result ≡ item_of (equality_in body.now) }
 {
-    if body.len() != 4 {
-        return Item::Malformed;
+    if body.len() == 4 {
+        Ok(Item::EqualityOf(field(body, 0), field(body, 2)))
+    } else {
+        Err(Refusal::Malformed)
     }
-    Item::EqualityOf(field(body, 0), field(body, 2))
 }
 
 // One ordering: 1 to 16 keys of four bytes.
-fn ordering(body: &[u8]) -> Item
+#[tactic(auto, unfolding(crate::specs::Record::item_of, crate::specs::Record::ordering_in))]
+fn ordering(body: &[u8]) -> Result<Item, Refusal>
     ensures { result ≡ item_of (ordering_in body.now) }
 {
     let n = body.len();
-    if n < 4 {
-        return Item::Malformed;
+    if 4 <= n && n <= 64 && n % 4 == 0 {
+        Ok(Item::OneOrdering(n / 4))
+    } else {
+        Err(Refusal::Malformed)
     }
-    if 64 < n {
-        return Item::Malformed;
-    }
-    if n % 4 != 0 {
-        return Item::Malformed;
-    }
-    Item::OneOrdering(n / 4)
 }
 
 // A body by its kind: kinds 1 to 8, and no other.
-fn read_kind(kind: u16, body: &[u8]) -> Item
+fn read_kind(kind: u16, body: &[u8]) -> Result<Item, Refusal>
     ensures { result ≡ item_of (record_in kind body.now) }
 {
     match kind {
@@ -138,7 +143,7 @@ fn read_kind(kind: u16, body: &[u8]) -> Item
         6 => normal_form(body),
         7 => equality(body),
         8 => ordering(body),
-        0 | 9..=65535 => Item::Malformed,
+        0 | 9..=65535 => Err(Refusal::Malformed),
     }
 }
 
@@ -147,12 +152,11 @@ pub fn body_of(bytes: &[u8]) -> &[u8]
     requires { is_whole bytes.now ≡ true }
     ensures { result.now ≡ body_of bytes.now }
 {
-    let end = 4 + body_length(bytes);
-    &bytes[4..end]
+    &bytes[4..record_size(bytes)]
 }
 
 // A whole record by its kind.
-pub fn read_body(bytes: &[u8]) -> Item
+pub fn read_body(bytes: &[u8]) -> Result<Item, Refusal>
     requires { is_whole bytes.now ≡ true }
     ensures { result ≡ item_of (record_in (field_of bytes.now 2) (body_of bytes.now)) }
 {
@@ -161,29 +165,31 @@ pub fn read_body(bytes: &[u8]) -> Item
 }
 
 // A group record by its header alone: whole, and of kind 16.
+#[tactic(auto, unfolding(crate::specs::Chosen::is_group_record))]
 pub fn is_group_record(bytes: &[u8]) -> bool
     ensures { result ≡ is_group_record bytes.now }
 {
-    if !is_whole(bytes) {
-        return false;
-    }
-    field(bytes, 2) == 16
+    is_whole(bytes) && field(bytes, 2) == 16
 }
 
 // The header and the body of a group record, nothing after; the empty part where it is none.
 pub fn group_part(bytes: &[u8]) -> &[u8]
     ensures { result.now ≡ group_part bytes.now }
 {
-    if !is_group_record(bytes) {
-        return &bytes[..0];
+    if is_group_record(bytes) {
+        &bytes[..record_size(bytes)]
+    } else {
+        &bytes[..0]
     }
-    let size = 4 + body_length(bytes);
-    &bytes[..size]
 }
 
-// 0 for a group record, 9 for any other bytes.
-pub fn group_number(bytes: &[u8]) -> u32
-    ensures { result ≡ number_of (some bytes.now) }
+// Whether the bytes start with a group record. Refusal: 9, for any other bytes.
+pub fn group_number(bytes: &[u8]) -> Result<(), Refusal>
+    ensures { result ≡ outcome (number_of (Some bytes.now)) }
 {
-    if is_group_record(bytes) { 0 } else { 9 }
+    if is_group_record(bytes) {
+        Ok(())
+    } else {
+        Err(Refusal::Malformed)
+    }
 }

@@ -8,15 +8,17 @@ pub mod fields;
 pub mod kinds;
 
 ghost use Rattle.std.specs.Prelude.{◌≡◌};
+ghost use Rattle.arena.specs.Refusals.{outcome};
 ghost use Rattle.records.specs.Record.{read_record, item_of};
 ghost use Rattle.records.specs.Chosen.{chosen_part, chosen_number};
 
-use kinds::{body_length, is_whole, read_body};
+use arena::Refusal;
+use kinds::{is_whole, read_body};
 
 // What a record says: a column's name and index, a literal's value, an operation's label and how many children follow,
 // an equal pair, a constant's expression, flavour and value, the expression of a normal form, those of an equality
-// question, how many keys of an ordering follow; or that it is malformed.
-#[derive(Clone, Copy)]
+// question, or how many keys of an ordering follow.
+#[derive(Clone, Copy, Debug, PartialEq, Eq)]
 pub enum Item {
     Column(u16, u16),
     Literal(u32),
@@ -26,22 +28,23 @@ pub enum Item {
     NormalFormOf(u16),
     EqualityOf(u16, u16),
     OneOrdering(usize),
-    Malformed,
 }
 
 // Reads the record at the start of some bytes. A cut header or body, a length that its kind doesn't have and a kind
 // other than 1 to 8 are malformed: 9.
-pub fn read_record(bytes: &[u8]) -> Item
+pub fn read_record(bytes: &[u8]) -> Result<Item, Refusal>
     ensures { result ≡ item_of (read_record bytes.now) }
 {
-    if !is_whole(bytes) {
-        return Item::Malformed;
+    if is_whole(bytes) {
+        read_body(bytes)
+    } else {
+        Err(Refusal::Malformed)
     }
-    read_body(bytes)
 }
 
 // For join kinds 4 to 9: the record of the side that is kept, as a part of the caller's own bytes, header and body and
 // nothing after. The empty part stands for a refusal, and `chosen_number` tells which.
+// Two functions and no `Result`: two named theorems, `records-chosen` and `records-chosen_number`, speak of the part and of the number.
 pub fn chosen<'a>(kind: u16, left: &'a [u8], right: &'a [u8]) -> &'a [u8]
     ensures { result.now ≡ chosen_part kind left.now right.now }
 {
@@ -52,14 +55,14 @@ pub fn chosen<'a>(kind: u16, left: &'a [u8], right: &'a [u8]) -> &'a [u8]
     }
 }
 
-// What an empty part of `chosen` stands for: 12, a kind under 4 or over 9; 9, a chosen record whose header is cut, whose
-// kind isn't 16 or whose length passes its bytes. 0 where there is a part.
-pub fn chosen_number(kind: u16, left: &[u8], right: &[u8]) -> u32
-    ensures { result ≡ chosen_number kind left.now right.now }
+// What an empty part of `chosen` stands for. Refusals: 12, a kind under 4 or over 9; 9, a chosen record whose header is
+// cut, whose kind isn't 16 or whose length passes its bytes.
+pub fn chosen_number(kind: u16, left: &[u8], right: &[u8]) -> Result<(), Refusal>
+    ensures { result ≡ outcome (chosen_number kind left.now right.now) }
 {
     match kind {
         4..=6 => kinds::group_number(left),
         7..=9 => kinds::group_number(right),
-        _ => 12,
+        _ => Err(Refusal::BadNumber),
     }
 }

@@ -16,18 +16,21 @@ use Rattle.reduction.specs.Reduction.{reduced}
 use Rattle.orderings.specs.Good.{GoodOrdering, Good}
 use Rattle.reduction.specs.Lent.{key_count, next_list, each_rest, each_next, each_list, options_known, exprs_inside, keys_lent, lists_rest, lists_end, lists-next, lists_lent, orderings_lent}
 use Rattle.orderings.specs.Layout.{row, encode, decode}
-use Rattle.orderings.specs.Calls.{fits, listed}
+use Rattle.orderings.specs.Calls.{fits}
 use Rattle.reduction.specs.Calls.{reduced_list}
-use Rattle.orderings.specs.Inner.{Held, Short, extended_of, all_short}
+use Rattle.orderings.specs.Inner.{Held, Short, extended_of, all_short, made}
 use Rattle.reduction.specs.Inner.{added_one, reduction_of, KeysFit, LentFit}
 use Rattle.orderings.specs.declared.Orderings.{Orderings}
-use Rattle.orderings.specs.declared.Extended.{Extended}
-use Rattle.orderings.specs.declared.Listed.{Listed}
+use Rattle.orderings.specs.declared.Ordering.{Ordering}
+use Rattle.std.specs.Prelude.{Result, Ok, Err}
+use Rattle.arena.specs.declared.Refusal.{Refusal}
+use Rattle.arena.specs.declared.Refusal.TheVariants.{TooLarge}
+use Rattle.arena.proofs.Refusals.{ok-not-err}
 use Rattle.reduction.specs.declared.Reduction.{Reduction}
 use Rattle.orderings.proofs.Codec.{decode-encode, length-decode, count-few, good-at}
 use Rattle.orderings.proofs.OneOrdering.{NoneTwice, built-none_twice, built-same}
-use Rattle.orderings.proofs.Extending.{fits-here, fits_not}
-use Rattle.orderings.proofs.Appending.{append-all, short-test, test_short, long-test, short-more, told, appended-is, short-encode, short-all, listed-made, listed-many, listed-long}
+use Rattle.orderings.proofs.Extending.{fitting, unfitting}
+use Rattle.orderings.proofs.Appending.{append-all, short-test, test_short, long-test, short-more, told, appended-is, short-encode, short-all, made-fits, made-many, made-long, made-yes, made-no, made-done, void}
 use Rattle.reduction.proofs.LentLaws.{OptionsAt, ExprsAt, OrderingAt, lent-each, length-keys, keys-distinct, keys-fit}
 
 -- an ordering that has keys stays
@@ -88,38 +91,33 @@ built-each P (ks ∷ kss) h i l = at (dec_lt 0 (length (built ks))) (built-each 
         subst (λ (os : List (List ℕ)). (j : ℕ) → j < length os → (0 < length (ordering_at os j)) × P (ordering_at os j)) (sym (built-none ks kss (omega arith))) r i l
 
 -- one ordering more, if it has keys: what came of it
-pub data Added (list : Orderings) (ks : List ℕ) : Listed → Type 0 where
-  long : 16 < length ks → Added list ks (told 5 list)
-  many : 0 < length ks → 32 ≤ list.count → Added list ks (told 5 list)
-  none : length ks ≡ 0 → Added list ks (told 0 list)
-  one : 0 < length ks → length ks ≤ 16 → list.count < 32 → Added list ks (told 0 (encode (decode list ++ (ks ∷ []))))
+pub data Added (list : Orderings) (ks : List ℕ) : Result Orderings Refusal → Type 0 where
+  many : 0 < length ks → 32 ≤ list.count → Added list ks (Err TooLarge)
+  none : length ks ≡ 0 → Added list ks (Ok list)
+  one : 0 < length ks → length ks ≤ 16 → list.count < 32 → Added list ks (Ok (encode (decode list ++ (ks ∷ []))))
 
 module _ (list : Orderings) (ks : List ℕ) where
-  added-long : 16 < length ks → added_one list (extended_of ks) ≡ told 5 list
-  unfolding added_one
-  added-long l = ap (added_one list) (fits_not ks l)
+  added_none : length ks ≡ 0 → added_one list (row ks) ≡ Ok list
+  unfolding added_one row
+  added_none e = rw (eq-eqb (length ks) 0 e)
 
-  module _ (l : length ks ≤ 16) where
-    added_none : length ks ≡ 0 → added_one list (extended_of ks) ≡ told 0 list
-    unfolding added_one row
-    added_none e = ap (added_one list) (fits-here ks l) ∙ rw (eq-eqb (length ks) 0 e)
+  added-many : 0 < length ks → 32 ≤ list.count → added_one list (row ks) ≡ Err TooLarge
+  unfolding added_one row
+  added-many b c = rw (ne_eqb (length ks) 0 (λ e. omega arith), le-leb 32 list.count c)
 
-    added-many : 0 < length ks → 32 ≤ list.count → added_one list (extended_of ks) ≡ told 5 list
-    unfolding added_one row
-    added-many b c = ap (added_one list) (fits-here ks l) ∙ rw (ne_eqb (length ks) 0 (λ e. omega arith), le-leb 32 list.count c)
+  added-one : 0 < length ks → list.count < 32 → Short list → added_one list (row ks) ≡ Ok (encode (decode list ++ (ks ∷ [])))
+  unfolding added_one row
+  added-one b c s = rw (ne_eqb (length ks) 0 (λ e. omega arith), lt-leb 32 list.count c) (ap Ok (appended-is list ks s c))
 
-    added-one : 0 < length ks → list.count < 32 → Short list → added_one list (extended_of ks) ≡ told 0 (encode (decode list ++ (ks ∷ [])))
-    unfolding added_one row
-    added-one b c s = ap (added_one list) (fits-here ks l) ∙ rw (ne_eqb (length ks) 0 (λ e. omega arith), lt-leb 32 list.count c) (ap (told 0) (appended-is list ks s c))
-
-  pub added : Short list → (e : Extended) → e ≡ extended_of ks → (r : Listed) → r ≡ added_one list e → Added list ks r
-  added s e q r p = subst (λ (x : Listed). Added list ks x) (sym (p ∙ ap (added_one list) q)) (go (dec_lt 16 (length ks)) (ℕ_discrete (length ks) 0) (dec_lt list.count 32))
+  pub added : Short list → (out : Ordering) → Ok out ≡ extended_of ks → (r : Result Orderings Refusal) → r ≡ added_one list out → Added list ks r
+  added s out q r p =
+      let f = fitting ks out q in
+      subst (λ (x : Result Orderings Refusal). Added list ks x) (sym (p ∙ ap (added_one list) f.is)) (go f.few (ℕ_discrete (length ks) 0) (dec_lt list.count 32))
     where
-      go : Dec (16 < length ks) → Dec (length ks ≡ 0) → Dec (list.count < 32) → Added list ks (added_one list (extended_of ks))
-      go (yes l) d f = subst (λ (x : Listed). Added list ks x) (sym (added-long l)) (long l)
-      go (no l) (yes d) f = subst (λ (x : Listed). Added list ks x) (sym (added_none (omega arith) d)) (none d)
-      go (no l) (no d) (yes f) = subst (λ (x : Listed). Added list ks x) (sym (added-one (omega arith) (omega arith) f s)) (one (omega arith) (omega arith) f)
-      go (no l) (no d) (no f) = subst (λ (x : Listed). Added list ks x) (sym (added-many (omega arith) (omega arith) (omega arith))) (many (omega arith) (omega arith))
+      go : length ks ≤ 16 → Dec (length ks ≡ 0) → Dec (list.count < 32) → Added list ks (added_one list (row ks))
+      go l (yes d) f = subst (λ (x : Result Orderings Refusal). Added list ks x) (sym (added_none d)) (none d)
+      go l (no d) (yes f) = subst (λ (x : Result Orderings Refusal). Added list ks x) (sym (added-one (omega arith) f s)) (one (omega arith) l f)
+      go l (no d) (no f) = subst (λ (x : Result Orderings Refusal). Added list ks x) (sym (added-many (omega arith) (omega arith))) (many (omega arith) (omega arith))
 
 -- the loop over all lists: those from a place on are still to be built and put at the end
 pub record Adding (g : Orderings) (numbers : List ℕ) (at : ℕ) (list : Orderings) : Type 0 where
@@ -161,46 +159,58 @@ module _ (g : Orderings) (numbers : List ℕ) where
       after : (p : ℕ → Bool) → each_rest p numbers at ≡ true → each_rest p numbers (next_list numbers at) ≡ true
       after p h = and_right (p at) (each_rest p numbers (next_list numbers at)) (sym (each_next p numbers at l) ∙ h)
 
-      next : {r : Listed} → Added list new r → r.number ≡ 0 → Adding g numbers (next_list numbers at) r.list
-      next (long b) z = absurd (omega arith)
-      next (many b c) z = absurd (omega arith)
-      next (none e) z = record {
-        exprs = after (ExprsAt 1024 numbers) x.exprs;
-        options = after (OptionsAt numbers) x.options;
-        short = x.short;
-        goes = without e;
-      }
-      next (one b c f) z =
-          let more : List (List ℕ) = decode list ++ (new ∷ []) in
-          record {
+      next : {r : Result Orderings Refusal} → Added list new r → (more : Orderings) → r ≡ Ok more → Adding g numbers (next_list numbers at) more
+      next (many b c) more z = absurd (ok-not-err (sym z))
+      next (none e) more z =
+          let s : list ≡ more = cc in
+          subst (Adding g numbers (next_list numbers at)) s
+          (record {
             exprs = after (ExprsAt 1024 numbers) x.exprs;
             options = after (OptionsAt numbers) x.options;
-            short = short-encode more (omega (arith, length-append (decode list) (new ∷ []), length-decode list)) (short-more (decode list) new (short-all list x.short) c);
-            goes = with-new b ∙ sym (append_snoc (decode list) new rest) ∙ ap (λ (t : List (List ℕ)). t ++ rest) (sym (decode-encode more));
-          }
+            short = x.short;
+            goes = without e;
+          })
+      next (one b c f) more z =
+          let longer : List (List ℕ) = decode list ++ (new ∷ []) in
+          let s : encode longer ≡ more = cc in
+          subst (Adding g numbers (next_list numbers at)) s
+          (record {
+            exprs = after (ExprsAt 1024 numbers) x.exprs;
+            options = after (OptionsAt numbers) x.options;
+            short = short-encode longer (omega (arith, length-append (decode list) (new ∷ []), length-decode list)) (short-more (decode list) new (short-all list x.short) c);
+            goes = with-new b ∙ sym (append_snoc (decode list) new rest) ∙ ap (λ (t : List (List ℕ)). t ++ rest) (sym (decode-encode longer));
+          })
 
-      pub adding-on : (n : ℕ) → n ≡ key_count numbers at → {r : Listed} → Added list new r → r.number ≡ 0 → Adding g numbers (at + (1 + 2 * n)) r.list
+      pub adding-on : (n : ℕ) → n ≡ key_count numbers at → (more : Orderings) → Added list new (Ok more) → Adding g numbers (at + (1 + 2 * n)) more
       unfolding next_list
-      adding-on n e {r} w z =
+      adding-on n e more w =
           let s : at + 1 + 2 * key_count numbers at ≡ at + (1 + 2 * n) = omega arith in
-          subst (λ (k : ℕ). Adding g numbers k r.list) s (next w z)
+          subst (λ (k : ℕ). Adding g numbers k more) s (next w more refl)
 
-      pub adding-stops : {r : Listed} → Added list new r → (r.number ≡ 0 → ⊥) → told 5 g ≡ listed g (decode g ++ built_all (lists_lent numbers))
-      adding-stops (long b) z =
+      -- an ordering that is too long
+      pub adding-long : (e : Refusal) → Err e ≡ extended_of new → Err e ≡ made (decode g ++ built_all (lists_lent numbers))
+      adding-long e q =
+          let u = unfitting new e q in
           let os : List (List ℕ) = decode list ++ (new ∷ rest) in
           let c = ap (λ (o : List ℕ). length o) (get_or_at (decode list) new rest [] (length (decode list)) refl) in
-          sym (ap (listed g) (with-new (omega arith)) ∙ listed-long g os (long-test os (length (decode list)) (omega (arith, length-append (decode list) (new ∷ rest))) (omega arith)))
-      adding-stops (many b c) z =
-          sym (ap (listed g) (with-new b) ∙ listed-many g (decode list ++ (new ∷ rest)) (omega (arith, length-append (decode list) (new ∷ rest), length-decode list)))
-      adding-stops (none e) z = absurd (z refl)
-      adding-stops (one b c f) z = absurd (z refl)
+          ap Err u.1 ∙ sym (ap made (with-new (omega (arith, u.0))) ∙ made-long os (long-test os (length (decode list)) (omega (arith, length-append (decode list) (new ∷ rest))) (omega (arith, u.0))))
 
-    pub adding-ends : length numbers ≤ at → told 0 list ≡ listed g (decode g ++ built_all (lists_lent numbers))
+      stops : {r : Result Orderings Refusal} → Added list new r → (e : Refusal) → r ≡ Err e → Err e ≡ made (decode g ++ built_all (lists_lent numbers))
+      stops (many b c) e z =
+          sym z ∙ sym (ap made (with-new b) ∙ made-many (decode list ++ (new ∷ rest)) (omega (arith, length-append (decode list) (new ∷ rest), length-decode list)))
+      stops (none q) e z = absurd (ok-not-err z)
+      stops (one b c f) e z = absurd (ok-not-err z)
+
+      -- one too many
+      pub adding-stops : (e : Refusal) → Added list new (Err e) → Err e ≡ made (decode g ++ built_all (lists_lent numbers))
+      adding-stops e w = stops w e refl
+
+    pub adding-ends : length numbers ≤ at → Ok list ≡ made (decode g ++ built_all (lists_lent numbers))
     unfolding built_all nonempty
     adding-ends l =
         let e : decode g ++ built_all (lists_lent numbers) ≡ decode list =
         x.goes ∙ ap (λ (t : List (List ℕ)). decode list ++ built_all t) (lists_end numbers at l) ∙ append-nil (decode list) in
-        sym (ap (listed g) e ∙ listed-made g (decode list) (omega (arith, length-decode list, x.short.few)) (short-test (decode list) (short-all list x.short)) ∙ ap (told 0) x.short.coded)
+        sym (ap made e ∙ made-fits (decode list) (omega (arith, length-decode list, x.short.few)) (short-test (decode list) (short-all list x.short)) ∙ ap Ok x.short.coded)
 
 -- what fits
 module _ (os : List (List ℕ)) (f : fits os ≡ true) where
@@ -223,40 +233,24 @@ added-good os kss g f = record {
 
 -- reduction after adding
 module _ (g : Orderings) (os : List (List ℕ)) where
-  pub reduced-fits : fits os ≡ true → reduced_list g os ≡ told 0 (encode (reduced same_key os).orderings)
+  pub reduced-fits : fits os ≡ true → reduced_list g os ≡ told (Ok tt) (encode (reduced same_key os).orderings)
   unfolding reduced_list
   reduced-fits f = rw f
 
-  pub reduced-not : fits os ≡ false → reduced_list g os ≡ told 5 g
+  pub reduced-not : fits os ≡ false → reduced_list g os ≡ told (Err TooLarge) g
   unfolding reduced_list
   reduced-not f = rw f
 
-  listed-fits : fits os ≡ true → listed g os ≡ told 0 (encode os)
-  unfolding listed
-  listed-fits f = rw f
+  pub made-refused : (e : Refusal) → Err e ≡ made os → told (Err e) g ≡ reduced_list g os
+  made-refused e q = go (fits os) refl
+    where
+      go : (b : Bool) → fits os ≡ b → told (Err e) g ≡ reduced_list g os
+      go true f = absurd (ok-not-err (sym (q ∙ made-yes os f)))
+      go false f = ap (λ (x : Result Orderings Refusal). told (void x) g) (q ∙ made-no os f) ∙ sym (reduced-not f)
 
-  listed-not : fits os ≡ false → listed g os ≡ told 5 g
-  unfolding listed
-  listed-not f = rw f
-
-  module _ (e : Listed) (q : e ≡ listed g os) where
-    pub listed-refused : (e.number ≡ 0 → ⊥) → e ≡ reduced_list g os
-    listed-refused z = go (fits os) refl
-      where
-        go : (b : Bool) → fits os ≡ b → e ≡ reduced_list g os
-        go true f = absurd (z (ap (λ (x : Listed). x.number) (q ∙ listed-fits f)))
-        go false f = q ∙ listed-not f ∙ sym (reduced-not f)
-
-    pub listed-done : e.number ≡ 0 → (fits os ≡ true) × (e.list ≡ encode os)
-    listed-done z = go (fits os) refl
-      where
-        go : (b : Bool) → fits os ≡ b → (fits os ≡ true) × (e.list ≡ encode os)
-        go true f = (f, ap (λ (x : Listed). x.list) (q ∙ listed-fits f))
-        go false f = let n = ap (λ (x : Listed). x.number) (q ∙ listed-not f) in absurd (omega arith)
-
-    pub reduced-done : e.number ≡ 0 → (r : Reduction) → r ≡ reduction_of (reduced same_key (decode e.list)) → told 0 r.list ≡ reduced_list g os
-    unfolding reduction_of
-    reduced-done z r p =
-        let w = listed-done z in
-        ap (told 0) (ap (λ (x : Reduction). x.list) p ∙ ap (λ (t : List (List ℕ)). encode (reduced same_key t).orderings) (ap decode w.1 ∙ decode-encode os))
-        ∙ sym (reduced-fits w.0)
+  pub reduced-done : (list : Orderings) → Ok list ≡ made os → (r : Reduction) → r ≡ reduction_of (reduced same_key (decode list)) → told (Ok tt) r.list ≡ reduced_list g os
+  unfolding reduction_of
+  reduced-done list q r p =
+      let w = made-done os list q in
+      ap (told (Ok tt)) (ap (λ (x : Reduction). x.list) p ∙ ap (λ (t : List (List ℕ)). encode (reduced same_key t).orderings) (ap decode w.1 ∙ decode-encode os))
+      ∙ sym (reduced-fits w.0)

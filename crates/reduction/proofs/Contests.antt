@@ -1,9 +1,8 @@
 -- Two orderings of a list held against each other, as the code does it: by the number of an overlap.
-use Rattle.std.specs.Prelude.{if◌then◌else◌}
+use Rattle.std.specs.Prelude.{if◌then◌else◌, Option, None, Some}
 use Prim.Native.Nat.{ℕ, ◌+◌, ◌-◌, ◌<◌, ◌≤◌}
 use mathlib.Core.Bool.{Bool}
 use mathlib.Core.List.{List}
-use mathlib.Core.Option.{Option, none, some}
 use mathlib.Core.Path.{◌≡◌, refl, sym, ap, ap₂, ◌∙◌, subst}
 use native.Mathlib.Omega.{arith}
 use borrow.Author.Tests.{eq-eqb, ne_eqb}
@@ -28,16 +27,16 @@ module _ (m : ℕ → ℕ → Bool) (os : List (List ℕ)) (i j n : ℕ) (e : n 
   number-below = go (overlap m (ordering_at os i) (ordering_at os j)) refl
     where
       go : (o : Option ℕ) → overlap m (ordering_at os i) (ordering_at os j) ≡ o → n ≤ length (ordering_at os i)
-      go none q = let z : n ≡ 0 = e ∙ ap overlap_number q in omega arith
-      go (some k) q = let z : n ≡ k + 1 = e ∙ ap overlap_number q in omega (arith, overlap-below m (ordering_at os i) (ordering_at os j) k q)
+      go None q = let z : n ≡ 0 = e ∙ ap overlap_number q in omega arith
+      go (Some k) q = let z : n ≡ k + 1 = e ∙ ap overlap_number q in omega (arith, overlap-below m (ordering_at os i) (ordering_at os j) k q)
 
   number-none : n ≡ 0 → resolve m os i j ≡ apart
   unfolding overlap_number resolve resolved_by
   number-none z = go (overlap m (ordering_at os i) (ordering_at os j)) refl
     where
       go : (o : Option ℕ) → overlap m (ordering_at os i) (ordering_at os j) ≡ o → resolved_by os i (overlap m (ordering_at os i) (ordering_at os j)) ≡ apart
-      go none q = ap (resolved_by os i) q
-      go (some k) q = let y : n ≡ k + 1 = e ∙ ap overlap_number q in absurd (omega arith)
+      go None q = ap (resolved_by os i) q
+      go (Some k) q = let y : n ≡ k + 1 = e ∙ ap overlap_number q in absurd (omega arith)
 
   number-some : (n ≡ 0 → ⊥) → resolve m os i j ≡ (if eqb n (length (ordering_at os i)) then emptied else trimmed (set os i (take (length (ordering_at os i) - n) (ordering_at os i))))
   unfolding overlap_number resolve resolved_by
@@ -47,8 +46,8 @@ module _ (m : ℕ → ℕ → Bool) (os : List (List ℕ)) (i j n : ℕ) (e : n 
       by x = if eqb x (length (ordering_at os i)) then emptied else trimmed (set os i (take (length (ordering_at os i) - x) (ordering_at os i)))
 
       go : (o : Option ℕ) → overlap m (ordering_at os i) (ordering_at os j) ≡ o → resolved_by os i (overlap m (ordering_at os i) (ordering_at os j)) ≡ by n
-      go none q = absurd (z (e ∙ ap overlap_number q))
-      go (some k) q = ap (resolved_by os i) q ∙ ap by (sym (e ∙ ap overlap_number q))
+      go None q = absurd (z (e ∙ ap overlap_number q))
+      go (Some k) q = ap (resolved_by os i) q ∙ ap by (sym (e ∙ ap overlap_number q))
 
   number-all : (n ≡ 0 → ⊥) → n ≡ length (ordering_at os i) → resolve m os i j ≡ emptied
   number-all z l = number-some z ∙ rw (eq-eqb n (length (ordering_at os i)) l)

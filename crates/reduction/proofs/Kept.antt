@@ -2,7 +2,7 @@
 use Prim.Native.Nat.{ℕ, zero, suc, ◌+◌, ◌-◌, ◌<◌, ◌≤◌}
 use mathlib.Core.Bool.{Bool}
 use mathlib.Core.List.{List, []}
-use mathlib.Core.Option.{some}
+use Rattle.std.specs.Prelude.{Some}
 use mathlib.Core.Path.{◌≡◌, refl, sym, ap, ◌∙◌}
 use native.Mathlib.Decide.{ℕ_discrete, dec_lt}
 use native.Mathlib.Omega.{arith}
@@ -19,7 +19,7 @@ pub record Overlapping (m : ℕ → ℕ → Bool) (os : List (List ℕ)) (i j n 
   pub left : i < length os
   pub right : j < length os
   pub two : i ≡ j → ⊥
-  pub overlaps : overlap m (ordering_at os i) (ordering_at os j) ≡ some n
+  pub overlaps : overlap m (ordering_at os i) (ordering_at os j) ≡ Some n
 
 -- from os to another list by a number of cuts
 pub data Cuts (m : ℕ → ℕ → Bool) (os : List (List ℕ)) : List (List ℕ) → ℕ → Type 0 where

@@ -1,7 +1,9 @@
 -- What each call that reduces a list answers, over the lent cells, the struct and lists of keys lent as numbers, in document 01's order of refusals.
 -- A refusal is a case that hands back what came in.
-use Rattle.std.specs.Prelude.{ℕ, ◌&&◌, List, [], ◌++◌, eqb, if◌then◌else◌}
+use Rattle.std.specs.Prelude.{ℕ, ◌&&◌, List, [], ◌++◌, eqb, if◌then◌else◌, Ok, Err}
 use Rattle.arena.specs.Layout.{count, lawful}
+use Rattle.arena.specs.Refusals.{refusal}
+use Rattle.arena.specs.declared.Refusal.TheVariants.{TooLarge}
 use Rattle.orderings.specs.Ordering.{same_key}
 use Rattle.orderings.specs.Lists.{built_all}
 use Rattle.reduction.specs.Reduction.{reduced}
@@ -13,7 +15,7 @@ use Rattle.orderings.specs.Calls.{fits}
 
 -- a list that was made, reduced; 5 is judged before reduction, and then the list is the one that was given
 unfoldable pub reduced_list : Orderings → List (List ℕ) → Listed
-reduced_list g os = if fits os then record { number = 0; list = encode (reduced same_key os).orderings } else record { number = 5; list = g }
+reduced_list g os = if fits os then record { done = Ok tt; list = encode (reduced same_key os).orderings } else record { done = Err TooLarge; list = g }
 
 -- the check of a list and of lists of keys that are lent with it: 12 for options over 3, 11 for the arena, the list or a count that runs past what is lent, then 1
 unfoldable pub lent_number : List ℕ → Orderings → List ℕ → ℕ
@@ -28,7 +30,7 @@ lent_number cells g numbers =
 unfoldable pub add_answer : List ℕ → Orderings → List ℕ → Listed
 add_answer cells g numbers =
     if eqb (lent_number cells g numbers) 0 then reduced_list g (decode g ++ built_all (lists_lent numbers))
-    else record { number = lent_number cells g numbers; list = g }
+    else record { done = Err (refusal (lent_number cells g numbers)); list = g }
 
 -- a new list, built from lists of keys
 abbrev pub new_answer : List ℕ → List ℕ → Listed
@@ -47,4 +49,4 @@ extend_number cells g numbers =
 unfoldable pub extend_answer : List ℕ → Orderings → List ℕ → Listed
 extend_answer cells g numbers =
     if eqb (extend_number cells g numbers) 0 then reduced_list g (decode g ++ lists_lent numbers)
-    else record { number = extend_number cells g numbers; list = g }
+    else record { done = Err (refusal (extend_number cells g numbers)); list = g }

@@ -1,6 +1,5 @@
 -- Comparing two orderings, as `remove_redundant_entries` does it, over any match m of two keys: a suffix of one that is a prefix of the other is cut off; an ordering cut to nothing is replaced by the last. Cuts are counted.
-use Rattle.std.specs.Prelude.{ℕ, ◌+◌, ◌-◌, min, Bool, List, [], ◌∷◌, eqb, length, get_or, take, set, if◌then◌else◌}
-use Rattle.std.proofs.Math.Option.{Option, none, some}
+use Rattle.std.specs.Prelude.{ℕ, ◌+◌, ◌-◌, min, Bool, List, [], ◌∷◌, eqb, length, get_or, take, set, if◌then◌else◌, Option, None, Some}
 use Rattle.laws.specs.Tests.{each, first}
 use Rattle.orderings.specs.Lists.{ordering_at}
 
@@ -24,8 +23,8 @@ pub data Resolved : Type 0 where
 
 -- by the overlap that was found
 unfoldable pub resolved_by : List (List ℕ) → ℕ → Option ℕ → Resolved
-resolved_by os i none = apart
-resolved_by os i (some n) =
+resolved_by os i None = apart
+resolved_by os i (Some n) =
     if eqb (n + 1) (length (ordering_at os i)) then emptied
     else trimmed (set os i (take (length (ordering_at os i) - (n + 1)) (ordering_at os i)))
 

@@ -1,6 +1,5 @@
 -- What comparing leaves, in numbers: so many orderings fewer, and for each cut at least one key fewer. Laws only, on which the equations of Reduction rest; a reader may pass over them.
-use Rattle.std.specs.Prelude.{ℕ, zero, suc, ◌+◌, ◌-◌, ◌<◌, ◌≤◌, min, Bool, true, false, List, [], ◌∷◌, ◌≡◌, refl, eqb, length, take, set, if◌then◌else◌}
-use Rattle.std.proofs.Math.Option.{Option, none, some}
+use Rattle.std.specs.Prelude.{ℕ, zero, suc, ◌+◌, ◌-◌, ◌<◌, ◌≤◌, min, Bool, true, false, List, [], ◌∷◌, ◌≡◌, refl, eqb, length, take, set, if◌then◌else◌, Option, None, Some}
 use Rattle.std.proofs.Common.{ap, ◌∙◌, eqb-true, length-take-le, get_or-take}
 use Rattle.std.proofs.Math.Decide.{ℕ_discrete}
 use native.Mathlib.Omega.{arith}
@@ -62,12 +61,12 @@ keys-removed os i l = at (ℕ_discrete i (length os - 1))
 
 -- what became of ordering i, held against ordering j
 pub data Outcome (m : ℕ → ℕ → Bool) (os : List (List ℕ)) (i j : ℕ) : Resolved → Type 0 where
-  free : overlap m (ordering_at os i) (ordering_at os j) ≡ none → Outcome m os i j apart
-  part : (n : ℕ) → overlap m (ordering_at os i) (ordering_at os j) ≡ some n → n + 1 < length (ordering_at os i) → Outcome m os i j (trimmed (shortened os i n))
-  whole : (n : ℕ) → overlap m (ordering_at os i) (ordering_at os j) ≡ some n → n + 1 ≡ length (ordering_at os i) → Outcome m os i j emptied
+  free : overlap m (ordering_at os i) (ordering_at os j) ≡ None → Outcome m os i j apart
+  part : (n : ℕ) → overlap m (ordering_at os i) (ordering_at os j) ≡ Some n → n + 1 < length (ordering_at os i) → Outcome m os i j (trimmed (shortened os i n))
+  whole : (n : ℕ) → overlap m (ordering_at os i) (ordering_at os j) ≡ Some n → n + 1 ≡ length (ordering_at os i) → Outcome m os i j emptied
 
 -- an overlap is no longer than the two orderings
-pub overlap-below : (m : ℕ → ℕ → Bool) (a b : List ℕ) (n : ℕ) → overlap m a b ≡ some n → n < min (length a) (length b)
+pub overlap-below : (m : ℕ → ℕ → Bool) (a b : List ℕ) (n : ℕ) → overlap m a b ≡ Some n → n < min (length a) (length b)
 unfolding overlap
 overlap-below m a b n e = (first_some (λ k. meets m a b (k + 1)) (min (length a) (length b)) n e).below
 
@@ -76,7 +75,7 @@ pub outcome : (m : ℕ → ℕ → Bool) (os : List (List ℕ)) (i j : ℕ) → 
 unfolding resolve resolved_by
 outcome m os i j = go (overlap m (ordering_at os i) (ordering_at os j)) refl
   where
-    at : (n : ℕ) → overlap m (ordering_at os i) (ordering_at os j) ≡ some n → (b : Bool) → eqb (n + 1) (length (ordering_at os i)) ≡ b → Outcome m os i j (if b then emptied else trimmed (shortened os i n))
+    at : (n : ℕ) → overlap m (ordering_at os i) (ordering_at os j) ≡ Some n → (b : Bool) → eqb (n + 1) (length (ordering_at os i)) ≡ b → Outcome m os i j (if b then emptied else trimmed (shortened os i n))
     at n e true t = whole n e (eqb-true (n + 1) (length (ordering_at os i)) t)
     at n e false t =
         let l = overlap-below m (ordering_at os i) (ordering_at os j) n e in
@@ -84,8 +83,8 @@ outcome m os i j = go (overlap m (ordering_at os i) (ordering_at os j)) refl
         part n e (omega arith)
 
     go : (o : Option ℕ) → overlap m (ordering_at os i) (ordering_at os j) ≡ o → Outcome m os i j (resolved_by os i o)
-    go none e = free e
-    go (some n) e = at n e (eqb (n + 1) (length (ordering_at os i))) refl
+    go None e = free e
+    go (Some n) e = at n e (eqb (n + 1) (length (ordering_at os i))) refl
 
 -- i against j and then j against i, where it is known what became of i
 unfoldable pub compared_by : (ℕ → ℕ → Bool) → List (List ℕ) → ℕ → ℕ → Resolved → Compared

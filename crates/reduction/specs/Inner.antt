@@ -1,12 +1,13 @@
 -- What the inner functions ask and promise each other. The public contracts cite nothing of this file.
-use Rattle.std.specs.Prelude.{ℕ, ◌+◌, ◌<◌, ◌≤◌, true, List, ◌≡◌, eqb, leb, length, if◌then◌else◌}
-use Rattle.std.proofs.Math.Option.{Option, none, some}
+use Rattle.std.specs.Prelude.{ℕ, ◌+◌, ◌<◌, ◌≤◌, Bool, true, ◌&&◌, List, ◌≡◌, eqb, leb, length, if◌then◌else◌, Option, None, Some, Result, Ok, Err}
 use Rattle.reduction.specs.Lent.{key_count, expr_lent, options_lent, exprs_inside, options_known}
 use Rattle.reduction.specs.Reduction.{Way, onward, again, anew, Compared, Turn, Reduced, keys_in}
-use Rattle.orderings.specs.Layout.{encode, decode}
+use Rattle.orderings.specs.Layout.{encode, decode, lawful_list, keys_inside}
 use Rattle.orderings.specs.declared.Orderings.{Orderings}
-use Rattle.orderings.specs.declared.Extended.{Extended}
-use Rattle.orderings.specs.declared.Listed.{Listed}
+use Rattle.orderings.specs.declared.Ordering.{Ordering}
+use Rattle.arena.specs.Layout.{count, lawful}
+use Rattle.arena.specs.declared.Refusal.{Refusal}
+use Rattle.arena.specs.declared.Refusal.TheVariants.{TooLarge}
 use Rattle.reduction.specs.declared.Contest.{Contest}
 use Rattle.reduction.specs.declared.Reduction.{Reduction}
 use Rattle.reduction.specs.declared.Turned.{Turned}
@@ -14,8 +15,8 @@ use Rattle.orderings.specs.Inner.{Held, appended}
 
 -- an overlap as a number of keys: 0 for none
 unfoldable pub overlap_number : Option ℕ → ℕ
-overlap_number none = 0
-overlap_number (some n) = n + 1
+overlap_number None = 0
+overlap_number (Some n) = n + 1
 
 -- how the comparing goes on, as a number
 unfoldable pub way_number : Way → ℕ
@@ -51,10 +52,17 @@ pub record LentFit (numbers : List ℕ) : Type 0 where
   pub exprs : exprs_inside 1024 numbers ≡ true
   pub options : options_known numbers ≡ true
 
--- a list with an ordering at its end, if that is not empty; 5 where it doesn't fit
-unfoldable pub added_one : Orderings → Extended → Listed
+-- the check of a list and of what is lent with it, by whether its parts are whole
+unfoldable pub checked_number : List ℕ → Orderings → Bool → List ℕ → ℕ
+checked_number cells g parts numbers =
+    if options_known numbers then
+    (if lawful cells && lawful_list g && parts then
+    (if keys_inside (count cells) g && exprs_inside (count cells) numbers then 0 else 1)
+    else 11)
+    else 12
+
+-- a list with an ordering at its end, if that is not empty; too large where it doesn't fit
+unfoldable pub added_one : Orderings → Ordering → Result Orderings Refusal
 added_one g one =
-    if one.fits then
-    (if eqb one.ordering.size 0 then record { number = 0; list = g } else
-    (if leb 32 g.count then record { number = 5; list = g } else record { number = 0; list = appended g one.ordering }))
-    else record { number = 5; list = g }
+    if eqb one.size 0 then Ok g else
+    (if leb 32 g.count then Err TooLarge else Ok (appended g one))

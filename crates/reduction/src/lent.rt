@@ -6,23 +6,24 @@ ghost use Rattle.orderings.specs.Lists.{built_all};
 ghost use Rattle.reduction.specs.Lent.{key_count, expr_lent, options_lent, options_known, whole, exprs_inside, keys_lent, lists_lent, fresh_lent, orderings_lent};
 ghost use Rattle.orderings.specs.Layout.{decode};
 ghost use Rattle.reduction.specs.Calls.{lent_number, extend_number, reduced_list};
-ghost use Rattle.orderings.specs.Calls.{listed};
-ghost use Rattle.orderings.specs.Inner.{Held, Short, extended_of};
-ghost use Rattle.reduction.specs.Inner.{KeysFit, LentFit, added_one};
+ghost use Rattle.arena.specs.Refusals.{outcome};
+ghost use Rattle.orderings.specs.Inner.{Held, Short, extended_of, made};
+ghost use Rattle.reduction.specs.Inner.{KeysFit, LentFit, checked_number, added_one};
 
 use crate::reducing::remove_redundant_entries;
+use arena::Refusal;
 use arena::cells::node_count;
 use arena::checking::lawful_arena;
 use orderings::checking::{keys_below, lawful_list};
-use orderings::making::{append, nothing};
+use orderings::making::{append, nothing, refusal};
 use orderings::pushing::push;
-use orderings::{Extended, Listed, Orderings};
+use orderings::{Listed, Ordering, Orderings};
 
 // A number, as an index.
 fn index(x: u16) -> usize
     ensures { (result ≡ x) × (result < 65536) }
 {
-    x as usize
+    usize::from(x)
 }
 
 // The number at a place; past the end, 0.
@@ -41,15 +42,7 @@ fn options_at(numbers: &[u16], at: usize) -> bool
     requires { at < length numbers.now }
     ensures { result ≡ each (λ k. leb (options_lent numbers.now at k) 3) (key_count numbers.now at) }
 {
-    let n = number_at(numbers, at);
-    let mut k = 0;
-    while k < n {
-        if 3 < number_at(numbers, at + 2 + 2 * k) {
-            return false;
-        }
-        k += 1;
-    }
-    true
+    (0..number_at(numbers, at)).all(|k| number_at(numbers, at + 2 + 2 * k) <= 3)
 }
 
 // The options of all keys are 0 to 3.
@@ -58,6 +51,7 @@ fn options_known(numbers: &[u16]) -> bool
 {
     let n = numbers.len();
     let mut at = 0;
+    // A step decides the next place, a list's length; no count drives the walk.
     while at < n {
         if !options_at(numbers, at) {
             return false;
@@ -73,6 +67,7 @@ fn is_whole(numbers: &[u16]) -> bool
 {
     let n = numbers.len();
     let mut at = 0;
+    // A step decides the next place, a list's length; no count drives the walk.
     while at < n {
         at += 1 + 2 * number_at(numbers, at);
         if n < at {
@@ -87,15 +82,7 @@ fn exprs_at(numbers: &[u16], at: usize, n: usize) -> bool
     requires { at < length numbers.now }
     ensures { result ≡ each (λ k. ltb (expr_lent numbers.now at k) n) (key_count numbers.now at) }
 {
-    let m = number_at(numbers, at);
-    let mut k = 0;
-    while k < m {
-        if n <= number_at(numbers, at + 1 + 2 * k) {
-            return false;
-        }
-        k += 1;
-    }
-    true
+    (0..number_at(numbers, at)).all(|k| number_at(numbers, at + 1 + 2 * k) < n)
 }
 
 // The expressions of all keys are below n.
@@ -104,6 +91,7 @@ fn exprs_inside(numbers: &[u16], n: usize) -> bool
 {
     let m = numbers.len();
     let mut at = 0;
+    // A step decides the next place, a list's length; no count drives the walk.
     while at < m {
         if !exprs_at(numbers, at, n) {
             return false;
@@ -113,30 +101,35 @@ fn exprs_inside(numbers: &[u16], n: usize) -> bool
     true
 }
 
-// The check of a list and of lists of keys that are lent with it.
-pub fn lent_number(cells: &[u32; 11265], g: Orderings, numbers: &[u16]) -> u32
-    ensures { result ≡ lent_number cells.now g numbers.now }
+// The check of a list and of what is lent with it, where it is known whether its parts are whole.
+#[tactic(auto, unfolding(crate::specs::Inner::checked_number, arena::specs::Refusals::outcome, arena::specs::Refusals::refusal))]
+fn check_lent(
+    cells: &[u32; 11265],
+    g: Orderings,
+    numbers: &[u16],
+    parts: bool,
+) -> Result<(), Refusal>
+    ensures { result ≡ outcome (checked_number cells.now g parts numbers.now) }
 {
     if !options_known(numbers) {
-        return 12;
+        return Err(Refusal::BadNumber);
     }
-    if !lawful_arena(cells) {
-        return 11;
-    }
-    if !lawful_list(g) {
-        return 11;
-    }
-    if !is_whole(numbers) {
-        return 11;
+    if !(lawful_arena(cells) && lawful_list(g) && parts) {
+        return Err(Refusal::BadState);
     }
     let n = node_count(cells);
-    if !keys_below(g, n) {
-        return 1;
+    if !(keys_below(g, n) && exprs_inside(numbers, n)) {
+        return Err(Refusal::UnknownExpression);
     }
-    if !exprs_inside(numbers, n) {
-        return 1;
-    }
-    0
+    Ok(())
+}
+
+// The check of a list and of lists of keys that are lent with it.
+#[tactic(auto, unfolding(crate::specs::Inner::checked_number, crate::specs::Calls::lent_number))]
+pub fn lent_number(cells: &[u32; 11265], g: Orderings, numbers: &[u16]) -> Result<(), Refusal>
+    ensures { result ≡ outcome (lent_number cells.now g numbers.now) }
+{
+    check_lent(cells, g, numbers, is_whole(numbers))
 }
 
 // The expression of key k of the list at a place does not stand before it.
@@ -145,14 +138,7 @@ fn fresh_lent(numbers: &[u16], at: usize, k: usize) -> bool
     ensures { result ≡ fresh_lent numbers.now at k }
 {
     let e = number_at(numbers, at + 1 + 2 * k);
-    let mut i = 0;
-    while i < k {
-        if number_at(numbers, at + 1 + 2 * i) == e {
-            return false;
-        }
-        i += 1;
-    }
-    true
+    (0..k).all(|i| number_at(numbers, at + 1 + 2 * i) != e)
 }
 
 // The list at a place repeats no expression.
@@ -160,15 +146,7 @@ fn none_twice(numbers: &[u16], at: usize) -> bool
     requires { at < length numbers.now }
     ensures { result ≡ each (λ k. fresh_lent numbers.now at k) (key_count numbers.now at) }
 {
-    let n = number_at(numbers, at);
-    let mut k = 0;
-    while k < n {
-        if !fresh_lent(numbers, at, k) {
-            return false;
-        }
-        k += 1;
-    }
-    true
+    (0..number_at(numbers, at)).all(|k| fresh_lent(numbers, at, k))
 }
 
 // The list at a place is an ordering: it has keys, and no expression twice.
@@ -176,10 +154,7 @@ fn ordering_at(numbers: &[u16], at: usize) -> bool
     requires { at < length numbers.now }
     ensures { result ≡ (ltb 0 (key_count numbers.now at) && each (λ k. fresh_lent numbers.now at k) (key_count numbers.now at)) }
 {
-    if number_at(numbers, at) == 0 {
-        return false;
-    }
-    none_twice(numbers, at)
+    0 < number_at(numbers, at) && none_twice(numbers, at)
 }
 
 // Each list is an ordering.
@@ -188,6 +163,7 @@ fn orderings_lent(numbers: &[u16]) -> bool
 {
     let n = numbers.len();
     let mut at = 0;
+    // A step decides the next place, a list's length; no count drives the walk.
     while at < n {
         if !ordering_at(numbers, at) {
             return false;
@@ -198,85 +174,61 @@ fn orderings_lent(numbers: &[u16]) -> bool
 }
 
 // The check of a list and of orderings that are lent with it.
-pub fn extend_number(cells: &[u32; 11265], g: Orderings, numbers: &[u16]) -> u32
-    ensures { result ≡ extend_number cells.now g numbers.now }
+#[tactic(auto, unfolding(crate::specs::Inner::checked_number, crate::specs::Calls::extend_number))]
+pub fn extend_number(cells: &[u32; 11265], g: Orderings, numbers: &[u16]) -> Result<(), Refusal>
+    ensures { result ≡ outcome (extend_number cells.now g numbers.now) }
 {
-    let number = lent_number(cells, g, numbers);
-    if number == 12 {
-        return 12;
-    }
-    if number == 11 {
-        return 11;
-    }
-    if !orderings_lent(numbers) {
-        return 11;
-    }
-    number
+    check_lent(
+        cells,
+        g,
+        numbers,
+        is_whole(numbers) && orderings_lent(numbers),
+    )
 }
 
-// The ordering that is built from the list at a place; it doesn't fit where it has more than 16 keys.
-fn build(numbers: &[u16], at: usize) -> Extended
+// The ordering that is built from the list at a place; too large where it has more than 16 keys.
+fn build(numbers: &[u16], at: usize) -> Result<Ordering, Refusal>
     requires { KeysFit numbers.now at }
     ensures { result ≡ extended_of (built (keys_lent numbers.now at)) }
 {
-    let n = number_at(numbers, at);
     let mut out = nothing();
-    let mut k = 0;
-    while k < n {
+    for k in 0..number_at(numbers, at) {
         let key = number_at(numbers, at + 1 + 2 * k) * 4 + number_at(numbers, at + 2 + 2 * k);
-        let next = push(out, key as u16);
-        if !next.fits {
-            return next;
-        }
-        out = next.ordering;
-        k += 1;
+        out = push(out, key as u16)?;
     }
-    Extended {
-        fits: true,
-        ordering: out,
-    }
+    Ok(out)
 }
 
-// A list with an ordering at its end, if that is not empty. The number is 5 where it doesn't fit.
-fn add_one(g: Orderings, one: Extended) -> Listed
+// A list with an ordering at its end, if that is not empty; too large where it doesn't fit.
+#[tactic(auto, unfolding(crate::specs::Inner::added_one))]
+fn add_one(g: Orderings, one: Ordering) -> Result<Orderings, Refusal>
     requires { Short g }
     ensures { result ≡ added_one g one }
 {
-    if !one.fits {
-        return Listed { number: 5, list: g };
-    }
-    if one.ordering.size == 0 {
-        return Listed { number: 0, list: g };
+    if one.size == 0 {
+        return Ok(g);
     }
     if 32 <= g.count {
-        return Listed { number: 5, list: g };
+        return Err(Refusal::TooLarge);
     }
-    Listed {
-        number: 0,
-        list: append(g, one.ordering),
-    }
+    Ok(append(g, one))
 }
 
-// A list with all orderings that are built from the lists of keys at its end. The number is 5 where they don't fit.
-fn add_all(g: Orderings, numbers: &[u16]) -> Listed
+// A list with all orderings that are built from the lists of keys at its end; too large where they don't fit.
+fn add_all(g: Orderings, numbers: &[u16]) -> Result<Orderings, Refusal>
     requires { Held g × LentFit numbers.now }
-    ensures { result ≡ listed g (decode g ++ built_all (lists_lent numbers.now)) }
+    ensures { result ≡ made (decode g ++ built_all (lists_lent numbers.now)) }
 {
     let n = numbers.len();
     let mut list = g;
     let mut at = 0;
+    // A step decides the next place, a list's length; no count drives the walk.
     while at < n {
-        let next = add_one(list, build(numbers, at));
-        if next.number != 0 {
-            return Listed { number: 5, list: g };
-        }
-        list = next.list;
+        let one = build(numbers, at)?;
+        list = add_one(list, one)?;
         at += 1 + 2 * number_at(numbers, at);
     }
-    Listed {
-        number: 0,
-        list: list,
-    }
+    Ok(list)
 }
 
 // Adds orderings that are built from lists of keys, and reduces.
@@ -284,15 +236,11 @@ pub fn add_in(g: Orderings, numbers: &[u16]) -> Listed
     requires { Held g × LentFit numbers.now }
     ensures { result ≡ reduced_list g (decode g ++ built_all (lists_lent numbers.now)) }
 {
-    let all = add_all(g, numbers);
-    if all.number != 0 {
-        return all;
-    }
-    let list = all.list;
-    let reduction = remove_redundant_entries(list);
-    let reduced = reduction.list;
-    Listed {
-        number: 0,
-        list: reduced,
+    match add_all(g, numbers) {
+        Ok(all) => Listed {
+            done: Ok(()),
+            list: remove_redundant_entries(all).list,
+        },
+        Err(why) => refusal(why, g),
     }
 }

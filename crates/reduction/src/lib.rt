@@ -41,11 +41,10 @@ pub struct Reduction {
 pub fn add_orderings(cells: &[u32; 11265], list: Orderings, numbers: &[u16]) -> Listed
     ensures { result ≡ add_answer cells.now list numbers.now }
 {
-    let number = lent_number(cells, list, numbers);
-    if number != 0 {
-        return refusal(number, list);
+    match lent_number(cells, list, numbers) {
+        Ok(()) => add_in(list, numbers),
+        Err(why) => refusal(why, list),
     }
-    add_in(list, numbers)
 }
 
 // A new list of orderings that are built from lists of keys, lent as numbers, reduced. Refusals: 12, 11, 1, 5, with an
@@ -60,9 +59,8 @@ pub fn new(cells: &[u32; 11265], numbers: &[u16]) -> Listed
 pub fn extend(cells: &[u32; 11265], list: Orderings, numbers: &[u16]) -> Listed
     ensures { result ≡ extend_answer cells.now list numbers.now }
 {
-    let number = extend_number(cells, list, numbers);
-    if number != 0 {
-        return refusal(number, list);
+    match extend_number(cells, list, numbers) {
+        Ok(()) => add_in(list, numbers),
+        Err(why) => refusal(why, list),
     }
-    add_in(list, numbers)
 }

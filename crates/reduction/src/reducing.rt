@@ -17,14 +17,7 @@ fn meets(a: Ordering, b: Ordering, n: usize) -> bool
     ensures { result ≡ meets_by same_key (keys_of a) (keys_of b) n }
 {
     let start = a.size - n;
-    let mut k = 0;
-    while k < n {
-        if a.keys[start + k] != b.keys[k] {
-            return false;
-        }
-        k += 1;
-    }
-    true
+    (0..n).all(|k| a.keys[start + k] == b.keys[k])
 }
 
 // The least number of keys that end a and begin b; 0 where there is none.
@@ -32,32 +25,19 @@ fn overlap(a: Ordering, b: Ordering) -> usize
     requires { HeldOrdering a × HeldOrdering b }
     ensures { result ≡ overlap_number (overlap_by same_key (keys_of a) (keys_of b)) }
 {
-    let most = if a.size < b.size { a.size } else { b.size };
-    let mut n = 0;
-    while n < most {
-        if meets(a, b, n + 1) {
-            return n + 1;
-        }
-        n += 1;
-    }
-    0
+    let most = a.size.min(b.size);
+    (0..most).find(|n| meets(a, b, *n + 1)).map_or(0, |n| n + 1)
 }
 
 // The first n keys of an ordering.
+#[tactic(auto, using(orderings::proofs::Codec::size_few))]
 fn truncate(o: Ordering, n: usize) -> Ordering
     requires { HeldOrdering o × (n ≤ o.size) }
     ensures { result ≡ row (take n (keys_of o)) }
 {
     let mut keys = [0u16; 16];
-    let mut k = 0;
-    while k < n {
-        keys[k] = o.keys[k];
-        k += 1;
-    }
-    Ordering {
-        size: n,
-        keys: keys,
-    }
+    keys[..n].copy_from_slice(&o.keys[..n]);
+    Ordering { size: n, keys }
 }
 
 // The list without ordering i: the last moves into its gap.
@@ -151,6 +131,7 @@ fn round(g: Orderings, i: usize, cuts: usize) -> Turned
     let mut list = g;
     let mut done = cuts;
     let mut j = i + 1;
+    // A comparing decides the next place and how many are left; no count drives the loop.
     while j < list.count {
         let c = contest(list, i, j);
         list = c.list;
@@ -159,7 +140,7 @@ fn round(g: Orderings, i: usize, cuts: usize) -> Turned
             return Turned {
                 next: i,
                 cuts: done,
-                list: list,
+                list,
             };
         }
         j = next_place(c.way, j);
@@ -167,7 +148,7 @@ fn round(g: Orderings, i: usize, cuts: usize) -> Turned
     Turned {
         next: i + 1,
         cuts: done,
-        list: list,
+        list,
     }
 }
 
@@ -179,6 +160,7 @@ fn pass(g: Orderings) -> Turned
     let mut list = g;
     let mut cuts = 0;
     let mut i = 0;
+    // A round decides the next place and how many are left; no count drives the loop.
     while i < list.count {
         let turn = round(list, i, cuts);
         list = turn.list;
@@ -187,8 +169,8 @@ fn pass(g: Orderings) -> Turned
     }
     Turned {
         next: i,
-        cuts: cuts,
-        list: list,
+        cuts,
+        list,
     }
 }
 
@@ -201,6 +183,7 @@ pub fn remove_redundant_entries(g: Orderings) -> Reduction
     let mut cuts = 0;
     let mut passes = 0;
     let mut work = true;
+    // A pass that cuts nothing ends it; no count drives the loop.
     while work {
         let turn = pass(list);
         list = turn.list;
@@ -208,9 +191,5 @@ pub fn remove_redundant_entries(g: Orderings) -> Reduction
         passes += 1;
         work = turn.cuts != 0;
     }
-    Reduction {
-        list: list,
-        cuts: cuts,
-        passes: passes,
-    }
+    Reduction { list, cuts, passes }
 }

@@ -7,11 +7,12 @@ use std::env::{Env, FillError};
 use std::fs::{File, Files};
 use std::io::Read;
 use std::{io, str};
-use transcript::{Written, session};
+use transcript::session;
 
 // Reads until the bytes are full or the input ends, and answers how many bytes there were.
 fn read_input<R: Read>(from: &mut R, bytes: &mut [u8]) -> io::Result<usize> {
     let mut done = 0;
+    // A while: each read decides where the next one starts.
     while done < bytes.len() {
         let n = from.read(&mut bytes[done..])?;
         if n == 0 {
@@ -24,28 +25,22 @@ fn read_input<R: Read>(from: &mut R, bytes: &mut [u8]) -> io::Result<usize> {
 
 // The first n bytes; all of them where there are fewer.
 fn first(bytes: &[u8], n: usize) -> &[u8] {
-    if bytes.len() < n {
-        return bytes;
-    }
-    &bytes[..n]
+    &bytes[..n.min(bytes.len())]
 }
 
-// Writes the text that the session has put at the start of the output.
-fn print(rt: &(impl Print + Eprint), written: Written, output: &[u8]) {
-    match written {
-        Written::Bytes(n) => {
-            if let Err(error) = rt.write_all(first(output, n)) {
-                let _ = eprintln!(rt; "output: {error}");
-            }
-        }
-        Written::Refused(_) => {}
+// Writes a text.
+fn print(rt: &(impl Print + Eprint), text: &[u8]) {
+    if let Err(error) = rt.write_all(text) {
+        let _ = eprintln!(rt; "output: {error}");
     }
 }
 
 // Runs the session of some bytes.
 fn run(rt: &(impl Print + Eprint), input: &[u8]) {
     let mut output = [0u8; transcript::ENOUGH];
-    print(rt, session(input, &mut output), &output);
+    if let Ok(n) = session(input, &mut output) {
+        print(rt, first(&output, n));
+    }
 }
 
 // Runs the session of what can be read from a stream. One byte more than a session may have is read, so that input over

@@ -1,9 +1,10 @@
 -- How large a session's state is, and which numbers a record is answered with.
-use Rattle.std.specs.Prelude.{if◌then◌else◌}
+use Rattle.arena.specs.declared.Refusal.TheVariants.{TooManyChildren, UnknownExpression}
+use Rattle.arena.specs.Refusals.{Added, refusal_number}
+use Rattle.std.specs.Prelude.{if◌then◌else◌, Option, None, Some, Err, Ok}
 use Prim.Native.Nat.{ℕ, ◌+◌, ◌-◌, ◌<◌, ◌≤◌}
 use mathlib.Core.Bool.{Bool, true, false, ◌&&◌}
 use mathlib.Core.List.{List, [], ◌∷◌, ◌++◌, map}
-use mathlib.Core.Option.{Option, none, some}
 use mathlib.Core.Path.{◌≡◌, refl}
 use native.Mathlib.Omega.{arith}
 use borrow.Author.Tests.{ltb-true, leb-true}
@@ -16,8 +17,6 @@ use Rattle.arena.specs.Node.{Node, column, literal, operation, node_at, same_nod
 use Rattle.arena.specs.Expression.{Expression, Expressions, col, lit, op, ∅, ◌▹◌, expression_at}
 use Rattle.arena.specs.Arena.{Placed, placed, full, and_then, find, placed_at, add, add_expression, add_expressions}
 use Rattle.arena.specs.Calls.{answered, add_column, add_literal, add_operation}
-use Rattle.arena.specs.declared.Added.{Added}
-use Rattle.arena.specs.declared.Added.TheVariants.{Number, Refused}
 use Rattle.classes.specs.Class.{Class}
 use Rattle.classes.specs.Group.{total, equal_condition, with_constant}
 use Rattle.questions.specs.Questions.{exprs_equal}
@@ -26,7 +25,6 @@ use Rattle.classes.specs.Steps.{Outcome, refused, fits, judged}
 use Rattle.conditions.specs.Steps.{add_equal, add_constant}
 use Rattle.conditions.specs.Calls.{sayable}
 use Rattle.questions.specs.Calls.{equal_answer}
-use Rattle.questions.specs.declared.Answer.TheVariants.{Yes, No, Refused as Answer-Refused}
 use Rattle.normal.specs.Normal.{normal}
 use Rattle.normal.specs.Calls.{normalize_expr}
 use Rattle.orderings.specs.Ordering.{same_key}
@@ -67,8 +65,8 @@ add_small n ns l = go (first (λ i. same_node n (node_at ns i)) (length ns)) ref
     new false e = tt
 
     go : (o : Option ℕ) → first (λ i. same_node n (node_at ns i)) (length ns) ≡ o → PlacedSmall (placed_at o n ns)
-    go (some i) e = let b = (first_some (λ i. same_node n (node_at ns i)) (length ns) i e).below in (omega arith, l)
-    go none e = new (ltb (length ns) 1024) refl
+    go (Some i) e = let b = (first_some (λ i. same_node n (node_at ns i)) (length ns) i e).below in (omega arith, l)
+    go None e = new (ltb (length ns) 1024) refl
 
 then-small : (p : Placed (List ℕ)) (f : List ℕ → List Node → Placed ℕ) → PlacedFew p → ((is : List ℕ) (ms : List Node) → length ms ≤ 1024 → PlacedSmall (f is ms)) → PlacedSmall (and_then p f)
 unfolding and_then PlacedFew PlacedSmall
@@ -103,8 +101,8 @@ mutual
 
 -- what a call on the arena comes to: a number of a node or a refusal below 10, and an arena within its bound
 unfoldable AddedSmall : Added → Type 0
-AddedSmall (Number i) = i < 1024
-AddedSmall (Refused k) = k < 10
+AddedSmall (Ok i) = i < 1024
+AddedSmall (Err k) = refusal_number k < 10
 
 abbrev NodesSmall : Added × List Node → Type 0
 NodesSmall o = AddedSmall o.0 × (length o.1 ≤ 1024)
@@ -126,15 +124,15 @@ operation-small : (label : ℕ) (children : List ℕ) (ns : List Node) → lengt
 unfolding add_operation AddedSmall
 operation-small label children ns l = go (each (λ k. ltb (get_or children k 0) (length ns)) (length children)) (leb (length children) 8)
   where
-    go : (b c : Bool) → NodesSmall (if b then (if c then answered ns (add (operation label children) ns) else (Refused 2, ns)) else (Refused 1, ns))
+    go : (b c : Bool) → NodesSmall (if b then (if c then answered ns (add (operation label children) ns) else (Err TooManyChildren, ns)) else (Err UnknownExpression, ns))
     go true true = answered-small ns (add (operation label children) ns) l (add_small (operation label children) ns l)
     go true false = (omega arith, l)
     go false c = (omega arith, l)
 
 -- a normal form is asked only of a node that is there
 unfoldable pub NormalSmall : ℕ → Added → Type 0
-NormalSmall e (Number i) = (e < 1024) × (i < 1024)
-NormalSmall e (Refused k) = k < 10
+NormalSmall e (Ok i) = (e < 1024) × (i < 1024)
+NormalSmall e (Err k) = refusal_number k < 10
 
 normal-small : (e : ℕ) (ns : List Node) (cs : List Class) → length ns ≤ 1024 → NormalSmall e (normalize_expr e ns cs).0 × (length (normalize_expr e ns cs).1 ≤ 1024)
 unfolding normalize_expr NormalSmall answered PlacedSmall
@@ -147,7 +145,7 @@ normal-small e ns cs l = go (ltb e (length ns)) refl
     at b (placed i ms) h = ((omega arith, h.0), h.1)
     at b full h = (omega arith, l)
 
-    go : (b : Bool) → ltb e (length ns) ≡ b → NormalSmall e (if b then answered ns made else (Refused 1, ns)).0 × (length (if b then answered ns made else (Refused 1, ns)).1 ≤ 1024)
+    go : (b : Bool) → ltb e (length ns) ≡ b → NormalSmall e (if b then answered ns made else (Err UnknownExpression, ns)).0 × (length (if b then answered ns made else (Err UnknownExpression, ns)).1 ≤ 1024)
     go true q = at (ltb-true e (length ns) q) made (expression-small (normal ns cs (expression_at ns e)) ns l)
     go false q = (omega arith, l)
 
@@ -233,19 +231,19 @@ unless-tells n l = go (eqb n 0)
 
 added-tells : (a : Added) → AddedSmall a → Tells (added_reply a)
 unfolding added_reply Tells AddedSmall
-added-tells (Number i) h = tt
-added-tells (Refused k) h = omega arith
+added-tells (Ok i) h = tt
+added-tells (Err k) h = omega arith
 
 normal-tells : (e : ℕ) (a : Added) → NormalSmall e a → Tells (normal_reply e a)
 unfolding normal_reply Tells NormalSmall
-normal-tells e (Number i) h = h
-normal-tells e (Refused k) h = omega arith
+normal-tells e (Ok i) h = h
+normal-tells e (Err k) h = omega arith
 
 equality-tells : (a b : ℕ) (ns : List Node) (cs : List Class) → length ns ≤ 1024 → Tells (equality_reply a b (equal_answer a b ns cs))
 unfolding equal_answer equality_reply Tells
 equality-tells a b ns cs l = go (ltb a (length ns)) refl (ltb b (length ns)) refl (exprs_equal ns cs a b)
   where
-    go : (p : Bool) → ltb a (length ns) ≡ p → (q : Bool) → ltb b (length ns) ≡ q → (t : Bool) → Tells (equality_reply a b (if p && q then (if t then Yes else No) else Answer-Refused 1))
+    go : (p : Bool) → ltb a (length ns) ≡ p → (q : Bool) → ltb b (length ns) ≡ q → (t : Bool) → Tells (equality_reply a b (if p && q then Ok t else Err UnknownExpression))
     go true e true f true = let x = ltb-true a (length ns) e in let y = ltb-true b (length ns) f in (omega arith, omega arith)
     go true e true f false = let x = ltb-true a (length ns) e in let y = ltb-true b (length ns) f in (omega arith, omega arith)
     go true e false f t = omega arith

@@ -10,3 +10,4 @@ pub mod States
 pub mod Bounds
 pub mod Effects
 pub mod Passing
+pub mod Told

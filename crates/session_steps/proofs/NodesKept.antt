@@ -1,5 +1,7 @@
 -- What adding a node comes to: the arena stays sound and only grows, and a refusal leaves it as it was.
-use Rattle.std.specs.Prelude.{if◌then◌else◌}
+use Rattle.arena.specs.declared.Refusal.{Refusal}
+use Rattle.arena.specs.declared.Refusal.TheVariants.{ArenaFull, TooManyChildren, UnknownExpression}
+use Rattle.std.specs.Prelude.{if◌then◌else◌, Err}
 use Prim.Native.Nat.{ℕ, ◌<◌}
 use mathlib.Core.Bool.{Bool, true, false}
 use mathlib.Core.List.{List}
@@ -12,12 +14,11 @@ use Rattle.laws.proofs.Each.{each_holds}
 use Rattle.arena.specs.Node.{Node, column, literal, operation}
 use Rattle.arena.specs.Arena.{Allowed, Sound, Placed, placed, full, add}
 use Rattle.arena.specs.Calls.{answered, add_column, add_literal, add_operation, added_number}
-use Rattle.arena.specs.declared.Added.TheVariants.{Refused}
 use Rattle.arena.proofs.Nodes.{extends-none, add-node}
 use Rattle.normal.proofs.NormalKept.{Kept}
 
 -- a call that hands the arena back
-same_kept : (k : ℕ) (ns : List Node) → Sound ns → Kept added_number ns (Refused k, ns)
+same_kept : (k : Refusal) (ns : List Node) → Sound ns → Kept added_number ns (Err k, ns)
 same_kept k ns s = record { sound = s; extends = extends-none ns; refused = λ h. refl }
 
 -- a node that is allowed next
@@ -27,7 +28,7 @@ add_kept n ns s a = go (add n ns) refl
   where
     go : (p : Placed ℕ) → add n ns ≡ p → Kept added_number ns (answered ns p)
     go (placed i ms) q = let m = add-node n ns s a i ms q in record { sound = m.sound; extends = m.extends; refused = λ h. absurd (h refl) }
-    go full q = same_kept 3 ns s
+    go full q = same_kept ArenaFull ns s
 
 -- a column, a literal, an operation
 pub column-kept : (name index : ℕ) (ns : List Node) → Sound ns → index < 65536 → Kept added_number ns (add_column name index ns)
@@ -43,9 +44,9 @@ unfolding add_operation Allowed
 operation-kept label children ns s = go (each (λ k. ltb (get_or children k 0) (length ns)) (length children)) refl (leb (length children) 8) refl
   where
     go : (b : Bool) → each (λ k. ltb (get_or children k 0) (length ns)) (length children) ≡ b → (c : Bool) → leb (length children) 8 ≡ c
-        → Kept added_number ns (if b then (if c then answered ns (add (operation label children) ns) else (Refused 2, ns)) else (Refused 1, ns))
+        → Kept added_number ns (if b then (if c then answered ns (add (operation label children) ns) else (Err TooManyChildren, ns)) else (Err UnknownExpression, ns))
     go true p true q =
         add_kept (operation label children) ns s
         (leb-true (length children) 8 q, λ k l. ltb-true (get_or children k 0) (length ns) (each_holds (λ k. ltb (get_or children k 0) (length ns)) (length children) k p l))
-    go true p false q = same_kept 2 ns s
-    go false p c q = same_kept 1 ns s
+    go true p false q = same_kept TooManyChildren ns s
+    go false p c q = same_kept UnknownExpression ns s

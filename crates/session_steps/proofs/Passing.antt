@@ -1,4 +1,5 @@
 -- Every state of a session passes the calls' own checks, so that the effects of Effects.antt hold for each of its records.
+use Rattle.arena.specs.Refusals.{Added}
 use Prim.Native.Nat.{ℕ, suc, ◌-◌, ◌<◌, ◌≤◌}
 use mathlib.Core.Bool.{Bool, true, false}
 use mathlib.Core.List.{List, [], ◌∷◌, map}
@@ -11,7 +12,6 @@ use Rattle.arena.specs.Node.{Node}
 use Rattle.arena.specs.Arena.{Sound, Extends}
 use Rattle.arena.specs.Layout.{encode as cells_for}
 use Rattle.arena.specs.Calls.{add_column, add_literal, add_operation, added_number}
-use Rattle.arena.specs.declared.Added.{Added}
 use Rattle.arena.proofs.Layouts.{decode-encode, count-encode, encode-holds, holds-lawful}
 use Rattle.group_checks.proofs.HeldLaws.{Fit, held_number}
 use Rattle.normal.specs.Calls.{normalize_expr}

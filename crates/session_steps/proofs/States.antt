@@ -1,5 +1,8 @@
 -- What every session keeps: its state stays good, and a refusal leaves it as it was.
-use Rattle.std.specs.Prelude.{if◌then◌else◌}
+use Rattle.arena.specs.declared.Refusal.TheVariants.{TooManyChildren, UnknownExpression}
+use Rattle.arena.specs.declared.Refusal.{Refusal}
+use Rattle.arena.specs.Refusals.{Added}
+use Rattle.std.specs.Prelude.{if◌then◌else◌, Err, Ok}
 use Prim.Native.Nat.{ℕ, suc, ◌+◌, ◌<◌, ◌≤◌}
 use mathlib.Core.Bool.{Bool, true, false}
 use mathlib.Core.List.{List, [], ◌∷◌, ◌++◌, map}
@@ -12,9 +15,8 @@ use Rattle.arena.specs.Node.{Node, operation}
 use Rattle.arena.specs.Expression.{expression_at}
 use Rattle.arena.specs.Arena.{Sound, Placed, placed, full, add, add_expression}
 use Rattle.arena.specs.Calls.{answered, add_column, add_literal, add_operation, added_number}
-use Rattle.arena.specs.declared.Added.{Added}
-use Rattle.arena.specs.declared.Added.TheVariants.{Number, Refused}
-use Rattle.classes.specs.Class.{Constant, Class}
+use Rattle.classes.specs.declared.Constant.{Constant}
+use Rattle.classes.specs.Class.{Class}
 use Rattle.classes.specs.Group.{total}
 use Rattle.classes.specs.Good.{Good}
 use Rattle.classes.specs.Steps.{Outcome as GroupOutcome, refused}
@@ -114,11 +116,11 @@ refusing (refusal n) = 1
 
 -- a call on the arena whose refusals hand it back
 abbrev Leaves : List Node → Added × List Node → Type 0
-Leaves ns o = (k : ℕ) → o.0 ≡ Refused k → o.1 ≡ ns
+Leaves ns o = (k : Refusal) → o.0 ≡ Err k → o.1 ≡ ns
 
 abbrev is_refused : Added → ℕ
-is_refused (Number i) = 0
-is_refused (Refused k) = 1
+is_refused (Ok i) = 0
+is_refused (Err k) = 1
 
 answered-leaves : (ns : List Node) (p : Placed ℕ) → Leaves ns (answered ns p)
 unfolding answered
@@ -130,7 +132,7 @@ unfolding add_operation
 operation-leaves label children ns = go (each (λ k. ltb (get_or children k 0) (length ns)) (length children)) (leb (length children) 8)
   where
     out : Bool → Bool → Added × List Node
-    out a b = if a then (if b then answered ns (add (operation label children) ns) else (Refused 2, ns)) else (Refused 1, ns)
+    out a b = if a then (if b then answered ns (add (operation label children) ns) else (Err TooManyChildren, ns)) else (Err UnknownExpression, ns)
 
     go : (a b : Bool) → Leaves ns (out a b)
     go true true = answered-leaves ns (add (operation label children) ns)
@@ -142,21 +144,21 @@ unfolding normalize_expr
 normal-leaves e ns cs = go (ltb e (length ns))
   where
     out : Bool → Added × List Node
-    out a = if a then answered ns (add_expression (normal ns cs (expression_at ns e)) ns) else (Refused 1, ns)
+    out a = if a then answered ns (add_expression (normal ns cs (expression_at ns e)) ns) else (Err UnknownExpression, ns)
 
     go : (a : Bool) → Leaves ns (out a)
     go true = answered-leaves ns (add_expression (normal ns cs (expression_at ns e)) ns)
     go false = λ k q. refl
 
 -- a refusal of such a call leaves the state
-nodes_leave : (s : State) (reply : Added → Reply) (o : Added × List Node) → Leaves s.nodes o → ((i : ℕ) → refusing (reply (Number i)) ≡ 0)
+nodes_leave : (s : State) (reply : Added → Reply) (o : Added × List Node) → Leaves s.nodes o → ((i : ℕ) → refusing (reply (Ok i)) ≡ 0)
     → (n : ℕ) → (on_nodes s reply o).0 ≡ refusal n → (on_nodes s reply o).1 ≡ s
 unfolding on_nodes with_nodes
 nodes_leave s reply o l h n q = ap (λ (ns : List Node). with_nodes s ns) (go o.0 refl)
   where
     go : (a : Added) → o.0 ≡ a → o.1 ≡ s.nodes
-    go (Number i) e = let z : ◌≡◌ {A = ℕ} (refusing (reply o.0)) 1 = ap refusing q in let w : refusing (reply o.0) ≡ refusing (reply (Number i)) = ap (λ (a : Added). refusing (reply a)) e in absurd (omega (arith, h i))
-    go (Refused k) e = l k e
+    go (Ok i) e = let z : ◌≡◌ {A = ℕ} (refusing (reply o.0)) 1 = ap refusing q in let w : refusing (reply o.0) ≡ refusing (reply (Ok i)) = ap (λ (a : Added). refusing (reply a)) e in absurd (omega (arith, h i))
+    go (Err k) e = l k e
 
 -- a number that is told is a refusal's
 told-not-zero : (number n : ℕ) → unless number ≡ refusal n → number ≡ 0 → ⊥

@@ -1,8 +1,9 @@
 -- What the inner functions ask and promise each other, and what a step promises to the loop over the records.
-use Rattle.std.specs.Prelude.{ℕ, List, [], ◌∷◌, ◌≡◌, length}
+use Rattle.arena.specs.declared.Refusal.{Refusal}
+use Rattle.arena.specs.Refusals.{Added, outcome, refusal as refusal_of}
+use Rattle.std.specs.Prelude.{ℕ, List, [], ◌∷◌, ◌≡◌, length, Result, Ok, Err}
 use Rattle.arena.specs.Node.{Node}
 use Rattle.arena.specs.Layout.{decode as nodes_in}
-use Rattle.arena.specs.declared.Added.{Added}
 use Rattle.arena.specs.Inner.{Holds}
 use Rattle.classes.specs.Layout.{decode}
 use Rattle.classes.specs.Inner.{Held}
@@ -14,22 +15,27 @@ use Rattle.session_steps.specs.State.{State, Reply, quiet, normal_form, equality
 use Rattle.session_steps.specs.declared.holding.Stepped.{Stepped}
 use Rattle.session_steps.specs.declared.holding.Holding.{Holding}
 use Rattle.session_steps.specs.declared.holding.Said.{Said}
-use Rattle.session_steps.specs.declared.holding.Said.TheVariants.{Quiet, NormalForm, Equality, Refused}
+use Rattle.session_steps.specs.declared.holding.Said.TheVariants.{Quiet, NormalForm, Equality}
 
--- a reply as the enum that the functions hand on
-unfoldable pub said_of : Reply → Said
-said_of quiet = Quiet
-said_of (normal_form e r) = NormalForm e r
-said_of (equality a b v) = Equality a b v
-said_of (refusal number) = Refused number
+-- a reply as the answer that the functions hand on
+unfoldable pub said_of : Reply → Result Said Refusal
+said_of quiet = Ok Quiet
+said_of (normal_form e r) = Ok (NormalForm e r)
+said_of (equality a b v) = Ok (Equality a b v)
+said_of (refusal number) = Err (refusal_of number)
+
+-- an answer of which only a refusal is told
+unfoldable pub told : {A : Type 0} → Result A Refusal → Result Said Refusal
+told (Ok a) = Ok Quiet
+told (Err k) = Err k
 
 -- an answer about nodes as what is said of it
-unfoldable pub said_by : (Added → Reply) → Added × List Node → Said × List Node
+unfoldable pub said_by : (Added → Reply) → Added × List Node → Result Said Refusal × List Node
 said_by reply o = (said_of (reply o.0), o.1)
 
 -- a number and a list of orderings as the struct that is handed back
 unfoldable pub listed_of : ℕ × List (List ℕ) → Listed
-listed_of o = record { number = o.0; list = encode_list o.1 }
+listed_of o = record { done = outcome o.0; list = encode_list o.1 }
 
 -- expression and options of each key, one after the other
 unfoldable pub pairs_of : List (ℕ × ℕ) → List ℕ

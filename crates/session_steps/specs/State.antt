@@ -1,18 +1,15 @@
 -- What a session holds, and what each record does to it.
-use Rattle.std.specs.Prelude.{ℕ, ◌+◌, ◌*◌, Bool, true, false, List, [], ◌∷◌, ◌++◌, map, eqb, ltb, leb, length, get_or, if◌then◌else◌}
+use Rattle.arena.specs.Refusals.{Added, refusal_number}
+use Rattle.std.specs.Prelude.{ℕ, ◌+◌, ◌*◌, Bool, true, List, [], ◌∷◌, ◌++◌, map, eqb, ltb, leb, length, get_or, if◌then◌else◌, Err, Ok}
 use Rattle.laws.specs.Tests.{each}
 use Rattle.arena.specs.Node.{Node}
 use Rattle.arena.specs.Calls.{add_column, add_literal, add_operation}
-use Rattle.arena.specs.declared.Added.{Added}
-use Rattle.arena.specs.declared.Added.TheVariants.{Number, Refused}
 use Rattle.classes.specs.Class.{Class}
 use Rattle.classes.specs.Steps.{Outcome, refused}
 use Rattle.conditions.specs.Steps.{add_equal, add_constant}
 use Rattle.classes.specs.Layout.{constant_from}
 use Rattle.conditions.specs.Calls.{sayable}
-use Rattle.questions.specs.Calls.{equal_answer}
-use Rattle.questions.specs.declared.Answer.{Answer}
-use Rattle.questions.specs.declared.Answer.TheVariants.{Yes, No, Refused as Answer-Refused}
+use Rattle.questions.specs.Calls.{Answer, equal_answer}
 use Rattle.normal.specs.Calls.{normalize_expr}
 use Rattle.orderings.specs.Ordering.{same_key}
 use Rattle.orderings.specs.Lists.{built_all}
@@ -43,19 +40,18 @@ unless number = if eqb number 0 then quiet else refusal number
 
 -- an answer about nodes: a number is not told
 unfoldable pub added_reply : Added → Reply
-added_reply (Number i) = quiet
-added_reply (Refused k) = refusal k
+added_reply (Ok i) = quiet
+added_reply (Err k) = refusal (refusal_number k)
 
 -- the answer of a normal form
 unfoldable pub normal_reply : ℕ → Added → Reply
-normal_reply e (Number i) = normal_form e i
-normal_reply e (Refused k) = refusal k
+normal_reply e (Ok i) = normal_form e i
+normal_reply e (Err k) = refusal (refusal_number k)
 
 -- the answer of an equality question
 unfoldable pub equality_reply : ℕ → ℕ → Answer → Reply
-equality_reply a b Yes = equality a b true
-equality_reply a b No = equality a b false
-equality_reply a b (Answer-Refused k) = refusal k
+equality_reply a b (Ok v) = equality a b v
+equality_reply a b (Err k) = refusal (refusal_number k)
 
 -- the state with other nodes, other classes, other orderings
 unfoldable pub with_nodes : State → List Node → State

@@ -3,6 +3,7 @@ ghost use Rattle.std.specs.Prelude.{[], ◌≡◌};
 ghost use Rattle.classes.specs.Layout.{encode};
 ghost use Rattle.orderings.specs.Layout.{encode as encode_list};
 
+use arena::Refusal;
 use classes::Group;
 use classes::building::empty;
 use orderings::Orderings;
@@ -15,19 +16,18 @@ pub struct Holding {
     pub list: Orderings,
 }
 
-// What a record is answered with: nothing, a normal form, a yes or a no, or a refusal.
-#[derive(Clone, Copy)]
+// What a record is answered with: nothing, a normal form, a yes or a no.
+#[derive(Clone, Copy, Debug, PartialEq, Eq)]
 pub enum Said {
     Quiet,
     NormalForm(u32, u32),
     Equality(u32, u32, bool),
-    Refused(u32),
 }
 
-// The answer and what is held afterwards.
+// The answer and what is held afterwards: on a refusal what was held.
 #[derive(Clone, Copy)]
 pub struct Stepped {
-    pub said: Said,
+    pub said: Result<Said, Refusal>,
     pub holding: Holding,
 }
 

@@ -1,6 +1,5 @@
 // One record of a session, on an arena, a group and orderings that are checked already.
 ghost use Rattle.std.specs.Prelude.{◌∷◌, [], ◌≡◌, ℕ, ◌≤◌, ◌<◌, ◌+◌, ◌*◌, ltb, leb, length, get_or, take};
-ghost use Rattle.std.proofs.Math.Option.{some};
 ghost use Rattle.laws.specs.Tests.{each};
 ghost use Rattle.arena.specs.Layout.{decode as nodes};
 ghost use Rattle.arena.specs.Calls.{in_cells, add_column, add_literal, add_operation};
@@ -15,15 +14,15 @@ ghost use Rattle.orderings.specs.Layout.{decode as orderings_in};
 ghost use Rattle.orderings.specs.Inner.{Held as HeldList};
 ghost use Rattle.records.specs.Fields.{fields};
 ghost use Rattle.records.specs.Record.{Record, read_record, item_of, keys_in};
-ghost use Rattle.session_steps.specs.State.{added_reply, normal_reply, equality_reply, say_constant, key_expr, key_options, add_ordering, unless};
-ghost use Rattle.session_steps.specs.Inner.{Fit, Went, said_of, said_by, listed_of, lent_keys};
+ghost use Rattle.session_steps.specs.State.{added_reply, normal_reply, equality_reply, say_constant, key_expr, key_options, add_ordering};
+ghost use Rattle.session_steps.specs.Inner.{Fit, Went, said_of, said_by, told, listed_of, lent_keys};
 
 use crate::holding::{Holding, Said, Stepped};
-use arena::Added;
+use arena::Refusal;
 use arena::adding::{column_row, literal_row, operation_row, place};
 use arena::cells::node_count;
 use classes::refusing::refusal;
-use classes::{Changed, Group, Mark};
+use classes::{Changed, Constant, Group};
 use conditions::constants::{add_constant_in, can_say};
 use conditions::equating::equal_condition_in;
 use normal::normalizing::normalize_in;
@@ -34,32 +33,33 @@ use records::fields::{field, index};
 use records::kinds::body_of;
 use reduction::lent::add_in;
 
-// An answer about nodes: a number is not told.
-fn said_added(answer: Added) -> Said
-    ensures { result ≡ said_of (added_reply answer) }
+// An answer of which only a refusal is told.
+#[tactic(auto, unfolding(crate::specs::Inner::told))]
+fn quiet<T: Drop>(answer: Result<T, Refusal>) -> Result<Said, Refusal>
+    ensures { result ≡ told answer }
 {
     match answer {
-        Added::Number(_) => Said::Quiet,
-        Added::Refused(k) => Said::Refused(k),
+        Ok(_) => Ok(Said::Quiet),
+        Err(why) => Err(why),
     }
 }
 
 // Adds a column.
-fn add_column_in(cells: &mut [u32; 11265], name: u16, index: u16) -> Said
+fn add_column_in(cells: &mut [u32; 11265], name: u16, index: u16) -> Result<Said, Refusal>
     requires { Holds cells.old }
     ensures { (result, cells.new) ≡ in_cells (said_by added_reply (add_column name index (nodes cells.old))) }
 {
     let row = column_row(name, index);
-    said_added(place(cells, &row))
+    quiet(place(cells, &row))
 }
 
 // Adds a literal.
-fn add_literal_in(cells: &mut [u32; 11265], value: u32) -> Said
+fn add_literal_in(cells: &mut [u32; 11265], value: u32) -> Result<Said, Refusal>
     requires { Holds cells.old }
     ensures { (result, cells.new) ≡ in_cells (said_by added_reply (add_literal value (nodes cells.old))) }
 {
     let row = literal_row(value);
-    said_added(place(cells, &row))
+    quiet(place(cells, &row))
 }
 
 // Each of the n children in a body is below a count.
@@ -67,14 +67,7 @@ fn children_below(body: &[u8], n: usize, count: usize) -> bool
     requires { length body.now ≡ 4 + 2 * n }
     ensures { result ≡ each (λ k. ltb (get_or (fields body.now 4 n) k 0) count) n }
 {
-    let mut k = 0;
-    while k < n {
-        if count <= index(field(body, 4 + 2 * k)) {
-            return false;
-        }
-        k += 1;
-    }
-    true
+    (0..n).all(|k| index(field(body, 4 + 2 * k)) < count)
 }
 
 // The n children in a body, at most 8.
@@ -83,29 +76,32 @@ fn children_of(body: &[u8], n: usize) -> [u32; 8]
     ensures { (length result ≡ 8) × (take n result ≡ fields body.now 4 n) }
 {
     let mut children = [0u32; 8];
-    let mut k = 0;
-    while k < n {
-        children[k] = field(body, 4 + 2 * k) as u32;
-        k += 1;
+    for k in 0..n {
+        children[k] = u32::from(field(body, 4 + 2 * k));
     }
     children
 }
 
 // Adds an operation over the n children in a body: 1 where one is unknown, 2 where there are more than 8.
-fn add_operation_in(cells: &mut [u32; 11265], label: u32, body: &[u8], n: usize) -> Said
+fn add_operation_in(
+    cells: &mut [u32; 11265],
+    label: u32,
+    body: &[u8],
+    n: usize,
+) -> Result<Said, Refusal>
     requires { Holds cells.old × (length body.now ≡ 4 + 2 * n) }
     ensures { (result, cells.new) ≡ in_cells (said_by added_reply (add_operation label (fields body.now 4 n) (nodes cells.old))) }
 {
     let count = node_count(cells);
     if !children_below(body, n, count) {
-        return Said::Refused(1);
+        return Err(Refusal::UnknownExpression);
     }
     if 8 < n {
-        return Said::Refused(2);
+        return Err(Refusal::TooManyChildren);
     }
     let children = children_of(body, n);
     let row = operation_row(label, &children[..n]);
-    said_added(place(cells, &row))
+    quiet(place(cells, &row))
 }
 
 // An equal condition: 1 where an expression is unknown.
@@ -115,12 +111,12 @@ fn equal_pair_in(cells: &[u32; 11265], g: Group, a: u16, b: u16) -> Changed
 {
     let n = node_count(cells);
     if n <= index(a) {
-        return refusal(1, g);
+        return refusal(Refusal::UnknownExpression, g);
     }
     if n <= index(b) {
-        return refusal(1, g);
+        return refusal(Refusal::UnknownExpression, g);
     }
-    equal_condition_in(cells, g, a as u32, b as u32)
+    equal_condition_in(cells, g, u32::from(a), u32::from(b))
 }
 
 // A constant: 12 where it can't be said, 1 where the expression is unknown.
@@ -128,58 +124,46 @@ fn say_constant_in(cells: &[u32; 11265], g: Group, e: u16, flavour: u16, value: 
     requires { (Holds cells.now × Held (nodes cells.now) g) × (g.limit ≡ 256) }
     ensures { result ≡ changed g.limit (say_constant e flavour value (nodes cells.now) (decode g)) }
 {
-    if !can_say(flavour as u32, value) {
-        return refusal(12, g);
+    if !can_say(u32::from(flavour), value) {
+        return refusal(Refusal::BadNumber, g);
     }
     let n = node_count(cells);
     if n <= index(e) {
-        return refusal(1, g);
+        return refusal(Refusal::UnknownExpression, g);
     }
-    let said = Mark {
-        flavour: (flavour as u32) + 1,
-        value: value,
-    };
-    add_constant_in(cells, g, e as u32, said)
-}
-
-// The answer of a normal form.
-fn said_normal(e: u32, answer: Added) -> Said
-    ensures { result ≡ said_of (normal_reply e answer) }
-{
-    match answer {
-        Added::Number(i) => Said::NormalForm(e, i),
-        Added::Refused(k) => Said::Refused(k),
-    }
+    let said = Constant::from_numbers(u32::from(flavour) + 1, value);
+    add_constant_in(cells, g, u32::from(e), said)
 }
 
 // The normal form of an expression: 1 where it is unknown.
-fn normal_form_in(cells: &mut [u32; 11265], g: Group, e: u16) -> Said
+fn normal_form_in(cells: &mut [u32; 11265], g: Group, e: u16) -> Result<Said, Refusal>
     requires { Holds cells.old × Held (nodes cells.old) g }
     ensures { (result, cells.new) ≡ in_cells (said_by (normal_reply e) (normalize_expr e (nodes cells.old) (decode g))) }
 {
     let n = node_count(cells);
     if n <= index(e) {
-        return Said::Refused(1);
+        return Err(Refusal::UnknownExpression);
     }
-    let expr = e as u32;
-    said_normal(expr, normalize_in(cells, g, expr))
+    let expr = u32::from(e);
+    let form = normalize_in(cells, g, expr)?;
+    Ok(Said::NormalForm(expr, form))
 }
 
 // The equality question: 1 where an expression is unknown.
-fn equality_in(cells: &[u32; 11265], g: Group, a: u16, b: u16) -> Said
+fn equality_in(cells: &[u32; 11265], g: Group, a: u16, b: u16) -> Result<Said, Refusal>
     requires { Holds cells.now × Held (nodes cells.now) g }
     ensures { result ≡ said_of (equality_reply a b (equal_answer a b (nodes cells.now) (decode g))) }
 {
     let n = node_count(cells);
     if n <= index(a) {
-        return Said::Refused(1);
+        return Err(Refusal::UnknownExpression);
     }
     if n <= index(b) {
-        return Said::Refused(1);
+        return Err(Refusal::UnknownExpression);
     }
-    let left = a as u32;
-    let right = b as u32;
-    Said::Equality(left, right, equal_in(cells, g, left, right))
+    let left = u32::from(a);
+    let right = u32::from(b);
+    Ok(Said::Equality(left, right, equal_in(cells, g, left, right)))
 }
 
 // The options of the n keys in a body are 0 to 3.
@@ -187,14 +171,7 @@ fn options_known(body: &[u8], n: usize) -> bool
     requires { length body.now ≡ 4 * n }
     ensures { result ≡ each (λ k. leb (key_options (keys_in body.now) k) 3) n }
 {
-    let mut k = 0;
-    while k < n {
-        if 3 < field(body, 4 * k + 2) {
-            return false;
-        }
-        k += 1;
-    }
-    true
+    (0..n).all(|k| field(body, 4 * k + 2) <= 3)
 }
 
 // The expressions of the n keys in a body are below a count.
@@ -202,14 +179,7 @@ fn exprs_below(body: &[u8], n: usize, count: usize) -> bool
     requires { length body.now ≡ 4 * n }
     ensures { result ≡ each (λ k. ltb (key_expr (keys_in body.now) k) count) n }
 {
-    let mut k = 0;
-    while k < n {
-        if count <= index(field(body, 4 * k)) {
-            return false;
-        }
-        k += 1;
-    }
-    true
+    (0..n).all(|k| index(field(body, 4 * k)) < count)
 }
 
 // The n keys in a body as a list of keys that is lent: their count, then expression and options of each.
@@ -219,11 +189,9 @@ fn lent_keys(body: &[u8], n: usize) -> [u16; 33]
 {
     let mut numbers = [0u16; 33];
     numbers[0] = n as u16;
-    let mut k = 0;
-    while k < n {
+    for k in 0..n {
         numbers[1 + 2 * k] = field(body, 4 * k);
         numbers[2 + 2 * k] = field(body, 4 * k + 2);
-        k += 1;
     }
     numbers
 }
@@ -235,15 +203,15 @@ fn add_ordering_in(cells: &[u32; 11265], list: Orderings, body: &[u8], n: usize)
 {
     if !options_known(body, n) {
         return Listed {
-            number: 12,
-            list: list,
+            done: Err(Refusal::BadNumber),
+            list,
         };
     }
     let count = node_count(cells);
     if !exprs_below(body, n, count) {
         return Listed {
-            number: 1,
-            list: list,
+            done: Err(Refusal::UnknownExpression),
+            list,
         };
     }
     let numbers = lent_keys(body, n);
@@ -251,60 +219,43 @@ fn add_ordering_in(cells: &[u32; 11265], list: Orderings, body: &[u8], n: usize)
     add_in(list, &numbers[..end])
 }
 
-// A refusal is told; 0 is none.
-fn said_unless(number: u32) -> Said
-    ensures { result ≡ said_of (unless number) }
-{
-    if number == 0 {
-        return Said::Quiet;
-    }
-    Said::Refused(number)
-}
-
 // An answer beside what is held as before.
-fn kept(said: Said, h: Holding) -> Stepped
+fn kept(said: Result<Said, Refusal>, h: Holding) -> Stepped
     ensures { result ≡ record { said = said; holding = h } }
 {
-    Stepped {
-        said: said,
-        holding: h,
-    }
+    Stepped { said, holding: h }
 }
 
 // What is held with the group that a call handed back.
 fn with_group(h: Holding, change: Changed) -> Stepped
-    ensures { result ≡ record { said = said_of (unless change.number); holding = record { group = change.group; list = h.list } } }
+    ensures { result ≡ record { said = told change.answer; holding = record { group = change.group; list = h.list } } }
 {
-    let group = change.group;
-    let list = h.list;
     Stepped {
-        said: said_unless(change.number),
+        said: quiet(change.answer),
         holding: Holding {
-            group: group,
-            list: list,
+            group: change.group,
+            list: h.list,
         },
     }
 }
 
 // What is held with the orderings that a call handed back.
 fn with_list(h: Holding, listed: Listed) -> Stepped
-    ensures { result ≡ record { said = said_of (unless listed.number); holding = record { group = h.group; list = listed.list } } }
+    ensures { result ≡ record { said = told listed.done; holding = record { group = h.group; list = listed.list } } }
 {
-    let group = h.group;
-    let list = listed.list;
     Stepped {
-        said: said_unless(listed.number),
+        said: quiet(listed.done),
         holding: Holding {
-            group: group,
-            list: list,
+            group: h.group,
+            list: listed.list,
         },
     }
 }
 
 // One record: what is answered, and what is held afterwards.
 pub fn step(cells: &mut [u32; 11265], h: Holding, bytes: &[u8], item: Item) -> Stepped
-    requires { Fit cells.old h × (item ≡ item_of (read_record bytes.now)) }
-    ensures { (x : Record) → read_record bytes.now ≡ some x → Went cells.old h x cells.new result }
+    requires { Fit cells.old h × (Ok item ≡ item_of (read_record bytes.now)) }
+    ensures { (x : Record) → read_record bytes.now ≡ Some x → Went cells.old h x cells.new result }
 {
     let group = h.group;
     let list = h.list;
@@ -319,6 +270,5 @@ pub fn step(cells: &mut [u32; 11265], h: Holding, bytes: &[u8], item: Item) -> S
         Item::NormalFormOf(e) => kept(normal_form_in(cells, group, e), h),
         Item::EqualityOf(a, b) => kept(equality_in(cells, group, a, b), h),
         Item::OneOrdering(n) => with_list(h, add_ordering_in(cells, list, body_of(bytes), n)),
-        Item::Malformed => kept(Said::Refused(9), h),
     }
 }

@@ -1,8 +1,10 @@
 -- Shifting a list of expressions: the test and the walk by places, over two lists one after the other, over an arena that has grown, and by other moves that agree.
+use Rattle.arena.specs.declared.Refusal.{Refusal}
+use Rattle.arena.specs.Refusals.{Added}
 use Prim.Native.Nat.{ℕ, zero, suc, ◌+◌, ◌-◌, ◌<◌, ◌≤◌}
 use mathlib.Core.Bool.{Bool, true, false, ◌&&◌}
 use mathlib.Core.List.{List, [], ◌∷◌, ◌++◌, append-nil}
-use mathlib.Core.Option.{Option, some}
+use Rattle.std.specs.Prelude.{Option, Some, Err, Ok}
 use mathlib.Core.Path.{◌≡◌, refl, sym, ap, ap₂, ◌∙◌, subst, subst₂}
 use native.Mathlib.Decide.{dec_lt}
 use native.Mathlib.Numerals.{add-one}
@@ -21,8 +23,6 @@ use Rattle.shifting.specs.Shift.{within, moved, can_move, shifted}
 use Rattle.arena.specs.Layout.{decode as nodes}
 use Rattle.arena.specs.Inner.{Holds, Memo, Walked, told}
 use Rattle.shifting.specs.Inner.{Ready, lifted, shifted_by}
-use Rattle.arena.specs.declared.Added.{Added}
-use Rattle.arena.specs.declared.Added.TheVariants.{Number, Refused}
 use Rattle.arena.proofs.Nodes.{extends-none, extends-both, extends-longer}
 use Rattle.arena.proofs.Trees.{expression-kept, expression-small}
 use Rattle.shifting.proofs.Values.{can_move_cong, shifted_cong, shifted-small}
@@ -315,7 +315,7 @@ module _ (lift : ℕ) (s memo es : List ℕ) (d : ReadyAll lift s memo es) where
             (ap (λ (x : ℕ). add_expression (shifted_by lift (expression_at (nodes s) x)) (nodes t)) is ∙ ap (λ (y : Expression). add_expression (shifted_by lift y) (nodes t)) (sym same) ∙ sym w.grew.is)
 
         -- one more is done
-        pub walk_more : (i : ℕ) → a ≡ Number i → NumbersTo lift s u memo₂ es (done ++ (i ∷ [])) (k + 1)
+        pub walk_more : (i : ℕ) → a ≡ Ok i → NumbersTo lift s u memo₂ es (done ++ (i ∷ [])) (k + 1)
         unfolding told and_then
         walk_more i q =
             record {
@@ -329,7 +329,7 @@ module _ (lift : ℕ) (s memo es : List ℕ) (d : ReadyAll lift s memo es) where
             }
 
         -- there was no room
-        pub walk-fail : (j : ℕ) → a ≡ Refused j → (ks : List ℕ) → ShiftedAll lift s u memo₂ es false ks
+        pub walk-fail : (j : Refusal) → a ≡ Err j → (ks : List ℕ) → ShiftedAll lift s u memo₂ es false ks
         unfolding told and_then prefixed told_numbers
         walk-fail j q ks =
             record {
@@ -366,5 +366,5 @@ module _ (size : ℕ) where
       at : Dec (i + size < 65536) → moved (pos size) i ≡ lifted (size + 65535) i
       at (yes l) =
           let e : i + (size + 65535) - 65535 ≡ i + size = omega arith in
-          rw (lt-ltb (i + size) 65536 l) (sym (lifted-some (size + 65535) i (omega arith) (omega arith) ∙ ap {B = Option ℕ} some e))
+          rw (lt-ltb (i + size) 65536 l) (sym (lifted-some (size + 65535) i (omega arith) (omega arith) ∙ ap {B = Option ℕ} Some e))
       at (no l) = rw (le-ltb (i + size) 65536 (omega arith)) (sym (lifted-high (size + 65535) i (omega arith)))

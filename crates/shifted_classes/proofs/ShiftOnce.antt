@@ -2,12 +2,10 @@
 use Prim.Native.Nat.{ℕ, zero, suc, ◌+◌, ◌-◌, ◌<◌}
 use mathlib.Core.Bool.{true}
 use mathlib.Core.List.{List, [], ◌∷◌}
-use mathlib.Core.Option
-use mathlib.Core.Option.{Option, none, some}
+use Rattle.std.specs.Prelude.{Option, None, Some, is_some, unwrap_or}
 use mathlib.Core.Path.{◌≡◌, refl, sym, ap, ◌∙◌, subst}
 use native.Mathlib.Omega.{arith}
 use lib.ListN.{length, get_or}
-use Rattle.laws.specs.Tests.{is_some}
 use Rattle.laws.proofs.Booleans.{true_not_false, and_left, and_right}
 use Rattle.arena.specs.Node.{Node}
 use Rattle.arena.specs.Expression.{Expression, Expressions, col, lit, op, ∅, ◌▹◌, expression_at}
@@ -29,7 +27,7 @@ Injective to = (i j : ℕ) → is_some (to i) ≡ true → is_some (to j) ≡ tr
 
 -- every place that an index moves to has 16 bits
 abbrev pub Narrow : (ℕ → Option ℕ) → Type 0
-Narrow to = (i n : ℕ) → to i ≡ some n → n < 65536
+Narrow to = (i n : ℕ) → to i ≡ Some n → n < 65536
 
 -- a lift moves no two indices to one place
 pub lifted-injective : (lift : ℕ) → Injective (lifted lift)
@@ -40,14 +38,13 @@ lifted-injective lift i j p q e =
     omega (arith, a.low, b.low)
 
 -- the place where an index moves, where it can
-index-apart : (to : ℕ → Option ℕ) → Injective to → (i j : ℕ) → is_some (to i) ≡ true → is_some (to j) ≡ true → Option.get_or (to i) i ≡ Option.get_or (to j) j → i ≡ j
-unfolding is_some
+index-apart : (to : ℕ → Option ℕ) → Injective to → (i j : ℕ) → is_some (to i) ≡ true → is_some (to j) ≡ true → unwrap_or (to i) i ≡ unwrap_or (to j) j → i ≡ j
 index-apart to inj i j p q e = go (to i) (to j) refl refl p q e
   where
-    go : (o r : Option ℕ) → to i ≡ o → to j ≡ r → is_some o ≡ true → is_some r ≡ true → Option.get_or o i ≡ Option.get_or r j → i ≡ j
-    go none r s t p q e = absurd (true_not_false p refl)
-    go (some n) none s t p q e = absurd (true_not_false q refl)
-    go (some n) (some k) s t p q e = inj i j (ap is_some s) (ap is_some t) (s ∙ ap {B = Option ℕ} some e ∙ sym t)
+    go : (o r : Option ℕ) → to i ≡ o → to j ≡ r → is_some o ≡ true → is_some r ≡ true → unwrap_or o i ≡ unwrap_or r j → i ≡ j
+    go None r s t p q e = absurd (true_not_false p refl)
+    go (Some n) None s t p q e = absurd (true_not_false q refl)
+    go (Some n) (Some k) s t p q e = inj i j (ap is_some s) (ap is_some t) (s ∙ ap {B = Option ℕ} Some e ∙ sym t)
 
 module _ (to : ℕ → Option ℕ) (inj : Injective to) where
   mutual

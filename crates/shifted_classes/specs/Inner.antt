@@ -1,5 +1,6 @@
 -- What the functions on the right side of a join ask and promise. The public contract of a join cites nothing of this file.
-use Rattle.std.specs.Prelude.{ℕ, ◌≤◌, Bool, true, false, List, map, ◌≡◌, length}
+use Rattle.std.specs.Prelude.{ℕ, ◌≤◌, Bool, true, false, List, [], map, ◌≡◌, length, Result, Ok, Err}
+use Rattle.arena.specs.declared.Refusal.{Refusal}
 use Rattle.arena.specs.Node.{Node}
 use Rattle.arena.specs.Arena.{Extends, Placed, placed, full}
 use Rattle.arena.specs.Layout.{decode as nodes}
@@ -12,6 +13,11 @@ use Rattle.shifted_classes.specs.Shifting.{all_move, shifted_numbers}
 -- the right sides of lent pairs
 unfoldable pub rights_lent : List ℕ → List ℕ
 rights_lent numbers = map (λ (p : ℕ × ℕ). p.1) (pairs_lent numbers)
+
+-- the numbers of an answer; none where there is no room
+abbrev pub members_of : Result (List ℕ) Refusal → List ℕ
+members_of (Ok ks) = ks
+members_of (Err k) = []
 
 -- expressions that can be shifted by a lift, with a memo that is true
 pub record ReadyAll (lift : ℕ) (s memo es : List ℕ) : Type 0 where

@@ -1,6 +1,5 @@
 -- The right side of a join shifted behind the left one: which expressions can move, their numbers, and the shifted classes.
-use Rattle.std.specs.Prelude.{ℕ, Bool, true, ◌&&◌, List, [], ◌∷◌, length, take, drop}
-use Rattle.std.proofs.Math.Option.{Option}
+use Rattle.std.specs.Prelude.{ℕ, Bool, true, ◌&&◌, List, [], ◌∷◌, length, take, drop, Option}
 use Rattle.arena.specs.Node.{Node}
 use Rattle.arena.specs.Expression.{expression_at}
 use Rattle.arena.specs.Arena.{Placed, placed, and_then, add_expression}

@@ -6,10 +6,3 @@
 #![tactic(auto)]
 
 pub mod right_side;
-
-// The members of a group's classes, shifted, in a table of 256 places, or that the arena has no room.
-#[derive(Clone, Copy)]
-pub struct Members {
-    pub fits: bool,
-    pub members: [u32; 256],
-}

@@ -1,22 +1,21 @@
 // The right side of a join, shifted behind the left one: which expressions can move, their numbers, and the shifted
 // classes.
-ghost use Rattle.std.specs.Prelude.{false, List, [], ◌∷◌, ◌++◌, ◌≡◌, ℕ, ◌≤◌, ◌<◌, ◌+◌, ◌*◌, ◌/◌, pos, length, get_or, take, drop};
+ghost use Rattle.std.specs.Prelude.{is_ok, false, List, [], ◌∷◌, ◌++◌, ◌≡◌, ℕ, ◌≤◌, ◌<◌, ◌+◌, ◌*◌, ◌/◌, pos, length, get_or, take, drop};
 ghost use Rattle.laws.specs.Tests.{each};
 ghost use Rattle.shifting.specs.Shift.{moved};
 ghost use Rattle.arena.specs.Layout.{decode as nodes};
 ghost use Rattle.arena.specs.Inner.{Holds};
 ghost use Rattle.shifting.specs.Inner.{lifted};
-ghost use Rattle.classes.specs.Class.{no_constant};
+ghost use Rattle.classes.specs.declared.Constant.TheVariants.{NoConstant as no_constant};
 ghost use Rattle.classes.specs.Good.{flat};
 ghost use Rattle.classes.specs.Layout.{encode, decode};
 ghost use Rattle.classes.specs.Inner.{Coded};
 ghost use Rattle.merging.specs.Extending.{class_from};
 ghost use Rattle.merging.specs.Inner.{AllBelow};
 ghost use Rattle.shifted_classes.specs.Shifting.{shifted_classes};
-ghost use Rattle.shifted_classes.specs.Inner.{rights_lent, ReadyAll, ShiftedAll};
+ghost use Rattle.shifted_classes.specs.Inner.{rights_lent, members_of, ReadyAll, ShiftedAll};
 
-use crate::Members;
-use arena::Added;
+use arena::Refusal;
 use arena::cells::wide;
 use classes::Group;
 use merging::extending::push;
@@ -37,16 +36,7 @@ pub fn members_move(table: &[bool; 1024], g: Group) -> bool
     requires { Coded g × AllBelow 1024 (flat (decode g)) }
     ensures { result ≡ each (λ k. get_or table.now (get_or (flat (decode g)) k 0) false) (length (flat (decode g))) }
 {
-    let n = g.used;
-    let mut k = 0;
-    while k < n {
-        let e = wide(g.members[k]);
-        if !table[e] {
-            return false;
-        }
-        k += 1;
-    }
-    true
+    (0..g.used).all(|k| table[wide(g.members[k])])
 }
 
 // Every right side of the pairs is marked in a table of the nodes that can move.
@@ -54,66 +44,40 @@ pub fn rights_move(table: &[bool; 1024], pairs: &[u32]) -> bool
     requires { AllBelow 1024 (rights_lent pairs.now) }
     ensures { result ≡ each (λ k. get_or table.now (get_or (rights_lent pairs.now) k 0) false) (length (rights_lent pairs.now)) }
 {
-    let n = pairs.len() / 2;
-    let mut k = 0;
-    while k < n {
-        let e = wide(pairs[2 * k + 1]);
-        if !table[e] {
-            return false;
-        }
-        k += 1;
-    }
-    true
+    (0..pairs.len() / 2).all(|k| table[wide(pairs[2 * k + 1])])
 }
 
-// The numbers of the members of a group shifted, in their order; they don't fit where the arena has no room.
+// The numbers of the members of a group shifted, in their order, in a table of 256 places. Refusal: 3.
 pub fn shift_members(
     cells: &mut [u32; 11265],
     memo: &mut [u32; 1024],
     g: Group,
     lift: u32,
-) -> Members
+) -> Result<[u32; 256], Refusal>
     requires { Coded g × ReadyAll lift cells.old memo.old (flat (decode g)) }
-    ensures { ShiftedAll lift cells.old cells.new memo.new (flat (decode g)) result.fits (take g.used result.members) }
+    ensures { ShiftedAll lift cells.old cells.new memo.new (flat (decode g)) (is_ok result) (take g.used (members_of result)) }
 {
-    let n = g.used;
     let mut members = [0u32; 256];
-    let mut k = 0;
-    while k < n {
-        let Added::Number(e) = shift(cells, memo, g.members[k], lift) else {
-            return Members {
-                fits: false,
-                members: members,
-            };
-        };
-        members[k] = e;
-        k += 1;
+    for k in 0..g.used {
+        members[k] = shift(cells, memo, g.members[k], lift)?;
     }
-    Members {
-        fits: true,
-        members: members,
-    }
+    Ok(members)
 }
 
-// Adds the missing nodes of the right sides of the pairs shifted; false where the arena has no room.
+// Adds the missing nodes of the right sides of the pairs shifted. Refusal: 3.
 pub fn shift_rights(
     cells: &mut [u32; 11265],
     memo: &mut [u32; 1024],
     pairs: &[u32],
     lift: u32,
-) -> bool
+) -> Result<(), Refusal>
     requires { ReadyAll lift cells.old memo.old (rights_lent pairs.now) }
-    ensures { (ks : List ℕ) × ShiftedAll lift cells.old cells.new memo.new (rights_lent pairs.now) result ks }
+    ensures { (ks : List ℕ) × ShiftedAll lift cells.old cells.new memo.new (rights_lent pairs.now) (is_ok result) ks }
 {
-    let n = pairs.len() / 2;
-    let mut k = 0;
-    while k < n {
-        let Added::Number(_) = shift(cells, memo, pairs[2 * k + 1], lift) else {
-            return false;
-        };
-        k += 1;
+    for k in 0..pairs.len() / 2 {
+        shift(cells, memo, pairs[2 * k + 1], lift)?;
     }
-    true
+    Ok(())
 }
 
 // A group with a class at its end that has no member and no constant yet.
@@ -138,10 +102,8 @@ pub fn add_class_from(
     ensures { result ≡ encode out.limit (decode out ++ (class_from (nodes cells.now) (take n (drop start members)) ∷ [])) }
 {
     let mut next = open_empty(out);
-    let mut k = 0;
-    while k < n {
+    for k in 0..n {
         next = push(cells, next, members[start + k]);
-        k += 1;
     }
     next
 }
@@ -151,15 +113,12 @@ pub fn add_shifted(cells: &[u32; 11265], left: Group, right: Group, members: [u3
     requires { ((Coded left × Coded right) × ((left.count + right.count ≤ 64) × (left.used + right.used ≤ 256))) × (Holds cells.now × AllBelow (length (nodes cells.now)) (take right.used members)) }
     ensures { result ≡ encode left.limit (decode left ++ shifted_classes (nodes cells.now) (decode right) (take right.used members)) }
 {
-    let n = right.count;
     let mut out = left;
     let mut start = 0;
-    let mut j = 0;
-    while j < n {
+    for j in 0..right.count {
         let size = right.sizes[j];
         out = add_class_from(cells, out, members, start, size);
         start += size;
-        j += 1;
     }
     out
 }

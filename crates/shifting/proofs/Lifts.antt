@@ -1,7 +1,7 @@
 -- A signed offset as a lift, 65,535 more than the offset: where an index moves by it, and the sum as the code has it, in 64 bits.
 use Prim.Native.Nat.{ℕ, suc, ◌+◌, ◌-◌, ◌^◌, ◌<◌, ◌≤◌}
 use mathlib.Core.Bool.{true, false}
-use mathlib.Core.Option.{Option, none, some}
+use Rattle.std.specs.Prelude.{Option, None, Some, is_some}
 use mathlib.Core.Path.{◌≡◌, refl, sym, ap, ◌∙◌, subst}
 use native.Mathlib.Decide.{dec_lt}
 use native.Mathlib.Omega.{arith}
@@ -14,23 +14,22 @@ use mir.Syntax.{w64}
 use mir.Val.{to_z, of_z}
 use Rattle.laws.proofs.Booleans.{true_not_false}
 use Rattle.shifting.specs.Shift.{within, moved}
-use Rattle.laws.specs.Tests.{is_some}
 use Rattle.shifting.specs.Inner.{lifted}
 
 -- where a lift moves an index, by the sum of the two
 module _ (lift index : ℕ) where
   -- too low
-  pub lifted-low : index + lift < 65535 → lifted lift index ≡ none
+  pub lifted-low : index + lift < 65535 → lifted lift index ≡ None
   unfolding lifted
   lifted-low l = rw (lt-leb 65535 (index + lift) l)
 
   -- too high
-  pub lifted-high : 131071 ≤ index + lift → lifted lift index ≡ none
+  pub lifted-high : 131071 ≤ index + lift → lifted lift index ≡ None
   unfolding lifted
   lifted-high l = let a : 65535 ≤ index + lift = omega arith in rw (le-leb 65535 (index + lift) a, le-ltb (index + lift) 131071 l)
 
   -- within the bounds
-  pub lifted-some : 65535 ≤ index + lift → index + lift < 131071 → lifted lift index ≡ some (index + lift - 65535)
+  pub lifted-some : 65535 ≤ index + lift → index + lift < 131071 → lifted lift index ≡ Some (index + lift - 65535)
   unfolding lifted
   lifted-some l m = rw (le-leb 65535 (index + lift) l, lt-ltb (index + lift) 131071 m)
 
@@ -38,12 +37,10 @@ module _ (lift index : ℕ) where
 module _ (lift index : ℕ) where
   -- the first test passes: it does not
   pub moves-low : index + lift < 65535 → false ≡ is_some (lifted lift index)
-  unfolding is_some
   moves-low l = rw (lifted-low lift index l)
 
   -- it fails: the second test tells
   pub moves_end : 65535 ≤ index + lift → ltb (index + lift) 131071 ≡ is_some (lifted lift index)
-  unfolding is_some
   moves_end l = at (dec_lt (index + lift) 131071)
     where
       at : Dec (index + lift < 131071) → ltb (index + lift) 131071 ≡ is_some (lifted lift index)
@@ -51,22 +48,22 @@ module _ (lift index : ℕ) where
       at (no m) = let h : 131071 ≤ index + lift = omega arith in rw (lifted-high lift index h) (le-ltb (index + lift) 131071 h)
 
 -- a whole number within the bounds of an index
-within-some : (n : ℕ) → n < 65536 → within (pos n) ≡ some n
+within-some : (n : ℕ) → n < 65536 → within (pos n) ≡ Some n
 unfolding within
 within-some n l = rw (lt-ltb n 65536 l)
 
 -- and one past them
-within_none : (n : ℕ) → 65536 ≤ n → within (pos n) ≡ none
+within_none : (n : ℕ) → 65536 ≤ n → within (pos n) ≡ None
 unfolding within
 within_none n l = rw (le-ltb n 65536 l)
 
 -- an offset down by n + 1, of an index below that
-down-none : (n i : ℕ) → i < suc n → moved (negsuc n) i ≡ none
+down-none : (n i : ℕ) → i < suc n → moved (negsuc n) i ≡ None
 unfolding moved within
 down-none n i l = rw (lt-ltb i (suc n) l)
 
 -- and of any other
-down-some : (n i : ℕ) → suc n ≤ i → i < 65536 → moved (negsuc n) i ≡ some (i - suc n)
+down-some : (n i : ℕ) → suc n ≤ i → i < 65536 → moved (negsuc n) i ≡ Some (i - suc n)
 unfolding moved
 down-some n i l m = rw (le-ltb i (suc n) l) (within-some (i - suc n) (omega arith))
 
@@ -107,7 +104,7 @@ moved_lift (pos n) a i l = at (dec_lt (i + n) 65536)
     at : Dec (i + n < 65536) → within (pos (i + n)) ≡ lifted (n + 65535) i
     at (yes b) =
         let e : i + (n + 65535) - 65535 ≡ i + n = omega arith in
-        within-some (i + n) b ∙ sym (lifted-some (n + 65535) i (omega arith) (omega arith) ∙ ap {B = Option ℕ} some e)
+        within-some (i + n) b ∙ sym (lifted-some (n + 65535) i (omega arith) (omega arith) ∙ ap {B = Option ℕ} Some e)
     at (no b) = within_none (i + n) (omega arith) ∙ sym (lifted-high (n + 65535) i (omega arith))
 moved_lift (negsuc n) a i l = at (dec_lt i (suc n)) (ltb-false 65534 n a)
   where
@@ -115,7 +112,7 @@ moved_lift (negsuc n) a i l = at (dec_lt i (suc n)) (ltb-false 65534 n a)
     at (yes b) c = down-none n i b ∙ sym (lifted-low (65534 - n) i (omega arith))
     at (no b) c =
         let e : i + (65534 - n) - 65535 ≡ i - suc n = omega arith in
-        down-some n i (omega arith) l ∙ sym (lifted-some (65534 - n) i (omega arith) (omega arith) ∙ ap {B = Option ℕ} some e)
+        down-some n i (omega arith) l ∙ sym (lifted-some (65534 - n) i (omega arith) (omega arith) ∙ ap {B = Option ℕ} Some e)
 
 -- a number that was written in 64 bits and read again
 abbrev again : ℤ → ℤ

@@ -2,13 +2,13 @@
 use Prim.Native.Nat.{ℕ, zero, suc, ◌+◌, ◌%◌, ◌<◌}
 use mathlib.Core.Bool.{Bool, false, ◌&&◌, and-true, and_assoc}
 use mathlib.Core.List.{List, [], ◌∷◌}
-use mathlib.Core.Option.{Option}
+use Rattle.std.specs.Prelude.{Option, is_some}
 use mathlib.Core.Path.{◌≡◌, refl, sym, ap, ◌∙◌}
 use native.Mathlib.Decide.{ℕ_discrete}
 use native.Mathlib.Omega.{arith}
 use lib.ListN.{length, get_or, set}
 use lib.Seq.{get_or-set_same, get_or-set_other}
-use Rattle.laws.specs.Tests.{each, is_some}
+use Rattle.laws.specs.Tests.{each}
 use Rattle.laws.proofs.Each.{each_cong}
 use Rattle.arena.specs.Node.{Node, column, literal, operation, node_at, child_numbers}
 use Rattle.arena.specs.Expression.{Expression, lit, those, over, expressions, expression_at}

@@ -1,8 +1,11 @@
 -- Shifting by a lift: what the walk needs at a column, at a literal and at an operation.
+use Rattle.arena.specs.declared.Refusal.TheVariants.{ArenaFull, IndexOutOfRange}
+use Rattle.arena.specs.declared.Refusal.{Refusal}
+use Rattle.arena.specs.Refusals.{Added}
 use Prim.Native.Nat.{ℕ, suc, zero, ◌+◌, ◌-◌, ◌*◌, ◌/◌, ◌%◌, ◌<◌, ◌≤◌}
 use mathlib.Core.Bool.{Bool, true, false}
 use mathlib.Core.List.{List, [], ◌∷◌}
-use mathlib.Core.Option.{Option, some}
+use Rattle.std.specs.Prelude.{Option, Some, is_some, Err, Ok}
 use mathlib.Core.Path.{◌≡◌, refl, sym, ap, ◌∙◌, subst}
 use native.Mathlib.Omega.{arith}
 use borrow.Author.Tests.{leb-true, ltb-true}
@@ -14,14 +17,11 @@ use Rattle.arena.specs.Node.{Node, column, literal, operation, node_at}
 use Rattle.arena.specs.Expression.{Expression, Expressions, col, lit, op, ∅, ◌▹◌, expressions, expression_at, those, over}
 use Rattle.arena.specs.Arena.{Sound, Allowed, Small, AllSmall, and_then, add, add_expression}
 use Rattle.shifting.specs.Shift.{moved, can_move, all_move, shifted, all_shifted}
-use Rattle.laws.specs.Tests.{is_some}
 use Rattle.arena.specs.Layout.{row, count, cell_of, row_of, node_of, children_of, decode}
 use Rattle.arena.specs.Calls.{answered, in_cells}
 use Rattle.shifting.specs.Calls.{shifted_outcome}
 use Rattle.arena.specs.Inner.{Known, Placeable, told, is_refused, Grew, Walked, map_all, told_all, WalkedAll}
 use Rattle.shifting.specs.Inner.{lifted, shifted_by, Ready, ReadyAll}
-use Rattle.arena.specs.declared.Added.{Added}
-use Rattle.arena.specs.declared.Added.TheVariants.{Number, Refused}
 use Rattle.arena.proofs.Nodes.{extends-none, extends-both, extends-longer}
 use Rattle.arena.proofs.Trees.{expression-is, expression-kept, expression-small}
 use Rattle.arena.proofs.Growing.{AddedExpressions, add-expressions, add_expression-old}
@@ -35,10 +35,10 @@ use Rattle.arena.proofs.Walking.{PlacedRow, Through, memo-none, memo-kept}
 pub record Moves (lift index : ℕ) : Type 0 where
   pub low : 65535 ≤ index + lift
   pub high : index + lift < 131071
-  pub is : lifted lift index ≡ some (index + lift - 65535)
+  pub is : lifted lift index ≡ Some (index + lift - 65535)
 
 pub index-moves : (lift index : ℕ) → is_some (lifted lift index) ≡ true → Moves lift index
-unfolding is_some lifted
+unfolding lifted
 index-moves lift index e = go (leb 65535 (index + lift)) (ltb (index + lift) 131071) refl refl e
   where
     go : (a b : Bool) → leb 65535 (index + lift) ≡ a → ltb (index + lift) 131071 ≡ b → is_some (lifted lift index) ≡ true → Moves lift index
@@ -47,8 +47,7 @@ index-moves lift index e = go (leb 65535 (index + lift)) (ltb (index + lift) 131
     go false b p q z = absurd (true_not_false (sym (rw p) ∙ z) refl)
 
 -- it stays in 16 bits
-pub lifted-within : (lift i n : ℕ) → lifted lift i ≡ some n → n < 65536
-unfolding is_some
+pub lifted-within : (lift i n : ℕ) → lifted lift i ≡ Some n → n < 65536
 lifted-within lift i n e =
     let m = index-moves lift i (ap is_some e) in
     let q : i + lift - 65535 ≡ n = cc m.is in
@@ -83,7 +82,7 @@ module _ (lift : ℕ) (s memo : List ℕ) (e : ℕ) (d : Ready lift s memo e) wh
   ready-is n q = expression-is (decode s) sound e within ∙ ap (over (expressions (decode s))) q
 
   -- a literal stays
-  pub literal-stays : cell_of s e 0 ≡ 2 → Walked (shifted_by lift) s s memo e (Number e)
+  pub literal-stays : cell_of s e 0 ≡ 2 → Walked (shifted_by lift) s s memo e (Ok e)
   unfolding told shifted over
   literal-stays q =
       let n : node_at (decode s) e ≡ literal (get_or (row_of s e) 1 0) = node-decode s e d.known.below ∙ node-literal (row_of s e) (at-row_of s e 0 (omega arith) ∙ q) in
@@ -152,7 +151,7 @@ module _ (lift : ℕ) (s memo r : List ℕ) (e : ℕ) (d : ReadyAll lift s memo 
 
   module _ (t memo₂ r' : List ℕ) where
     -- no room for the children: no room for the expression
-    pub children-full : WalkedAll (shifted_by lift) s t memo₂ r r' false → (k : ℕ) → Walked (shifted_by lift) s t memo₂ e (Refused k)
+    pub children-full : WalkedAll (shifted_by lift) s t memo₂ r r' false → (k : Refusal) → Walked (shifted_by lift) s t memo₂ e (Err k)
     unfolding told told_all add_expression and_then
     children-full w k =
         record {
@@ -256,7 +255,7 @@ module _ (s : List ℕ) (e : ℕ) (offset : ℤ) (lift : ℕ) (known : Known s e
   shift_is = shifted_cong (moved offset) (lifted lift) agree (expression_at (decode s) e) small
 
   -- a column leaves its bounds
-  pub shift-out : can_move (lifted lift) (expression_at (decode s) e) ≡ false → in_cells (shifted_outcome e offset (decode s)) ≡ (Refused 10, s)
+  pub shift-out : can_move (lifted lift) (expression_at (decode s) e) ≡ false → in_cells (shifted_outcome e offset (decode s)) ≡ (Err IndexOutOfRange, s)
   unfolding in_cells shifted_outcome
   shift-out q = rw (can-is ∙ q, coded-cells s known.holds)
 
@@ -268,11 +267,11 @@ module _ (s : List ℕ) (e : ℕ) (offset : ℤ) (lift : ℕ) (known : Known s e
     -- it has answered
     pub shift-done : (t memo : List ℕ) (a : Added) → is_refused a ≡ false → Walked (shifted_by lift) s t memo e a → in_cells (shifted_outcome e offset (decode s)) ≡ (a, t)
     unfolding in_cells shifted_outcome answered told is_refused
-    shift-done t memo (Number i) q w = rw (can-is ∙ can, shift_is, ← w.grew.is, coded-cells t w.grew.holds)
-    shift-done t memo (Refused k) q w = absurd (true_not_false refl q)
+    shift-done t memo (Ok i) q w = rw (can-is ∙ can, shift_is, ← w.grew.is, coded-cells t w.grew.holds)
+    shift-done t memo (Err k) q w = absurd (true_not_false refl q)
 
     -- there was no room
-    pub shift-full : (t memo : List ℕ) (a : Added) → is_refused a ≡ true → Walked (shifted_by lift) s t memo e a → in_cells (shifted_outcome e offset (decode s)) ≡ (Refused 3, s)
+    pub shift-full : (t memo : List ℕ) (a : Added) → is_refused a ≡ true → Walked (shifted_by lift) s t memo e a → in_cells (shifted_outcome e offset (decode s)) ≡ (Err ArenaFull, s)
     unfolding in_cells shifted_outcome answered told is_refused
-    shift-full t memo (Number i) q w = absurd (true_not_false q refl)
-    shift-full t memo (Refused k) q w = rw (can-is ∙ can, shift_is, ← w.grew.is, coded-cells s known.holds)
+    shift-full t memo (Ok i) q w = absurd (true_not_false q refl)
+    shift-full t memo (Err k) q w = rw (can-is ∙ can, shift_is, ← w.grew.is, coded-cells s known.holds)

@@ -1,15 +1,14 @@
 -- Values of expressions are moved with the row when an expression is shifted; when a shift can be made, and what it makes.
-use Rattle.std.specs.Prelude.{if◌then◌else◌}
+use Rattle.std.specs.Prelude.{if◌then◌else◌, Option, None, Some, is_some}
 use Prim.Native.Nat.{ℕ, suc, ◌<◌}
 use mathlib.Core.Bool.{Bool, true, false}
 use mathlib.Core.List.{◌∷◌}
-use mathlib.Core.Option.{Option, none, some, get_or}
+use Rattle.std.specs.Prelude.{unwrap_or}
 use mathlib.Core.Path.{◌≡◌, refl, ap, ap₂}
 use native.Mathlib.Omega.{arith}
 use borrow.Author.Tests.{ltb-true}
 use lib.Dec.{ltb}
 use lib.IntN.{ℤ, pos, negsuc, ◌+ℤ◌}
-use Rattle.laws.specs.Tests.{is_some}
 use Rattle.laws.proofs.Booleans.{true_not_false, and_left, and_right}
 use Rattle.arena.specs.Expression.{Expression, Expressions, col, lit, op, ∅, ◌▹◌, size}
 use Rattle.arena.specs.Value.{Row, Meaning, value, values}
@@ -20,13 +19,13 @@ mutual
   unfolding value values shifted all_shifted
 
   -- the value of a shifted expression is the value on the row moved the same way
-  pub value_shifted : {A : Type 0} (to : ℕ → Option ℕ) (e : Expression) (m : Meaning A) (row : Row A) → value (shifted to e) m row ≡ value e m (λ name index. row name (get_or (to index) index))
+  pub value_shifted : {A : Type 0} (to : ℕ → Option ℕ) (e : Expression) (m : Meaning A) (row : Row A) → value (shifted to e) m row ≡ value e m (λ name index. row name (unwrap_or (to index) index))
   value_shifted to (col name index) m row = refl
   value_shifted to (lit v) m row = refl
   value_shifted to (op label es) m row = ap (λ vs. m.operation label vs) (values-shifted to es m row)
 
   -- the same for expressions in a row
-  pub values-shifted : {A : Type 0} (to : ℕ → Option ℕ) (es : Expressions) (m : Meaning A) (row : Row A) → values (all_shifted to es) m row ≡ values es m (λ name index. row name (get_or (to index) index))
+  pub values-shifted : {A : Type 0} (to : ℕ → Option ℕ) (es : Expressions) (m : Meaning A) (row : Row A) → values (all_shifted to es) m row ≡ values es m (λ name index. row name (unwrap_or (to index) index))
   values-shifted to ∅ m row = refl
   values-shifted to (e ▹ es) m row = ap₂ (λ v vs. v ∷ vs) (value_shifted to e m row) (values-shifted to es m row)
 
@@ -37,15 +36,14 @@ size-shifted to ∅ = refl
 size-shifted to (e ▹ es) = ap suc (size-shifted to es)
 
 -- an index that can move, by moves to 16 bits, has 16 bits afterwards
-index-small : (to : ℕ → Option ℕ) → ((i n : ℕ) → to i ≡ some n → n < 65536) → (i : ℕ) → is_some (to i) ≡ true → get_or (to i) i < 65536
-unfolding is_some
+index-small : (to : ℕ → Option ℕ) → ((i n : ℕ) → to i ≡ Some n → n < 65536) → (i : ℕ) → is_some (to i) ≡ true → unwrap_or (to i) i < 65536
 index-small to h i c = go (to i) refl c
   where
-    go : (o : Option ℕ) → to i ≡ o → is_some o ≡ true → get_or o i < 65536
-    go none e c = absurd (true_not_false c refl)
-    go (some n) e c = h i n e
+    go : (o : Option ℕ) → to i ≡ o → is_some o ≡ true → unwrap_or o i < 65536
+    go None e c = absurd (true_not_false c refl)
+    go (Some n) e c = h i n e
 
-module _ (to : ℕ → Option ℕ) (h : (i n : ℕ) → to i ≡ some n → n < 65536) where
+module _ (to : ℕ → Option ℕ) (h : (i n : ℕ) → to i ≡ Some n → n < 65536) where
   mutual
     unfolding Small AllSmall can_move all_move shifted all_shifted
 
@@ -91,16 +89,16 @@ module _ (to from : ℕ → Option ℕ) (h : (i : ℕ) → i < 65536 → to i �
     all_shifted_cong (e ▹ es) s = rw (shifted_cong e s.0, all_shifted_cong es s.1)
 
 -- a whole number within 16 bits is less than 65,536
-within-small : (z : ℤ) (n : ℕ) → within z ≡ some n → n < 65536
+within-small : (z : ℤ) (n : ℕ) → within z ≡ Some n → n < 65536
 unfolding within
 within-small (pos m) n e = go (ltb m 65536) refl e
   where
-    go : (b : Bool) → ltb m 65536 ≡ b → (if b then some m else none) ≡ some n → n < 65536
+    go : (b : Bool) → ltb m 65536 ≡ b → (if b then Some m else None) ≡ Some n → n < 65536
     go true t q = let p : m ≡ n = cc in omega (arith, ltb-true m 65536 t)
     go false t q = absurd (let z : ◌≡◌ {A = ℕ} 0 1 = cc in omega arith)
 within-small (negsuc m) n e = absurd (let z : ◌≡◌ {A = ℕ} 0 1 = cc in omega arith)
 
 -- an index moves only to an index of 16 bits
-pub moved-within : (offset : ℤ) (i n : ℕ) → moved offset i ≡ some n → n < 65536
+pub moved-within : (offset : ℤ) (i n : ℕ) → moved offset i ≡ Some n → n < 65536
 unfolding moved
 moved-within offset i n e = within-small (pos i +ℤ offset) n e

@@ -1,6 +1,5 @@
 -- What the inner functions ask and promise each other. The public contract (Calls) cites nothing of this file.
-use Rattle.std.specs.Prelude.{ℕ, ◌+◌, ◌-◌, ◌≤◌, true, ◌&&◌, List, ◌≡◌, ltb, leb, get_or, if◌then◌else◌}
-use Rattle.std.proofs.Math.Option.{Option, none, some}
+use Rattle.std.specs.Prelude.{ℕ, ◌+◌, ◌-◌, ◌≤◌, true, ◌&&◌, List, ◌≡◌, ltb, leb, get_or, if◌then◌else◌, Option, None, Some}
 use Rattle.arena.specs.Node.{operation, node_at}
 use Rattle.arena.specs.Expression.{Expression, expression_at}
 use Rattle.shifting.specs.Shift.{can_move, shifted}
@@ -9,7 +8,7 @@ use Rattle.arena.specs.Inner.{Known, Memo, operation_row}
 
 -- where an index moves, by a lift that is 65,535 more than the offset
 unfoldable pub lifted : ℕ → ℕ → Option ℕ
-lifted lift index = if leb 65535 (index + lift) && ltb (index + lift) 131071 then some (index + lift - 65535) else none
+lifted lift index = if leb 65535 (index + lift) && ltb (index + lift) 131071 then Some (index + lift - 65535) else None
 
 -- the shift by a lift
 abbrev pub shifted_by : ℕ → Expression → Expression

@@ -1,13 +1,12 @@
 -- Shifting an expression by a signed offset: names stay, every column's index moves.
-use Rattle.std.specs.Prelude.{ℕ, Bool, true, ◌&&◌, ltb, ℤ, pos, negsuc, ◌+ℤ◌, if◌then◌else◌}
-use Rattle.std.proofs.Math.Option.{Option, none, some, get_or}
-use Rattle.laws.specs.Tests.{is_some}
+use Rattle.std.specs.Prelude.{ℕ, Bool, true, ◌&&◌, ltb, ℤ, pos, negsuc, ◌+ℤ◌, if◌then◌else◌, Option, None, Some, is_some}
+use Rattle.std.specs.Prelude.{unwrap_or}
 use Rattle.arena.specs.Expression.{Expression, Expressions, col, lit, op, ∅, ◌▹◌}
 
 -- a whole number as a column's index, if it lies in 0..65,535
 unfoldable pub within : ℤ → Option ℕ
-within (pos n) = if ltb n 65536 then some n else none
-within (negsuc n) = none
+within (pos n) = if ltb n 65536 then Some n else None
+within (negsuc n) = None
 
 -- where an offset moves an index
 unfoldable pub moved : ℤ → ℕ → Option ℕ
@@ -28,7 +27,7 @@ unfoldable mutual
 unfoldable mutual
   -- the expression with every column moved, where it can
   pub shifted : (ℕ → Option ℕ) → Expression → Expression
-  shifted to (col name index) = col name (get_or (to index) index)
+  shifted to (col name index) = col name (unwrap_or (to index) index)
   shifted to (lit v) = lit v
   shifted to (op label children) = op label (all_shifted to children)
 

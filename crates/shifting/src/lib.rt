@@ -12,22 +12,18 @@ ghost use Rattle.std.specs.Prelude.{◌≡◌};
 ghost use Rattle.arena.specs.Calls.{lent};
 ghost use Rattle.shifting.specs.Calls.{add_offset};
 
-use arena::Added;
 use arena::cells::{node_count, wide};
-use arena::checking::lawful_arena;
+use arena::{Refusal, check_arena};
 use shifting::shift_in;
 
 // Shifts every column of an expression by an offset, names kept, and adds the missing nodes.
 // Refusals: 11, 1, 10, 3.
-pub fn add_offset_to_expr(cells: &mut [u32; 11265], expr: u32, offset: i64) -> Added
+pub fn add_offset_to_expr(cells: &mut [u32; 11265], expr: u32, offset: i64) -> Result<u32, Refusal>
     ensures { (result, cells.new) ≡ lent (add_offset expr offset) cells.old }
 {
-    if !lawful_arena(cells) {
-        return Added::Refused(11);
-    }
-    let n = node_count(cells);
-    if n <= wide(expr) {
-        return Added::Refused(1);
+    check_arena(cells)?;
+    if node_count(cells) <= wide(expr) {
+        return Err(Refusal::UnknownExpression);
     }
     shift_in(cells, expr, offset)
 }

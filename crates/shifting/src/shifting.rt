@@ -2,8 +2,8 @@
 //
 // Inside, an offset is a lift: 65,535 more than the offset, so that numbers stay unsigned. An index moves to
 // index + lift - 65,535. An offset that no index can follow is the lift 200,000, which moves none into 0..65,535.
-ghost use Rattle.std.specs.Prelude.{Bool, true, false, ◌≡◌, ℕ, ◌≤◌, ◌<◌, ◌+◌, ◌*◌, ◌%◌, length, get_or};
-ghost use Rattle.laws.specs.Tests.{each, is_some};
+ghost use Rattle.std.specs.Prelude.{Bool, true, false, ◌≡◌, ℕ, ◌≤◌, ◌<◌, ◌+◌, ◌*◌, ◌%◌, length, get_or, is_some, is_ok};
+ghost use Rattle.laws.specs.Tests.{each};
 ghost use Rattle.arena.specs.Node.{node_at, child_numbers};
 ghost use Rattle.arena.specs.Expression.{expression_at};
 ghost use Rattle.shifting.specs.Shift.{moved, can_move};
@@ -13,7 +13,7 @@ ghost use Rattle.shifting.specs.Calls.{shifted_outcome};
 ghost use Rattle.arena.specs.Inner.{Holds, Known, Grew, Walked, WalkedAll};
 ghost use Rattle.shifting.specs.Inner.{Ready, ReadyAll, lifted, shifted_by};
 
-use arena::Added;
+use arena::Refusal;
 use arena::adding::place;
 use arena::cells::{cell_of, row_of, wide};
 use arena::memo::{note, refused};
@@ -23,10 +23,7 @@ use arena::reading::{child_count, child_in};
 pub fn lift_of(offset: i64) -> u32
     ensures { (result ≤ 200000) × ((i : ℕ) → i < 65536 → moved offset i ≡ lifted result i) }
 {
-    if offset < -65535 {
-        return 200000;
-    }
-    if 65535 < offset {
+    if offset < -65535 || 65535 < offset {
         return 200000;
     }
     (offset + 65535) as u32
@@ -37,10 +34,7 @@ fn index_moves(index: u32, lift: u32) -> bool
     requires { (index < 65536) × (lift ≤ 200000) }
     ensures { result ≡ is_some (lifted lift index) }
 {
-    if index + lift < 65535 {
-        return false;
-    }
-    index + lift < 131071
+    65535 <= index + lift && index + lift < 131071
 }
 
 // The children of node e can move, by the table of the nodes before it.
@@ -48,16 +42,7 @@ fn children_move(cells: &[u32; 11265], table: &[bool; 1024], e: usize) -> bool
     requires { Known cells.now e }
     ensures { result ≡ each (λ k. get_or table.now (get_or (child_numbers (node_at (decode cells.now) e)) k 0) false) (length (child_numbers (node_at (decode cells.now) e))) }
 {
-    let n = child_count(cells, e);
-    let mut k = 0;
-    while k < n {
-        let child = wide(child_in(cells, e, k));
-        if !table[child] {
-            return false;
-        }
-        k += 1;
-    }
-    true
+    (0..child_count(cells, e)).all(|k| table[wide(child_in(cells, e, k))])
 }
 
 // Node e can move, by the table of the nodes before it.
@@ -66,9 +51,10 @@ fn node_moves(cells: &[u32; 11265], table: &[bool; 1024], e: usize, lift: u32) -
     ensures { result ≡ can_move (lifted lift) (expression_at (decode cells.now) e) }
 {
     if cell_of(cells, e, 0) == 1 {
-        return index_moves(cell_of(cells, e, 1) % 65536, lift);
+        index_moves(cell_of(cells, e, 1) % 65536, lift)
+    } else {
+        children_move(cells, table, e)
     }
-    children_move(cells, table, e)
 }
 
 // Which of the first n nodes can move. Each is looked at once.
@@ -77,11 +63,8 @@ pub fn movable(cells: &[u32; 11265], n: usize, lift: u32) -> [bool; 1024]
     ensures { (j : ℕ) → j < n → get_or result j false ≡ can_move (lifted lift) (expression_at (decode cells.now) j) }
 {
     let mut table = [false; 1024];
-    let mut i = 0;
-    while i < n {
-        let moves = node_moves(cells, &table, i, lift);
-        table[i] = moves;
-        i += 1;
+    for i in 0..n {
+        table[i] = node_moves(cells, &table, i, lift);
     }
     table
 }
@@ -96,7 +79,7 @@ pub fn can_move(cells: &[u32; 11265], e: usize, lift: u32) -> bool
 }
 
 // Adds the column that node e, a column, moves to.
-fn shift_column(cells: &mut [u32; 11265], e: usize, lift: u32) -> Added
+fn shift_column(cells: &mut [u32; 11265], e: usize, lift: u32) -> Result<u32, Refusal>
     requires { (Known cells.old e × (lift ≤ 200000)) × ((cell_of cells.old e 0 ≡ 1) × (can_move (lifted lift) (expression_at (decode cells.old) e) ≡ true)) }
     ensures { Grew (shifted_by lift (expression_at (decode cells.old) e)) cells.old cells.new result }
 {
@@ -115,53 +98,54 @@ fn shift_children(
     row: &mut [u32; 11],
     expr: u32,
     lift: u32,
-) -> bool
+) -> Result<(), Refusal>
     requires { ReadyAll lift cells.old memo.old row.old expr }
-    ensures { WalkedAll (shifted_by lift) cells.old cells.new memo.new row.old row.new result }
+    ensures { WalkedAll (shifted_by lift) cells.old cells.new memo.new row.old row.new (is_ok result) }
 {
-    let n = wide(row[2]);
-    let mut k = 0;
-    while k < n {
-        let Added::Number(i) = shift(cells, memo, row[3 + k], lift) else {
-            return false;
-        };
-        row[3 + k] = i;
-        k += 1;
+    for k in 0..wide(row[2]) {
+        row[3 + k] = shift(cells, memo, row[3 + k], lift)?;
     }
-    true
+    Ok(())
 }
 
 // Shifts an expression that the memo doesn't have: by kind of its node.
 #[cycle(shift_shift_children_shift_new)]
-fn shift_new(cells: &mut [u32; 11265], memo: &mut [u32; 1024], expr: u32, lift: u32) -> Added
+fn shift_new(
+    cells: &mut [u32; 11265],
+    memo: &mut [u32; 1024],
+    expr: u32,
+    lift: u32,
+) -> Result<u32, Refusal>
     requires { Ready lift cells.old memo.old expr }
     ensures { Walked (shifted_by lift) cells.old cells.new memo.new expr result }
 {
     let e = wide(expr);
-    let kind = cell_of(cells, e, 0);
-    if kind == 1 {
-        return shift_column(cells, e, lift);
+    match cell_of(cells, e, 0) {
+        1 => shift_column(cells, e, lift),
+        2 => Ok(expr),
+        _ => {
+            let mut row = row_of(cells, e);
+            shift_children(cells, memo, &mut row, expr, lift)?;
+            place(cells, &row)
+        }
     }
-    if kind == 2 {
-        return Added::Number(expr);
-    }
-    let mut row = row_of(cells, e);
-    if !shift_children(cells, memo, &mut row, expr, lift) {
-        return Added::Refused(3);
-    }
-    place(cells, &row)
 }
 
 // Shifts an expression, each node once: what was answered stands in the memo.
 #[cycle(shift_shift_children_shift_new)]
-pub fn shift(cells: &mut [u32; 11265], memo: &mut [u32; 1024], expr: u32, lift: u32) -> Added
+pub fn shift(
+    cells: &mut [u32; 11265],
+    memo: &mut [u32; 1024],
+    expr: u32,
+    lift: u32,
+) -> Result<u32, Refusal>
     requires { Ready lift cells.old memo.old expr }
     ensures { Walked (shifted_by lift) cells.old cells.new memo.new expr result }
 {
     let e = wide(expr);
     let entry = memo[e];
     if entry != 0 {
-        return Added::Number(entry - 1);
+        return Ok(entry - 1);
     }
     let answer = shift_new(cells, memo, expr, lift);
     note(memo, e, answer);
@@ -170,20 +154,20 @@ pub fn shift(cells: &mut [u32; 11265], memo: &mut [u32; 1024], expr: u32, lift: 
 
 // Shifts an expression by an offset: 10 where a column leaves its bounds, 3 where there is no room, and then
 // every cell is as it was.
-pub fn shift_in(cells: &mut [u32; 11265], expr: u32, offset: i64) -> Added
+pub fn shift_in(cells: &mut [u32; 11265], expr: u32, offset: i64) -> Result<u32, Refusal>
     requires { Known cells.old expr }
     ensures { (result, cells.new) ≡ in_cells (shifted_outcome expr offset (decode cells.old)) }
 {
     let lift = lift_of(offset);
     if !can_move(cells, wide(expr), lift) {
-        return Added::Refused(10);
+        return Err(Refusal::IndexOutOfRange);
     }
     let saved = *cells;
     let mut memo = [0u32; 1024];
     let answer = shift(cells, &mut memo, expr, lift);
     if refused(answer) {
         *cells = saved;
-        return Added::Refused(3);
+        return Err(Refusal::ArenaFull);
     }
     answer
 }

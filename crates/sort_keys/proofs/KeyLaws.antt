@@ -54,7 +54,7 @@ module _ (out : Sorted) (e options : ℕ) where
   pushed-full l = rw (le-leb 16 out.size l)
 
   -- there are fewer
-  pub pushed_more : out.size < 16 → record { number = out.number; size = out.size + 1; keys = set out.keys out.size (e * 4 + options) } ≡ pushed out e options
+  pub pushed_more : out.size < 16 → record { size = out.size + 1; keys = set out.keys out.size (e * 4 + options) } ≡ pushed out e options
   unfolding pushed
   pushed_more l = rw (lt-leb 16 out.size l)
 
@@ -70,14 +70,14 @@ module _ (out : Sorted) (e options : ℕ) where
     kept-one q = rw (sym q)
 
 -- one more key, beyond 16 too
-pub pushed-key : (ks : List Key) (e options : ℕ) → pushed (sorted 0 (take 16 ks)) e options ≡ sorted 0 (take 16 (ks ++ (record { expr = e; options = options } ∷ [])))
+pub pushed-key : (ks : List Key) (e options : ℕ) → pushed (sorted (take 16 ks)) e options ≡ sorted (take 16 (ks ++ (record { expr = e; options = options } ∷ [])))
 unfolding sorted packed
 pushed-key ks e options = at (dec_lt (length ks) 16)
   where
     k : Key
     k = record { expr = e; options = options }
 
-    at : Dec (length ks < 16) → pushed (sorted 0 (take 16 ks)) e options ≡ sorted 0 (take 16 (ks ++ (k ∷ [])))
+    at : Dec (length ks < 16) → pushed (sorted (take 16 ks)) e options ≡ sorted (take 16 (ks ++ (k ∷ [])))
     at (yes l) =
         let a : take 16 ks ≡ ks = take_all 16 ks (omega arith) in
         let b : take 16 (ks ++ (k ∷ [])) ≡ ks ++ (k ∷ []) = take_all 16 (ks ++ (k ∷ [])) (omega (arith, length-append ks (k ∷ []))) in
@@ -85,10 +85,10 @@ pushed-key ks e options = at (dec_lt (length ks) 16)
         let c : set (padded 16 (map packed ks)) (length ks) (packed k) ≡ padded 16 (map packed (ks ++ (k ∷ []))) =
         ap (λ (n : ℕ). set (padded 16 (map packed ks)) n (packed k)) (sym m) ∙ snoc_padded 16 (map packed ks) (packed k) (omega arith) ∙ ap (padded 16) (sym (map-append packed ks (k ∷ []))) in
         let n : length ks + 1 ≡ length (ks ++ (k ∷ [])) = sym (length-append ks (k ∷ [])) in
-        rw (a, b) (sym (pushed_more (sorted 0 ks) e options l) ∙ ap₂ {C = Sorted} (λ (i : ℕ) (l : List ℕ). record { number = 0; size = i; keys = l }) n c)
+        rw (a, b) (sym (pushed_more (sorted ks) e options l) ∙ ap₂ {C = Sorted} (λ (i : ℕ) (l : List ℕ). record { size = i; keys = l }) n c)
     at (no l) =
         let a : length (take 16 ks) ≡ 16 = length-take-le 16 ks (omega arith) in
-        sym (pushed-full (sorted 0 (take 16 ks)) e options (omega arith)) ∙ ap (sorted 0) (sym (take-append-le 16 ks (k ∷ []) (omega arith)))
+        sym (pushed-full (sorted (take 16 ks)) e options (omega arith)) ∙ ap sorted (sym (take-append-le 16 ks (k ∷ []) (omega arith)))
 
 -- ---- keys without those that pass a test
 

@@ -1,10 +1,13 @@
 -- The normal forms of sort keys over a checked arena and a checked group: what the walk asks, and the answer in each case.
+use Rattle.std.specs.Prelude.{Ok, Err}
+use Rattle.arena.specs.declared.Refusal.{Refusal}
+use Rattle.arena.specs.declared.Refusal.TheVariants.{ArenaFull, TooLarge}
 use Prim.Native.Nat.{ℕ, suc, ◌*◌, ◌/◌, ◌<◌, ◌≤◌}
 use mathlib.Core.Bool.{true, false}
 use mathlib.Core.List.{List, [], ◌∷◌}
 use mathlib.Core.Path.{◌≡◌, refl, sym, ap, ap₂, ◌∙◌, subst}
 use native.Mathlib.Omega.{arith}
-use borrow.Author.Tests.{eq-eqb, ne_eqb, le-leb, lt-leb}
+use borrow.Author.Tests.{le-leb, lt-leb}
 use lib.Dec.{leb}
 use lib.ListN.{length, get_or, take, replicate}
 use lib.Seq.{take_all}
@@ -23,8 +26,8 @@ use Rattle.questions.specs.Inner.{Marked}
 use Rattle.classes.specs.declared.Group.{Group}
 use Rattle.normal.specs.Calls.{normal_forms}
 use Rattle.sort_keys.specs.Keys.{exprs_of, with_exprs, sorting}
-use Rattle.sort_keys.specs.Layout.{keys_of, sorted, unsorted}
-use Rattle.sort_keys.specs.Calls.{sorted_by}
+use Rattle.sort_keys.specs.Layout.{keys_of, sorted}
+use Rattle.sort_keys.specs.Calls.{SortedIs, sorted_by}
 use Rattle.normal.specs.Inner.{Firsts, rewriting}
 use Rattle.sort_keys.specs.Inner.{KeysKnown, ReadyKeys, uniform_by, kept_of, told_sorted, SortedAll}
 use Rattle.sort_keys.specs.declared.Sorted.{Sorted}
@@ -71,67 +74,67 @@ module _ (s : List ℕ) (g : Group) (old : ℕ) (numbers firsts marks : List ℕ
       rw (expr-at numbers k b) (ready-small old firsts s (replicate 0 0) (get_or numbers (2 * k) 0) (whole_ready s g old firsts h v all f (get_or numbers (2 * k) 0) (known.below k b) 0)))
 
   -- the outcome of the call
-  abbrev outcome : Placed (List ℕ) → Sorted × List ℕ
+  abbrev outcome : Placed (List ℕ) → SortedIs × List ℕ
   outcome o = in_cells (sorted_by (keys_of numbers) (nodes s) (decode g) o)
 
   -- the keys that are kept of what was placed
   abbrev kept : List ℕ → List Node → Placed Sorted
-  kept es ms = placed (sorted 0 (take 16 (kept_of ms old marks (with_exprs es (keys_of numbers))))) ms
+  kept es ms = placed (sorted (take 16 (kept_of ms old marks (with_exprs es (keys_of numbers))))) ms
 
-  module _ (t : List ℕ) (out : Sorted) (a : SortedAll old firsts marks s t numbers out) where
-    refused-is : (k : ℕ) (last : Sorted) → last ≡ unsorted k → ◌≡◌ {A = Sorted × List ℕ} (last, s) (in_cells (unsorted k, nodes s))
+  module _ (t : List ℕ) (out : SortedIs) (a : SortedAll old firsts marks s t numbers out) where
+    refused-is : (k : Refusal) → ◌≡◌ {A = SortedIs × List ℕ} (Err k, s) (in_cells (Err k, nodes s))
     unfolding in_cells
-    refused-is k last e = ap₂ {C = Sorted × List ℕ} (λ (x : Sorted) (y : List ℕ). (x, y)) e (sym (coded-cells s h))
+    refused-is k = ap {B = SortedIs × List ℕ} (λ (y : List ℕ). (Err k, y)) (sym (coded-cells s h))
 
     -- there was no room
-    pub sort_full : (out.number ≡ 0 → ⊥) → (last : Sorted) → last ≡ unsorted 3 → ◌≡◌ {A = Sorted × List ℕ} (last, s) (outcome (normal_forms (nodes s) (decode g) (exprs_of (keys_of numbers))))
+    pub sort_full : (j : Refusal) → out ≡ Err j → ◌≡◌ {A = SortedIs × List ℕ} (Err ArenaFull, s) (outcome (normal_forms (nodes s) (decode g) (exprs_of (keys_of numbers))))
     unfolding told_sorted and_then sorted_by
-    sort_full z last e = go (add_expressions made (nodes s)) refl
+    sort_full j z = go (add_expressions made (nodes s)) refl
       where
         none : full ≡ and_then (add_expressions made (nodes s)) kept
-        none = sym (rw (ne_eqb out.number 0 z)) ∙ a.is
+        none = sym (ap (λ (o : SortedIs). told_sorted o (nodes t)) z) ∙ a.is
 
-        go : (o : Placed (List ℕ)) → add_expressions made (nodes s) ≡ o → ◌≡◌ {A = Sorted × List ℕ} (last, s) (outcome (normal_forms (nodes s) (decode g) (exprs_of (keys_of numbers))))
-        go full q = refused-is 3 last e ∙ ap outcome (sym q ∙ forms)
+        go : (o : Placed (List ℕ)) → add_expressions made (nodes s) ≡ o → ◌≡◌ {A = SortedIs × List ℕ} (Err ArenaFull, s) (outcome (normal_forms (nodes s) (decode g) (exprs_of (keys_of numbers))))
+        go full q = refused-is ArenaFull ∙ ap outcome (sym q ∙ forms)
         go (placed es ms) q = absurd (let e : full ≡ kept es ms = none ∙ ap (λ (o : Placed (List ℕ)). and_then o kept) q in let y : ◌≡◌ {A = ℕ} 0 1 = cc in omega arith)
 
-    module _ (z : out.number ≡ 0) where
-      some : placed out (nodes t) ≡ and_then (add_expressions made (nodes s)) kept
+    module _ (x : Sorted) (z : out ≡ Ok x) where
+      some : placed x (nodes t) ≡ and_then (add_expressions made (nodes s)) kept
       unfolding told_sorted
-      some = sym (rw (eq-eqb out.number 0 z)) ∙ a.is
+      some = sym (ap (λ (o : SortedIs). told_sorted o (nodes t)) z) ∙ a.is
 
       -- more than 16 keys were given
-      pub sort_over : 16 < length numbers / 2 → (last : Sorted) → last ≡ unsorted 5 → ◌≡◌ {A = Sorted × List ℕ} (last, s) (outcome (normal_forms (nodes s) (decode g) (exprs_of (keys_of numbers))))
+      pub sort_over : 16 < length numbers / 2 → ◌≡◌ {A = SortedIs × List ℕ} (Err TooLarge, s) (outcome (normal_forms (nodes s) (decode g) (exprs_of (keys_of numbers))))
       unfolding and_then sorted_by
-      sort_over l last e = go (add_expressions made (nodes s)) refl
+      sort_over l = go (add_expressions made (nodes s)) refl
         where
-          go : (o : Placed (List ℕ)) → add_expressions made (nodes s) ≡ o → ◌≡◌ {A = Sorted × List ℕ} (last, s) (outcome (normal_forms (nodes s) (decode g) (exprs_of (keys_of numbers))))
-          go full q = absurd (let e : placed out (nodes t) ≡ full = some ∙ ap (λ (o : Placed (List ℕ)). and_then o kept) q in let y : ◌≡◌ {A = ℕ} 0 1 = cc in omega arith)
+          go : (o : Placed (List ℕ)) → add_expressions made (nodes s) ≡ o → ◌≡◌ {A = SortedIs × List ℕ} (Err TooLarge, s) (outcome (normal_forms (nodes s) (decode g) (exprs_of (keys_of numbers))))
+          go full q = absurd (let e : placed x (nodes t) ≡ full = some ∙ ap (λ (o : Placed (List ℕ)). and_then o kept) q in let y : ◌≡◌ {A = ℕ} 0 1 = cc in omega arith)
           go (placed es ms) q =
               let c : leb (length (keys_of numbers)) 16 ≡ false = lt-leb (length (keys_of numbers)) 16 (omega (arith, keys-count numbers)) in
-              let over : in_cells (unsorted 5, nodes s) ≡ outcome (placed es ms) = rw c in
-              refused-is 5 last e ∙ over ∙ ap outcome (sym q ∙ forms)
+              let over : in_cells (Err TooLarge, nodes s) ≡ outcome (placed es ms) = rw c in
+              refused-is TooLarge ∙ over ∙ ap outcome (sym q ∙ forms)
 
       -- the keys
-      pub sort_done : length numbers / 2 ≤ 16 → ◌≡◌ {A = Sorted × List ℕ} (out, t) (outcome (normal_forms (nodes s) (decode g) (exprs_of (keys_of numbers))))
+      pub sort_done : length numbers / 2 ≤ 16 → ◌≡◌ {A = SortedIs × List ℕ} (Ok x, t) (outcome (normal_forms (nodes s) (decode g) (exprs_of (keys_of numbers))))
       unfolding and_then sorted_by in_cells
       sort_done l = go (add_expressions made (nodes s)) refl
         where
-          go : (o : Placed (List ℕ)) → add_expressions made (nodes s) ≡ o → ◌≡◌ {A = Sorted × List ℕ} (out, t) (outcome (normal_forms (nodes s) (decode g) (exprs_of (keys_of numbers))))
-          go full q = absurd (let e : placed out (nodes t) ≡ full = some ∙ ap (λ (o : Placed (List ℕ)). and_then o kept) q in let y : ◌≡◌ {A = ℕ} 0 1 = cc in omega arith)
+          go : (o : Placed (List ℕ)) → add_expressions made (nodes s) ≡ o → ◌≡◌ {A = SortedIs × List ℕ} (Ok x, t) (outcome (normal_forms (nodes s) (decode g) (exprs_of (keys_of numbers))))
+          go full q = absurd (let e : placed x (nodes t) ≡ full = some ∙ ap (λ (o : Placed (List ℕ)). and_then o kept) q in let y : ◌≡◌ {A = ℕ} 0 1 = cc in omega arith)
           go (placed es ms) q =
               let ks = keys_of numbers in
-              let e : placed out (nodes t) ≡ kept es ms = some ∙ ap (λ (o : Placed (List ℕ)). and_then o kept) q in
+              let e : placed x (nodes t) ≡ kept es ms = some ∙ ap (λ (o : Placed (List ℕ)). and_then o kept) q in
               let d : nodes t ≡ ms = cc in
-              let r : out ≡ sorted 0 (take 16 (kept_of ms old marks (with_exprs es ks))) = cc in
+              let r : x ≡ sorted (take 16 (kept_of ms old marks (with_exprs es ks))) = cc in
               let sound : Sound ms = subst Sound d a.holds.sound in
               let below = (add-expressions made (nodes s) h.sound all_small es ms q).below in
               let few : length (kept_of ms old marks (with_exprs es ks)) ≤ 16 = omega (arith, without_fewer (uniform_by ms old marks) (with_exprs es ks), with-fewer es ks, keys-count numbers) in
-              let i : out ≡ sorted 0 (sorting ms (decode g) (with_exprs es ks)) =
+              let i : x ≡ sorted (sorting ms (decode g) (with_exprs es ks)) =
               r
-              ∙ ap (sorted 0) (take_all 16 (kept_of ms old marks (with_exprs es ks)) few
+              ∙ ap sorted (take_all 16 (kept_of ms old marks (with_exprs es ks)) few
               ∙ kept-is (nodes s) ms (decode g) old marks v.good (all ∙ sym (length-decode s)) m sound (with_exprs es ks) (with-below (length ms) es ks below)) in
               let c : t ≡ encode ms = sym (coded-cells t a.holds) ∙ ap encode d in
               let b : leb (length ks) 16 ≡ true = le-leb (length ks) 16 (omega (arith, keys-count numbers)) in
-              let within : ◌≡◌ {A = Sorted × List ℕ} (sorted 0 (sorting ms (decode g) (with_exprs es ks)), encode ms) (outcome (placed es ms)) = rw b in
-              ap₂ {C = Sorted × List ℕ} (λ (x : Sorted) (y : List ℕ). (x, y)) i c ∙ within ∙ ap outcome (sym q ∙ forms)
+              let within : ◌≡◌ {A = SortedIs × List ℕ} (Ok (sorted (sorting ms (decode g) (with_exprs es ks))), encode ms) (outcome (placed es ms)) = rw b in
+              ap₂ {C = SortedIs × List ℕ} (λ (x : Sorted) (y : List ℕ). (Ok x, y)) i c ∙ within ∙ ap outcome (sym q ∙ forms)

@@ -1,5 +1,7 @@
 -- The walk over sort keys: how far the loop has come, and what is answered at its end.
-use Rattle.std.specs.Prelude.{if◌then◌else◌}
+use Rattle.arena.specs.Refusals.{Added}
+use Rattle.arena.specs.declared.Refusal.{Refusal}
+use Rattle.std.specs.Prelude.{if◌then◌else◌, Err, Ok}
 use Prim.Native.Nat.{ℕ, ◌+◌, ◌*◌, ◌/◌, ◌<◌, ◌≤◌}
 use mathlib.Core.Bool.{Bool, true, false}
 use mathlib.Core.List.{List, [], ◌∷◌, ◌++◌, append-nil}
@@ -14,14 +16,12 @@ use Rattle.arena.specs.Expression.{Expression, Expressions, expressions, express
 use Rattle.arena.specs.Arena.{Extends, Placed, placed, full, and_then, add_expression, add_expressions}
 use Rattle.arena.specs.Layout.{decode}
 use Rattle.arena.specs.Inner.{Holds, Known, told, Memo, Walked, map_all}
-use Rattle.arena.specs.declared.Added.{Added}
-use Rattle.arena.specs.declared.Added.TheVariants.{Number, Refused}
 use Rattle.arena.proofs.Nodes.{extends-none, extends-both, extends-longer}
 use Rattle.arena.proofs.Trees.{expression-kept}
 use Rattle.arena.proofs.Layouts.{length-decode}
 use Rattle.arena.proofs.Walking.{prefixed, prefixed-none, prefixed-more, grew-number}
 use Rattle.sort_keys.specs.Keys.{Key, exprs_of, with_exprs}
-use Rattle.sort_keys.specs.Layout.{keys_of, sorted, unsorted}
+use Rattle.sort_keys.specs.Layout.{keys_of, sorted}
 use Rattle.normal.specs.Inner.{rewriting, Ready}
 use Rattle.sort_keys.specs.Inner.{ReadyKeys, uniform_by, pushed, kept_key, without, kept_of, told_sorted, SortedAll}
 use Rattle.sort_keys.specs.declared.Sorted.{Sorted}
@@ -37,21 +37,21 @@ pub record SortedTo (old : ℕ) (firsts marks s t memo numbers : List ℕ) (out 
   pub done : List ℕ
   pub counted : length done ≡ k
   pub below : (j : ℕ) → j < length done → get_or done j 0 < length (decode t)
-  pub out-is : out ≡ sorted 0 (take 16 (kept_of (decode t) old marks (with_exprs done (keys_of numbers))))
+  pub out-is : out ≡ sorted (take 16 (kept_of (decode t) old marks (with_exprs done (keys_of numbers))))
   pub goes : add_expressions (map_all (rewriting old firsts s) (those (expressions (decode s)) (exprs_of (keys_of numbers)))) (decode s)
       ≡ prefixed done (add_expressions (map_all (rewriting old firsts s) (those (expressions (decode s)) (drop k (exprs_of (keys_of numbers))))) (decode t))
 
 -- one more key at the end of those that are kept
 kept_more : (ns : List Node) (old : ℕ) (marks : List ℕ) (ks : List Key) (e options : ℕ)
-    → kept_key ns old marks (sorted 0 (take 16 (kept_of ns old marks ks))) e options ≡ sorted 0 (take 16 (kept_of ns old marks (ks ++ (record { expr = e; options = options } ∷ []))))
+    → kept_key ns old marks (sorted (take 16 (kept_of ns old marks ks))) e options ≡ sorted (take 16 (kept_of ns old marks (ks ++ (record { expr = e; options = options } ∷ []))))
 unfolding kept_key without
 kept_more ns old marks ks e options = rw (without-append (uniform_by ns old marks) ks (record { expr = e; options = options } ∷ [])) (go (uniform_by ns old marks e))
   where
     k : Key
     k = record { expr = e; options = options }
 
-    go : (b : Bool) → (if b then sorted 0 (take 16 (kept_of ns old marks ks)) else pushed (sorted 0 (take 16 (kept_of ns old marks ks))) e options) ≡ sorted 0 (take 16 (kept_of ns old marks ks ++ (if b then [] else k ∷ [])))
-    go true = ap (λ (l : List Key). sorted 0 (take 16 l)) (sym (append-nil (kept_of ns old marks ks)))
+    go : (b : Bool) → (if b then sorted (take 16 (kept_of ns old marks ks)) else pushed (sorted (take 16 (kept_of ns old marks ks))) e options) ≡ sorted (take 16 (kept_of ns old marks ks ++ (if b then [] else k ∷ [])))
+    go true = ap (λ (l : List Key). sorted (take 16 l)) (sym (append-nil (kept_of ns old marks ks)))
     go false = pushed-key (kept_of ns old marks ks) e options
 
 module _ (old : ℕ) (firsts marks s memo numbers : List ℕ) (d : ReadyKeys old firsts s memo numbers) where
@@ -66,7 +66,7 @@ module _ (old : ℕ) (firsts marks s memo numbers : List ℕ) (d : ReadyKeys old
   rewritten_from k = map_all F (those (expressions (decode s)) (drop k exprs))
 
   -- nothing done
-  pub sorted-begins : (out : Sorted) → out ≡ unsorted 0 → SortedTo old firsts marks s s memo numbers out 0
+  pub sorted-begins : (out : Sorted) → out ≡ sorted [] → SortedTo old firsts marks s s memo numbers out 0
   unfolding with_exprs without
   sorted-begins out e =
       record {
@@ -123,8 +123,8 @@ module _ (old : ℕ) (firsts marks s memo numbers : List ℕ) (d : ReadyKeys old
           ap (λ (x : Expression). add_expression (F x) (decode t)) (sym same)
           ∙ ap (λ (G : Expression → Expression). add_expression (G (expression_at (decode t) expr)) (decode t)) (sym (same-rewriting old s d.there firsts t h.extends)) ∙ sym e
 
-      module _ (a : Added) (i : ℕ) (q : a ≡ Number i) (v : Walked (rewriting old firsts t) t u memo₂ expr a) where
-        w : Walked (rewriting old firsts t) t u memo₂ expr (Number i)
+      module _ (a : Added) (i : ℕ) (q : a ≡ Ok i) (v : Walked (rewriting old firsts t) t u memo₂ expr a) where
+        w : Walked (rewriting old firsts t) t u memo₂ expr (Ok i)
         w = subst (Walked (rewriting old firsts t) t u memo₂ expr) q v
 
         -- the answer is a number of the arena
@@ -157,13 +157,13 @@ module _ (old : ℕ) (firsts marks s memo numbers : List ℕ) (d : ReadyKeys old
             record {
               holds = w.grew.holds;
               extends = extends-both h.extends x;
-              memo_true = (same-walked old s d.there firsts t u memo₂ expr (Number i) h.extends w).memo_true;
+              memo_true = (same-walked old s d.there firsts t u memo₂ expr (Ok i) h.extends w).memo_true;
               done = es ++ (i ∷ []);
               counted = length-append es (i ∷ []) ∙ rw h.counted;
               below = λ j b. at j b (ℕ_discrete j (length es));
               out-is =
-                  e ∙ ap (λ (z : Sorted). kept_key (decode u) old marks z i options) (h.out-is ∙ ap (λ (z : List Key). sorted 0 (take 16 z)) (sym same_keys))
-                  ∙ kept_more (decode u) old marks (with_exprs es ks) i options ∙ ap (λ (z : List Key). sorted 0 (take 16 (kept_of (decode u) old marks z))) (sym m);
+                  e ∙ ap (λ (z : Sorted). kept_key (decode u) old marks z i options) (h.out-is ∙ ap (λ (z : List Key). sorted (take 16 z)) (sym same_keys))
+                  ∙ kept_more (decode u) old marks (with_exprs es ks) i options ∙ ap (λ (z : List Key). sorted (take 16 (kept_of (decode u) old marks z))) (sym m);
               goes = h.goes ∙ ap (prefixed es) (turn ∙ ap (λ (z : Placed ℕ). and_then z after) (added (placed i (decode u)) w.grew.is)) ∙ prefixed-more es i (add_expressions (rewritten_from (k + 1)) (decode u));
             }
           where
@@ -174,18 +174,18 @@ module _ (old : ℕ) (firsts marks s memo numbers : List ℕ) (d : ReadyKeys old
                 rw (get_or-append h.done (i ∷ []) 0 j c) (omega (arith, h.below j c, extends-longer w.grew.extends))
 
       -- there was no room
-      pub sorted_fails : (a : Added) (j : ℕ) → a ≡ Refused j → Walked (rewriting old firsts t) t u memo₂ expr a → (last : Sorted) → last ≡ unsorted 3 → SortedAll old firsts marks s u numbers last
-      unfolding told and_then prefixed told_sorted sorted
-      sorted_fails a j q v last e =
-          let w : Walked (rewriting old firsts t) t u memo₂ expr (Refused j) = subst (Walked (rewriting old firsts t) t u memo₂ expr) q v in
+      pub sorted_fails : (a : Added) (j : Refusal) → a ≡ Err j → Walked (rewriting old firsts t) t u memo₂ expr a → SortedAll old firsts marks s u numbers (Err j)
+      unfolding told and_then prefixed told_sorted
+      sorted_fails a j q v =
+          let w : Walked (rewriting old firsts t) t u memo₂ expr (Err j) = subst (Walked (rewriting old firsts t) t u memo₂ expr) q v in
           record {
             holds = w.grew.holds;
             extends = extends-both h.extends w.grew.extends;
-            is = ap (λ (z : Sorted). told_sorted z (decode u)) e ∙ sym (ap (λ (z : Placed (List ℕ)). and_then z (λ es ms. placed (sorted 0 (take 16 (kept_of ms old marks (with_exprs es (keys_of numbers))))) ms)) (h.goes ∙ ap (prefixed h.done) (turn ∙ ap (λ (z : Placed ℕ). and_then z after) (added full w.grew.is))));
+            is = sym (ap (λ (z : Placed (List ℕ)). and_then z (λ es ms. placed (sorted (take 16 (kept_of ms old marks (with_exprs es (keys_of numbers))))) ms)) (h.goes ∙ ap (prefixed h.done) (turn ∙ ap (λ (z : Placed ℕ). and_then z after) (added full w.grew.is))));
           }
 
   -- all done
-  pub sorted-ends : (t memo₁ : List ℕ) (out : Sorted) (k : ℕ) → SortedTo old firsts marks s t memo₁ numbers out k → k ≡ length numbers / 2 → SortedAll old firsts marks s t numbers out
+  pub sorted-ends : (t memo₁ : List ℕ) (out : Sorted) (k : ℕ) → SortedTo old firsts marks s t memo₁ numbers out k → k ≡ length numbers / 2 → SortedAll old firsts marks s t numbers (Ok out)
   unfolding told_sorted prefixed add_expressions map_all those and_then sorted
   sorted-ends t memo₁ out k h e =
       let c : k ≡ length exprs = e ∙ sym (exprs-count numbers) in
@@ -195,6 +195,6 @@ module _ (old : ℕ) (firsts marks s memo numbers : List ℕ) (d : ReadyKeys old
         holds = h.holds;
         extends = h.extends;
         is =
-            ap (λ (z : Sorted). told_sorted z (decode t)) h.out-is
-            ∙ sym (ap (λ (z : Placed (List ℕ)). and_then z (λ es ms. placed (sorted 0 (take 16 (kept_of ms old marks (with_exprs es (keys_of numbers))))) ms)) a);
+            ap (λ (z : Sorted). told_sorted (Ok z) (decode t)) h.out-is
+            ∙ sym (ap (λ (z : Placed (List ℕ)). and_then z (λ es ms. placed (sorted (take 16 (kept_of ms old marks (with_exprs es (keys_of numbers))))) ms)) a);
       }

@@ -1,9 +1,8 @@
 -- Which expressions are uniform constants: the table of the flavours of the old nodes' classes says it for every node of an arena that has grown since.
-use Rattle.std.specs.Prelude.{if◌then◌else◌}
+use Rattle.std.specs.Prelude.{if◌then◌else◌, Option, None, Some}
 use Prim.Native.Nat.{ℕ, ◌<◌, ◌≤◌}
 use mathlib.Core.Bool.{Bool, true, false, ◌&&◌, ◌||◌}
 use mathlib.Core.List.{List}
-use mathlib.Core.Option.{Option, none, some}
 use mathlib.Core.Path.{◌≡◌, refl, sym, ap, ◌∙◌}
 use native.Mathlib.Decide.{dec_lt}
 use native.Mathlib.Omega.{arith}
@@ -14,7 +13,9 @@ use Rattle.laws.specs.Tests.{each}
 use Rattle.arena.specs.Node.{Node, column, literal, operation, node_at, child_numbers}
 use Rattle.arena.specs.Arena.{Sound, Extends}
 use Rattle.arena.proofs.Nodes.{extends-node}
-use Rattle.classes.specs.Class.{Constant, no_constant, heterogeneous, unknown, known, Class, is_uniform, carried, is_constant}
+use Rattle.classes.specs.declared.Constant.{Constant}
+use Rattle.classes.specs.declared.Constant.TheVariants.{NoConstant as no_constant, Heterogeneous as heterogeneous, Unknown as unknown, Known as known}
+use Rattle.classes.specs.Class.{Class, is_uniform, carried, is_constant}
 use Rattle.classes.specs.Group.{class_of}
 use Rattle.classes.specs.Good.{Good}
 use Rattle.questions.specs.Questions.{class_constant, or_else, constant_by, expr_constant}
@@ -48,8 +49,8 @@ unfolding class_constant flavour_of
 no_class ns cs g e l = go (class_of cs e) refl
   where
     go : (o : Option ℕ) → class_of cs e ≡ o → flavour_of (class_constant cs e) ≡ 0
-    go none q = rw q
-    go (some i) q =
+    go None q = rw q
+    go (Some i) q =
         let f = class_of-some cs e i q in
         absurd (let b = g.inside e (class-flat cs e i f.0 f.1) in omega arith)
 

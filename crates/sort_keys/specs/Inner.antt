@@ -1,5 +1,6 @@
 -- What the inner functions ask and promise each other. The public contracts (Calls) cite nothing of this file.
-use Rattle.std.specs.Prelude.{ℕ, ◌+◌, ◌*◌, ◌/◌, ◌<◌, ◌≤◌, Bool, ◌&&◌, ◌||◌, List, [], ◌∷◌, ◌≡◌, eqb, ltb, leb, length, get_or, take, set, if◌then◌else◌}
+use Rattle.std.specs.Prelude.{ℕ, ◌+◌, ◌*◌, ◌/◌, ◌<◌, ◌≤◌, Bool, ◌&&◌, ◌||◌, List, [], ◌∷◌, ◌≡◌, ltb, leb, length, get_or, take, set, if◌then◌else◌, Result, Ok, Err}
+use Rattle.arena.specs.declared.Refusal.{Refusal}
 use Rattle.arena.specs.Node.{Node, node_at}
 use Rattle.arena.specs.Expression.{expressions, those}
 use Rattle.arena.specs.Arena.{Extends, Placed, placed, full, and_then, add_expressions}
@@ -32,7 +33,7 @@ uniform_by ns old marks e = is_literal (node_at ns e) || (ltb e old && leb 2 (ge
 unfoldable pub pushed : Sorted → ℕ → ℕ → Sorted
 pushed out e options =
     if leb 16 out.size then out
-    else record { number = out.number; size = out.size + 1; keys = set out.keys out.size (e * 4 + options) }
+    else record { size = out.size + 1; keys = set out.keys out.size (e * 4 + options) }
 
 -- the keys with one more, if it is not a uniform constant
 unfoldable pub kept_key : List Node → ℕ → List ℕ → Sorted → ℕ → ℕ → Sorted
@@ -48,13 +49,14 @@ abbrev pub kept_of : List Node → ℕ → List ℕ → List Key → List Key
 kept_of ns old marks ks = without (uniform_by ns old marks) ks
 
 -- an answer with keys and the arena as a placing
-unfoldable pub told_sorted : Sorted → List Node → Placed Sorted
-told_sorted out ns = if eqb out.number 0 then placed out ns else full
+unfoldable pub told_sorted : Result Sorted Refusal → List Node → Placed Sorted
+told_sorted (Ok out) ns = placed out ns
+told_sorted (Err e) ns = full
 
 -- what the walk over keys promises: the normal forms were added, and the first 16 of the kept keys are answered; or there was no room
-pub record SortedAll (old : ℕ) (firsts marks s t numbers : List ℕ) (out : Sorted) : Type 0 where
+pub record SortedAll (old : ℕ) (firsts marks s t numbers : List ℕ) (out : Result Sorted Refusal) : Type 0 where
   pub holds : Holds t
   pub extends : Extends (decode s) (decode t)
   pub is : told_sorted out (decode t)
       ≡ and_then (add_expressions (map_all (rewriting old firsts s) (those (expressions (decode s)) (exprs_of (keys_of numbers)))) (decode s))
-      (λ es ms. placed (sorted 0 (take 16 (kept_of ms old marks (with_exprs es (keys_of numbers))))) ms)
+      (λ es ms. placed (sorted (take 16 (kept_of ms old marks (with_exprs es (keys_of numbers))))) ms)

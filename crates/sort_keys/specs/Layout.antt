@@ -1,6 +1,6 @@
 -- How keys lie in lent numbers and in the struct that is handed back. The one file that speaks of that.
 -- Lent, a key is two numbers, its expression and its options. In the struct it is one number, expression · 4 + options, and there is a place for each of 16 keys.
-use Rattle.std.specs.Prelude.{ℕ, ◌+◌, ◌*◌, ◌/◌, ◌%◌, Bool, List, [], map, eqb, leb, length, get_or}
+use Rattle.std.specs.Prelude.{ℕ, ◌+◌, ◌*◌, ◌/◌, ◌%◌, Bool, List, map, eqb, leb, length, get_or}
 use Rattle.laws.specs.Tests.{each}
 use Rattle.laws.specs.Lists.{table}
 use Rattle.classes.specs.Layout.{padded}
@@ -24,9 +24,5 @@ unfoldable pub packed : Key → ℕ
 packed k = k.expr * 4 + k.options
 
 -- keys as the struct that is handed back; unused places are 0
-unfoldable pub sorted : ℕ → List Key → Sorted
-sorted number ks = record { number = number; size = length ks; keys = padded 16 (map packed ks) }
-
--- no keys, and a refusal
-abbrev pub unsorted : ℕ → Sorted
-unsorted k = sorted k []
+unfoldable pub sorted : List Key → Sorted
+sorted ks = record { size = length ks; keys = padded 16 (map packed ks) }

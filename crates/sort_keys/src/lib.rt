@@ -9,73 +9,65 @@
 pub mod keys;
 
 ghost use Rattle.std.specs.Prelude.{◌≡◌};
-ghost use Rattle.sort_keys.specs.Calls.{normalized_key, normalized_keys, key_is};
+ghost use Rattle.sort_keys.specs.Calls.{normalized_key, normalized_keys};
 
-use arena::Added;
+use arena::Refusal;
 use arena::cells::node_count;
 use classes::Group;
-use group_checks::checking::check_group;
-use keys::{exprs_below, no_keys, options_known, sort_in};
+use group_checks::checking::{check_group, in_set};
+use keys::{exprs_below, options_known, sort_in};
 use normal::normalize_expr;
 
-// What the normal form of a sort key answers: its expression and its options, or the number of the refusal.
-#[derive(Clone, Copy)]
-pub enum KeyIs {
-    Is(u32, u32),
-    Refused(u32),
+// A sort key: its expression and its options.
+#[derive(Clone, Copy, Debug, PartialEq, Eq)]
+pub struct SortKey {
+    pub expr: u32,
+    pub options: u32,
 }
 
-// What the normal forms of sort keys answer: the refusal's number or 0, how many keys there are, and the keys, each as
-// expression · 4 + options; unused places are 0.
-#[derive(Clone, Copy)]
+// Sort keys: how many there are, and the keys, each as expression · 4 + options; unused places are 0.
+// Flat arrays with counts: a state crosses to its callers as these numbers, and the project has no heap.
+#[derive(Clone, Copy, Debug, PartialEq, Eq)]
 pub struct Sorted {
-    pub number: u32,
     pub size: usize,
     pub keys: [u16; 16],
 }
 
-// An answer as a key with its options.
-fn key_is(answer: Added, options: u32) -> KeyIs
-    ensures { result ≡ key_is options answer }
-{
-    match answer {
-        Added::Number(e) => KeyIs::Is(e, options),
-        Added::Refused(k) => KeyIs::Refused(k),
-    }
-}
-
 // The normal form of a sort key, its options kept. Refusals: 12, 11, 1, 3.
-pub fn normalize_sort_expr(cells: &mut [u32; 11265], group: Group, expr: u32, options: u32) -> KeyIs
+pub fn normalize_sort_expr(
+    cells: &mut [u32; 11265],
+    group: Group,
+    expr: u32,
+    options: u32,
+) -> Result<SortKey, Refusal>
     ensures { (result, cells.new) ≡ normalized_key expr options cells.old group }
 {
     if 3 < options {
-        return KeyIs::Refused(12);
+        return Err(Refusal::BadNumber);
     }
-    let answer = normalize_expr(cells, group, expr);
-    key_is(answer, options)
+    let expr = normalize_expr(cells, group, expr)?;
+    Ok(SortKey { expr, options })
 }
 
 // The normal forms of sort keys, lent as expression and options one after the other. A key whose normal form is a
 // uniform constant is dropped; doubles stay. Refusals: 12, 11, 1, 3, 5.
-pub fn normalize_sort_exprs(cells: &mut [u32; 11265], group: Group, keys: &[u32]) -> Sorted
+pub fn normalize_sort_exprs(
+    cells: &mut [u32; 11265],
+    group: Group,
+    keys: &[u32],
+) -> Result<Sorted, Refusal>
     ensures { (result, cells.new) ≡ normalized_keys keys.now cells.old group }
 {
-    if !options_known(keys) {
-        return no_keys(12);
-    }
-    let number = check_group(cells, group);
-    if number == 12 {
-        return no_keys(12);
+    if !options_known(keys) || !in_set(group) {
+        return Err(Refusal::BadNumber);
     }
     if keys.len() % 2 != 0 {
-        return no_keys(11);
+        return Err(Refusal::BadState);
     }
-    if number != 0 {
-        return no_keys(number);
-    }
+    check_group(cells, group)?;
     let n = node_count(cells);
     if !exprs_below(keys, n) {
-        return no_keys(1);
+        return Err(Refusal::UnknownExpression);
     }
     sort_in(cells, group, keys)
 }

@@ -1,15 +1,16 @@
 -- A group that a call hands back, unless it is refused, fits its cells.
-use Rattle.std.specs.Prelude.{if◌then◌else◌}
+use Rattle.std.specs.Prelude.{if◌then◌else◌, Option, None, Some, Ok, Err}
 use Prim.Native.Nat.{ℕ, suc, ◌+◌, ◌≤◌}
 use mathlib.Core.Bool.{Bool, true, false, ◌&&◌}
 use mathlib.Core.List.{List, [], map}
-use mathlib.Core.Option.{Option, none, some}
 use mathlib.Core.Path.{◌≡◌, refl, sym, ap, subst}
 use native.Mathlib.Omega.{arith}
-use borrow.Author.Tests.{eqb-true, eqb-false, leb-true}
+use borrow.Author.Tests.{eqb-true, leb-true}
 use lib.Dec.{eqb, ltb, leb}
 use lib.ListN.{length, length-map}
 use Rattle.laws.proofs.Booleans.{and_left, and_right}
+use Rattle.arena.specs.declared.Refusal.TheVariants.{BadNumber}
+use Rattle.arena.specs.Refusals.{refusal}
 use Rattle.arena.specs.Node.{Node}
 use Rattle.arena.specs.Layout.{lawful, decode as nodes}
 use Rattle.arena.specs.Calls.{in_cells}
@@ -17,7 +18,7 @@ use Rattle.classes.specs.Class.{Class}
 use Rattle.classes.specs.Group.{total}
 use Rattle.classes.specs.Steps.{Outcome}
 use Rattle.classes.specs.Layout.{encode, decode, constant_from}
-use Rattle.classes.specs.Calls.{group_number, changed, on_group, no_group}
+use Rattle.classes.specs.Calls.{group_number, changed, changed_number, on_group, no_group}
 use Rattle.group_checks.specs.Calls.{opened}
 use Rattle.classes.specs.declared.Group.{Group}
 use Rattle.classes.specs.declared.Changed.{Changed}
@@ -34,8 +35,10 @@ use Rattle.merging.specs.Calls.{made_group, new_answer}
 use Rattle.lent_classes.proofs.ListCounts.{fits-few, fits-small}
 use Rattle.shifted_classes.specs.Lent.{pairs_lent}
 use Rattle.joins.specs.Calls.{join_number, join_by, join_answer}
+use Rattle.merging_laws.proofs.JoinLaws.{number-positive}
 use Rattle.merging_laws.proofs.HandedBack.{new_valid, both-checked, kinds_handed, join_out}
 use Rattle.mappings.specs.Lent.{mapping_lent}
+use Rattle.mappings.specs.Calls.{project_number}
 use Rattle.group_projection.specs.Calls.{project_answer}
 use Rattle.projection_laws.proofs.GroupHanded.{project-over, over, project-by, made-within}
 use Rattle.group_records.specs.GroupRecord.{Given, class_meant, members_given, flavours_known, classes_filled, members_apart, literals_uniform, members_known, given_number, group_given, group_of, group_read}
@@ -76,7 +79,7 @@ unfolding opened total
 opened-fits limit = go (ltb 0 limit && leb limit 256) refl
   where
     out : Bool → Changed
-    out b = if b then record { number = 0; answer = true; group = encode limit [] } else record { number = 12; answer = false; group = encode 0 [] }
+    out b = if b then record { answer = Ok true; group = encode limit [] } else record { answer = Err BadNumber; group = encode 0 [] }
 
     go : (b : Bool) → (ltb 0 limit && leb limit 256) ≡ b → FitsIfDone (out b)
     go true q z = encode-fits limit [] (leb-true limit 256 (and_right (ltb 0 limit) (leb limit 256) q)) (omega arith) (omega arith)
@@ -89,11 +92,11 @@ module _ (cells : List ℕ) (g : Group) where
   on_fits call valid = go (eqb (group_number cells g) 0) refl (λ e. valid (eqb-true (group_number cells g) 0 e))
     where
       out : Bool → Changed
-      out b = if b then changed g.limit (call (nodes cells) (decode g)) else record { number = group_number cells g; answer = false; group = g }
+      out b = if b then changed g.limit (call (nodes cells) (decode g)) else record { answer = Err (refusal (group_number cells g)); group = g }
 
       go : (b : Bool) → eqb (group_number cells g) 0 ≡ b → (eqb (group_number cells g) 0 ≡ true → group_number cells (out b).group ≡ 0) → FitsIfDone (out b)
       go true q v z = coded-fits cells g.limit (call (nodes cells) (decode g)).classes (v q)
-      go false q v z = absurd (eqb-false (group_number cells g) 0 q z)
+      go false q v z = absurd (omega (arith, z, number-positive (refusal (group_number cells g))))
 
   -- an equal condition
   pub equal-fits : (a b : ℕ) → FitsIfDone (on_group (λ ns cs. add_equal g.limit ns a b cs) cells g)
@@ -108,7 +111,7 @@ module _ (cells : List ℕ) (g : Group) where
       call ns cs = add_constant true g.limit ns e (constant_from (flavour + 1) value) cs
 
       out : Bool → Changed
-      out b = if b then on_group call cells g else record { number = 12; answer = false; group = g }
+      out b = if b then on_group call cells g else record { answer = Err BadNumber; group = g }
 
       go : (b : Bool) → (group_number cells g ≡ 0 → group_number cells (out b).group ≡ 0) → FitsIfDone (out b)
       go true v z = on_fits call v z
@@ -128,7 +131,7 @@ new-fits cells numbers = go (eqb (new_number cells numbers) 0) (new_valid cells 
     out : Bool → Changed
     out b = if b then made_group (from_classes (classes_lent numbers)) else no_group (new_number cells numbers)
 
-    go : (b : Bool) → ((out b).number ≡ 0 → group_number cells (out b).group ≡ 0) → FitsIfDone (out b)
+    go : (b : Bool) → (changed_number (out b) ≡ 0 → group_number cells (out b).group ≡ 0) → FitsIfDone (out b)
     go true v z = coded-fits cells 256 (from_classes (classes_lent numbers)) (v z)
     go false v z = coded-fits cells 0 [] (v z)
 
@@ -150,7 +153,7 @@ join-fits cells left right kind size numbers = go (eqb (join_number cells left r
         let c = both-checked cells left right kind numbers (eqb-true (join_number cells left right kind numbers) 0 q) in
         let h = kinds_handed cells left right kind size numbers c o.0 o.1 refl z in
         made-fits o.0 h.classes h.is (fits-few h.classes h.fitting) (fits-small h.classes h.fitting)
-    go false q z = absurd (eqb-false (join_number cells left right kind numbers) 0 q z)
+    go false q z = absurd (omega (arith, z, number-positive (refusal (join_number cells left right kind numbers))))
 
 -- projection
 pub project-fits : (cells : List ℕ) (g : Group) (numbers : List ℕ) → FitsIfDone (project_answer cells g numbers).0
@@ -160,7 +163,7 @@ project-fits cells g numbers =
     let d = (project-over (mapping_lent numbers) g (nodes cells)).done e in
     let f = (made-within cells numbers g z d).room in
     made-fits (over cells numbers g).0 d.classes d.is (fits-few d.classes f) (fits-small d.classes f))
-    (λ z e. absurd (z e))
+    (λ z e. absurd (omega (arith, e, number-positive (refusal (project_number cells g numbers)))))
 
 -- ---- a group that is read from a record
 
@@ -185,17 +188,17 @@ given-small cells gs =
 -- what was given, if it could be read
 of-fits : (cells : List ℕ) (o : Option (List Given)) → FitsIfDone (group_of cells o)
 unfolding group_of no_group
-of-fits cells none = λ z. absurd (omega arith)
-of-fits cells (some gs) = go (eqb (given_number cells gs) 0) refl
+of-fits cells None = λ z. absurd (omega (arith, z, number-positive (refusal 9)))
+of-fits cells (Some gs) = go (eqb (given_number cells gs) 0) refl
   where
     out : Bool → Changed
-    out b = if b then record { number = 0; answer = true; group = encode 256 (map class_meant gs) } else no_group (given_number cells gs)
+    out b = if b then record { answer = Ok true; group = encode 256 (map class_meant gs) } else no_group (given_number cells gs)
 
     go : (b : Bool) → eqb (given_number cells gs) 0 ≡ b → FitsIfDone (out b)
     go true q z =
         let s = given-small cells gs (eqb-true (given_number cells gs) 0 q) in
         encode-fits 256 (map class_meant gs) (omega arith) (omega (arith, s.0, length-map gs class_meant)) (omega (arith, s.1, length-flat (map class_meant gs)))
-    go false q z = absurd (eqb-false (given_number cells gs) 0 q z)
+    go false q z = absurd (omega (arith, z, number-positive (refusal (given_number cells gs))))
 
 -- a record that is read
 pub read_fits : (cells bytes : List ℕ) → FitsIfDone (group_read cells bytes)

@@ -1,9 +1,8 @@
 -- A list of orderings that a call hands back, unless it is refused, fits its cells; so do a joined ordering and sorted keys.
-use Rattle.std.specs.Prelude.{if◌then◌else◌}
+use Rattle.std.specs.Prelude.{if◌then◌else◌, Option, Ok, Err}
 use Prim.Native.Nat.{ℕ, zero, suc, ◌+◌, ◌*◌, ◌<◌, ◌≤◌}
 use mathlib.Core.Bool.{Bool, true, false, ◌&&◌}
 use mathlib.Core.List.{List, [], ◌∷◌, ◌++◌}
-use mathlib.Core.Option.{Option}
 use mathlib.Core.Path.{◌≡◌, refl, sym, ap, ◌∙◌, subst}
 use native.Mathlib.Decide.{dec_lt}
 use native.Mathlib.Omega.{arith}
@@ -13,9 +12,13 @@ use lib.IntN.{ℤ}
 use lib.ListN.{length, get_or, get_or-eq_default}
 use lib.Seq.{length-take-le}
 use Rattle.laws.specs.Tests.{each}
-use Rattle.laws.proofs.Booleans.{true_not_false, and_right}
+use Rattle.laws.proofs.Booleans.{and_right}
 use Rattle.laws.proofs.Table.{get_or-table}
 use Rattle.arena.specs.Node.{Node}
+use Rattle.arena.specs.declared.Refusal.{Refusal}
+use Rattle.arena.specs.declared.Refusal.TheVariants.{UnknownExpression, ArenaFull, TooLarge, IndexOutOfRange}
+use Rattle.arena.specs.Refusals.{refusal}
+use Rattle.arena.proofs.Refusals.{ok-not-err}
 use Rattle.arena.specs.Expression.{expression_at}
 use Rattle.arena.specs.Arena.{Placed, placed, full, add_expression}
 use Rattle.shifting.specs.Shift.{moved, shifted}
@@ -25,6 +28,7 @@ use Rattle.arena.proofs.Growing.{between}
 use Rattle.classes.specs.Class.{Class}
 use Rattle.classes.specs.Layout.{decode as classes}
 use Rattle.classes.specs.declared.Group.{Group}
+use Rattle.merging_laws.proofs.JoinLaws.{number-positive}
 use Rattle.orderings.specs.Ordering.{expr_of, options_of, same_key, built}
 use Rattle.orderings.specs.Lists.{ordering_at, output_ordering, built_all, join_suffix}
 use Rattle.orderings.specs.Layout.{row, keys_of as keys_in, encode, decode, place_in, lawful_list, keys_inside}
@@ -43,13 +47,13 @@ use Rattle.reduction.specs.Calls.{reduced_list, lent_number, add_answer, new_ans
 use Rattle.reduction.proofs.Kept.{Cuts, begun, cut, gone, reduced-cuts}
 use Rattle.reduction.proofs.Adding.{fits-few, fits-short}
 use Rattle.ordering_joins.specs.Offset.{lists_move, shifted_keys, shifted_lists}
-use Rattle.ordering_joins.specs.Calls.{no_output, output_of, output_answer, join_answer, offset_by, offset_list, offset_answer}
+use Rattle.ordering_joins.specs.Calls.{output_of, output_answer, join_answer, offset_by, offset_list, offset_answer}
 use Rattle.ordering_joins.proofs.Offsets.{after_key, after_ordering}
 use Rattle.ordering_laws.proofs.Reduces.{cuts-each}
 use Rattle.normal.specs.Calls.{normal_forms, on_checked}
 use Rattle.sort_keys.specs.Keys.{Key, exprs_of, with_exprs, orders_nothing, sorting}
-use Rattle.sort_keys.specs.Layout.{keys_of, sorted, unsorted}
-use Rattle.sort_keys.specs.Calls.{sorted_by, normalize_sort_exprs, keys_number, normalized_keys}
+use Rattle.sort_keys.specs.Layout.{keys_of, sorted}
+use Rattle.sort_keys.specs.Calls.{SortedIs, sorted_by, normalize_sort_exprs, keys_number, normalized_keys}
 use Rattle.sort_keys.specs.declared.Sorted.{Sorted}
 use Rattle.sort_keys.proofs.KeyLaws.{with-fewer}
 use Rattle.states.specs.Inner.{ListFits, ListFitsIfDone}
@@ -82,28 +86,28 @@ encode-fits os few short = record { count = counted; sizes = λ i. size i (dec_l
 none-fits : ListFits (encode [])
 none-fits = encode-fits [] (omega arith) (λ i l. absurd (omega arith))
 
--- a list that is handed back with 0 after a test, else with another number
-tested-fits : (b : Bool) (os : List (List ℕ)) (n : ℕ) (g : Orderings) → (n ≡ 0 → ⊥) → (b ≡ true → ListFits (encode os)) → ListFitsIfDone (if b then told 0 (encode os) else told n g)
-tested-fits true os n g z f e = f refl
-tested-fits false os n g z f e = absurd (z e)
+-- a list that is handed back after a test, else 5
+tested-fits : (b : Bool) (os : List (List ℕ)) (g : Orderings) → (b ≡ true → ListFits (encode os)) → ListFitsIfDone (if b then told (Ok tt) (encode os) else told (Err TooLarge) g)
+tested-fits true os g f e = f refl
+tested-fits false os g f e = absurd (omega arith)
 
 -- the answer of a call after a check that told k
-checked-fits : (k : ℕ) (r : Listed) (g : Orderings) → (k ≡ 0 → ListFitsIfDone r) → ListFitsIfDone (if eqb k 0 then r else told k g)
+checked-fits : (k : ℕ) (r : Listed) (g : Orderings) → (k ≡ 0 → ListFitsIfDone r) → ListFitsIfDone (if eqb k 0 then r else told (Err (refusal k)) g)
 checked-fits k r g f = go (eqb k 0) refl
   where
-    go : (b : Bool) → eqb k 0 ≡ b → ListFitsIfDone (if b then r else told k g)
+    go : (b : Bool) → eqb k 0 ≡ b → ListFitsIfDone (if b then r else told (Err (refusal k)) g)
     go true q = f (eqb-true k 0 q)
-    go false q = λ e. absurd (true_not_false (ap (λ (x : ℕ). eqb x 0) e) q)
+    go false q = λ e. absurd (omega (arith, number-positive (refusal k)))
 
 -- clearing
 pub clear-fits : (cells : List ℕ) (g : Orderings) → ListFitsIfDone (clear_answer cells g)
 unfolding clear_answer ask_list
-clear-fits cells g = checked-fits (list_number cells g) (told 0 (encode [])) g (λ z e. none-fits)
+clear-fits cells g = checked-fits (list_number cells g) (told (Ok tt) (encode [])) g (λ z e. none-fits)
 
 -- a list that was made and is not too large
 listed-fits : (g : Orderings) (os : List (List ℕ)) → ListFitsIfDone (listed g os)
 unfolding listed
-listed-fits g os = tested-fits (fits os) os 5 g (λ z. omega arith) (λ f. encode-fits os (fits-few os f) (fits-short os f))
+listed-fits g os = tested-fits (fits os) os g (λ f. encode-fits os (fits-few os f) (fits-short os f))
 
 -- cuts leave no more orderings
 cuts-fewer : {m : ℕ → ℕ → Bool} {os ps : List (List ℕ)} {c : ℕ} → Cuts m os ps c → length ps ≤ length os
@@ -121,7 +125,7 @@ reduced-fits os f =
 -- a list that was made and reduced
 pub reduced_list-fits : (g : Orderings) (os : List (List ℕ)) → ListFitsIfDone (reduced_list g os)
 unfolding reduced_list
-reduced_list-fits g os = tested-fits (fits os) (reduced same_key os).orderings 5 g (λ z. omega arith) (reduced-fits os)
+reduced_list-fits g os = tested-fits (fits os) (reduced same_key os).orderings g (reduced-fits os)
 
 -- adding
 pub add-fits : (cells : List ℕ) (g : Orderings) (numbers : List ℕ) → ListFitsIfDone (add_answer cells g numbers)
@@ -218,28 +222,28 @@ offset_fits offset cells g = go (eqb (list_number cells g) 0) refl (lists_move (
     by z full q e = absurd (omega arith)
 
     go : (p : Bool) → eqb (list_number cells g) 0 ≡ p → (b : Bool)
-        → ListFitsIfDone (if p then in_cells (if b then offset_by g (nodes cells) made else (told 10 g, nodes cells)) else (told (list_number cells g) g, cells)).0
+        → ListFitsIfDone (if p then in_cells (if b then offset_by g (nodes cells) made else (told (Err IndexOutOfRange) g, nodes cells)) else (told (Err (refusal (list_number cells g))) g, cells)).0
     go true q true = by (eqb-true (list_number cells g) 0 q) made refl
     go true q false = λ e. absurd (omega arith)
-    go false q b = λ e. absurd (true_not_false (ap (λ (x : ℕ). eqb x 0) e) q)
+    go false q b = λ e. absurd (omega (arith, number-positive (refusal (list_number cells g))))
 
--- a joined ordering fits, also where it is refused
-pub output-fits : (cells : List ℕ) (g : Orderings) → (output_answer cells g).ordering.size < 65536
-unfolding ask_list output_of no_output
-output-fits cells g = go (eqb (list_number cells g) 0) (leb (length o) 16) refl
+-- a joined ordering fits
+pub output-fits : (cells : List ℕ) (g : Orderings) (o : Ordering) → output_answer cells g ≡ Ok o → o.size < 65536
+unfolding ask_list output_of
+output-fits cells g = go (eqb (list_number cells g) 0) (leb (length joined) 16) refl
   where
-    o : List ℕ
-    o = output_ordering (decode g)
+    joined : List ℕ
+    joined = output_ordering (decode g)
 
-    go : (p q : Bool) → leb (length o) 16 ≡ q → (if p then (if q then record { number = 0; ordering = row o } else no_output 5) else no_output (list_number cells g)).ordering.size < 65536
-    go true true e = row_fits o (leb-true (length o) 16 e)
-    go true false e = row_fits [] (omega arith)
-    go false q e = row_fits [] (omega arith)
+    go : (p q : Bool) → leb (length joined) 16 ≡ q → (o : Ordering) → (if p then (if q then Ok (row joined) else Err TooLarge) else Err (refusal (list_number cells g))) ≡ Ok o → o.size < 65536
+    go true true t o e = let z : row joined ≡ o = cc in subst (λ (x : Ordering). x.size < 65536) z (row_fits joined (leb-true (length joined) 16 t))
+    go true false t o e = absurd (ok-not-err (sym e))
+    go false q t o e = absurd (ok-not-err (sym e))
 
 -- keys that are handed back have the size of their list
-sorted-size : (k : ℕ) (ks : List Key) → length ks ≤ 16 → (sorted k ks).size < 65536
+sorted-size : (ks : List Key) → length ks ≤ 16 → (sorted ks).size < 65536
 unfolding sorted
-sorted-size k ks l = omega arith
+sorted-size ks l = omega arith
 
 -- sorting keeps at most as many keys
 sorting-fewer : (ns : List Node) (cs : List Class) (ks : List Key) → length (sorting ns cs ks) ≤ length ks
@@ -251,35 +255,48 @@ sorting-fewer ns cs (k ∷ ks) = go (orders_nothing ns cs k) (sorting-fewer ns c
     go true h = omega arith
     go false h = omega arith
 
--- sorted keys fit, also where they are refused
+-- keys fit, where there are any
+abbrev KeysFit : SortedIs → Type 0
+KeysFit a = (s : Sorted) → a ≡ Ok s → s.size < 65536
+
+none-sorted : (r : Refusal) → KeysFit (Err r)
+none-sorted r s e = absurd (ok-not-err (sym e))
+
+-- sorted keys fit
 module _ (ks : List Key) (ns : List Node) (cs : List Class) where
   -- after their normal forms were placed
-  sorted_by-fits : (p : Placed (List ℕ)) → (sorted_by ks ns cs p).0.size < 65536
+  sorted_by-fits : (p : Placed (List ℕ)) → KeysFit (sorted_by ks ns cs p).0
   unfolding sorted_by
   sorted_by-fits (placed es ms) = go (leb (length ks) 16) refl
     where
-      by : Bool → Sorted × List Node
-      by b = if b then (sorted 0 (sorting ms cs (with_exprs es ks)), ms) else (unsorted 5, ns)
+      made : List Key
+      made = sorting ms cs (with_exprs es ks)
 
-      go : (b : Bool) → leb (length ks) 16 ≡ b → (by b).0.size < 65536
-      go true e = sorted-size 0 (sorting ms cs (with_exprs es ks)) (omega (arith, sorting-fewer ms cs (with_exprs es ks), with-fewer es ks, leb-true (length ks) 16 e))
-      go false e = sorted-size 5 [] (omega arith)
-  sorted_by-fits full = sorted-size 3 [] (omega arith)
+      by : Bool → SortedIs × List Node
+      by b = if b then (Ok (sorted made), ms) else (Err TooLarge, ns)
+
+      go : (b : Bool) → leb (length ks) 16 ≡ b → KeysFit (by b).0
+      go true t s e =
+          let z : sorted made ≡ s = cc in
+          subst (λ (x : Sorted). x.size < 65536) z
+          (sorted-size made (omega (arith, sorting-fewer ms cs (with_exprs es ks), with-fewer es ks, leb-true (length ks) 16 t)))
+      go false t s e = none-sorted TooLarge s e
+  sorted_by-fits full = none-sorted ArenaFull
 
   -- after their expressions were looked at
-  sort_fits : (normalize_sort_exprs ks ns cs).0.size < 65536
+  sort_fits : KeysFit (normalize_sort_exprs ks ns cs).0
   unfolding normalize_sort_exprs
   sort_fits = go (each (λ k. ltb (get_or (exprs_of ks) k 0) (length ns)) (length ks))
     where
-      go : (b : Bool) → (if b then sorted_by ks ns cs (normal_forms ns cs (exprs_of ks)) else (unsorted 1, ns)).0.size < 65536
+      go : (b : Bool) → KeysFit (if b then sorted_by ks ns cs (normal_forms ns cs (exprs_of ks)) else (Err UnknownExpression, ns)).0
       go true = sorted_by-fits (normal_forms ns cs (exprs_of ks))
-      go false = sorted-size 1 [] (omega arith)
+      go false = none-sorted UnknownExpression
 
 -- on lent cells and a lent group
-pub sorted-fits : (numbers cells : List ℕ) (g : Group) → (normalized_keys numbers cells g).0.size < 65536
+pub sorted-fits : (numbers cells : List ℕ) (g : Group) (s : Sorted) → (normalized_keys numbers cells g).0 ≡ Ok s → s.size < 65536
 unfolding on_checked in_cells
 sorted-fits numbers cells g = go (eqb (keys_number numbers cells g) 0)
   where
-    go : (b : Bool) → (if b then in_cells (normalize_sort_exprs (keys_of numbers) (nodes cells) (classes g)) else (unsorted (keys_number numbers cells g), cells)).0.size < 65536
+    go : (b : Bool) → KeysFit (if b then in_cells (normalize_sort_exprs (keys_of numbers) (nodes cells) (classes g)) else (Err (refusal (keys_number numbers cells g)), cells)).0
     go true = sort_fits (keys_of numbers) (nodes cells) (classes g)
-    go false = sorted-size (keys_number numbers cells g) [] (omega arith)
+    go false = none-sorted (refusal (keys_number numbers cells g))

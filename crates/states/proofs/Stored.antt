@@ -1,24 +1,12 @@
 -- The cells that a state is written into: one number before others, a list that a loop has written whole, and rows that stand one directly after the other.
 use Prim.Native.Nat.{ℕ, ◌+◌, ◌*◌, ◌<◌, ◌≤◌}
-use mathlib.Core.List.{List, [], ◌∷◌, ◌++◌, append_assoc, append-nil}
+use mathlib.Core.List.{List, [], ◌∷◌, ◌++◌, append_assoc}
 use mathlib.Core.Path.{◌≡◌, refl, sym, ap, ◌∙◌}
 use native.Mathlib.Numerals.{add-one}
 use native.Mathlib.Omega.{arith}
 use lib.ListN.{length, set, take, length-set}
 use Rattle.states.specs.Cells.{in_row}
 use Rattle.states.proofs.Taken.{taken-set, taken-all}
-
--- before the first turn of a loop that writes a list from a cell on, nothing of it is written
-pub written_none : (old xs : List ℕ) (at : ℕ) → take (at + 0) old ≡ take at old ++ take 0 xs
-written_none old xs at =
-    let e : at + 0 ≡ at = omega arith in
-    ap (λ (n : ℕ). take n old) e ∙ sym (append-nil (take at old))
-
--- after its last turn all of it is
-pub written_all_lem : (old now xs : List ℕ) (at n k : ℕ) → k ≤ n → n ≤ k → length xs ≡ n → take (at + k) now ≡ take at old ++ take k xs → take (at + n) now ≡ take at old ++ xs
-written_all_lem old now xs at n k a b z e =
-    let q : at + n ≡ at + k = omega arith in
-    ap (λ (m : ℕ). take m now) q ∙ e ∙ ap (λ (l : List ℕ). take at old ++ l) (taken-all xs k (omega arith))
 
 -- a number that is written at a cell stands before what is written after it
 pub written-before : (old xs : List ℕ) (at x n : ℕ) → at < length old → n ≡ at + 1 → take n (set old at x) ++ xs ≡ take at old ++ (x ∷ xs)

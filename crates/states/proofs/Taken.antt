@@ -1,11 +1,13 @@
--- The first numbers of a list that a loop writes one by one.
+-- The first numbers of a list that a loop writes one by one, and a part of a list.
 use Prim.Native.Nat.{ℕ, ◌+◌, ◌<◌, ◌≤◌}
 use mathlib.Core.List.{List, [], ◌∷◌, ◌++◌, append_assoc}
 use mathlib.Core.Path.{◌≡◌, sym, ap, ◌∙◌}
 use native.Mathlib.Numerals.{add-one}
 use native.Mathlib.Omega.{arith}
-use lib.ListN.{length, get_or, set, take}
-use lib.Seq.{take_all, take-suc, take-suc-set}
+use lib.ListN.{length, get_or, set, take, drop, length-drop}
+use lib.Seq.{take_all, take-suc, take-suc-set, length-take-le, get_or-take, get_or-drop}
+use Rattle.laws.proofs.Table.{table_is}
+use Rattle.states.specs.Cells.{part}
 
 module _ {A : Type 0} where
   -- after a write at i, the first i + 1 are the first i and what was written
@@ -19,6 +21,13 @@ module _ {A : Type 0} where
   -- the first n of a list that has no more are all of it
   pub taken-all : (l : List A) (n : ℕ) → length l ≤ n → take n l ≡ l
   taken-all l n b = take_all n l b
+
+-- n numbers from one on
+pub part-taken : (cells : List ℕ) (at n : ℕ) → at + n ≤ length cells → take n (drop at cells) ≡ part cells at n
+unfolding part
+part-taken cells at n b =
+    table_is (λ k. get_or cells (at + k) 0) n (take n (drop at cells)) 0 (length-take-le n (drop at cells) (omega (arith, length-drop at cells)))
+    (λ i l. rw (get_or-take n (drop at cells) i 0 l) (get_or-drop at cells i 0))
 
 -- one turn of a loop that writes a list from a cell on
 pub written-turn : (old now xs : List ℕ) (at i : ℕ) → at + i < length now → i < length xs → take (at + i) now ≡ take at old ++ take i xs

@@ -1,4 +1,5 @@
 -- What the functions that write a state ask: every number fits its cell.
+use Rattle.arena.specs.Refusals.{number_of}
 use Rattle.std.specs.Prelude.{ℕ, ◌<◌, true, ◌≡◌}
 use Rattle.orderings.specs.Layout.{place_in}
 use Rattle.orderings.specs.declared.Orderings.{Orderings}
@@ -15,7 +16,7 @@ pub record ListFits (g : Orderings) : Type 0 where
 
 -- so do those of a list that is handed back, unless it is refused
 abbrev pub ListFitsIfDone : Listed → Type 0
-ListFitsIfDone l = l.number ≡ 0 → ListFits l.list
+ListFitsIfDone l = number_of l.done ≡ 0 → ListFits l.list
 
 -- a key's target leaves room for one more, and its count fits 16 bits
 pub record NodeFits (n : DependencyNode) : Type 0 where
@@ -29,4 +30,4 @@ pub record MapFits (m : DependencyMap) : Type 0 where
 
 -- so do those of a map that is handed back, unless it is refused
 abbrev pub MapFitsIfDone : Inserted → Type 0
-MapFitsIfDone i = i.number ≡ 0 → MapFits i.map
+MapFitsIfDone i = number_of i.done ≡ 0 → MapFits i.map

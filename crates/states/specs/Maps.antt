@@ -5,7 +5,7 @@ use Rattle.dependencies.specs.Layout.{place_in}
 use Rattle.dependencies.specs.declared.DependencyNode.{DependencyNode}
 use Rattle.dependencies.specs.declared.DependencyMap.{DependencyMap}
 use Rattle.dependencies.specs.declared.Inserted.{Inserted}
-use Rattle.states.specs.Cells.{part, in_row}
+use Rattle.states.specs.Cells.{part, in_row, told}
 
 -- the key in the cells from one on
 unfoldable pub node_from : List ℕ → ℕ → DependencyNode
@@ -36,4 +36,4 @@ map_cells m = m.count ∷ in_row (λ i. node_cells (place_in m i)) 64
 
 -- what an insert returns, and the cells afterwards: a refusal leaves them as they were
 unfoldable pub stored_map : List ℕ → Inserted → ℕ × List ℕ
-stored_map cells i = if eqb i.number 0 then (0, map_cells i.map) else (i.number, cells)
+stored_map cells i = told (λ _. map_cells i.map) cells i.done

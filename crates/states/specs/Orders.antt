@@ -1,11 +1,11 @@
 -- An ordering in 17 cells, its size and 16 places for keys, and a list in 545: its count and 32 orderings.
-use Rattle.std.specs.Prelude.{ℕ, ◌+◌, ◌*◌, List, ◌∷◌, eqb, get_or, if◌then◌else◌}
+use Rattle.std.specs.Prelude.{ℕ, ◌+◌, ◌*◌, List, ◌∷◌, get_or}
 use Rattle.laws.specs.Lists.{table}
 use Rattle.orderings.specs.Layout.{place_in}
 use Rattle.orderings.specs.declared.Ordering.{Ordering}
 use Rattle.orderings.specs.declared.Orderings.{Orderings}
 use Rattle.orderings.specs.declared.Listed.{Listed}
-use Rattle.states.specs.Cells.{part, in_row}
+use Rattle.states.specs.Cells.{part, in_row, told}
 
 -- the ordering in the cells from one on
 unfoldable pub ordering_from : List ℕ → ℕ → Ordering
@@ -25,4 +25,4 @@ orderings_cells g = g.count ∷ in_row (λ i. ordering_cells (place_in g i)) 32
 
 -- what a call that hands back a list returns, and the cells afterwards: a refusal leaves them as they were
 unfoldable pub stored_list : List ℕ → Listed → ℕ × List ℕ
-stored_list cells l = if eqb l.number 0 then (0, orderings_cells l.list) else (l.number, cells)
+stored_list cells l = told (λ _. orderings_cells l.list) cells l.done

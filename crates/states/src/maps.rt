@@ -9,14 +9,14 @@ use crate::{
     MAP_CELLS, MAP_COUNT, MAP_LIST, MAP_NODE_CELLS, MAP_NODE_DEPENDENCIES, MAP_NODE_SIZE,
     MAP_NODE_TARGET,
 };
-use dependencies::inserting::nothing;
 use dependencies::{DependencyMap, DependencyNode, Inserted};
+use std::array;
 
 // The target of a cell: one less, where there is one.
 fn target_from(cell: u16) -> u16
     ensures { result ≡ cell - 1 }
 {
-    if cell == 0 { 0 } else { cell - 1 }
+    cell.saturating_sub(1)
 }
 
 // The key with its target and its dependencies in the cells from one on.
@@ -39,15 +39,9 @@ fn node_from(cells: &[u16; MAP_CELLS], at: usize) -> DependencyNode
 pub fn load_map(cells: &[u16; MAP_CELLS]) -> DependencyMap
     ensures { result ≡ map_from cells.now }
 {
-    let mut list = [nothing(); 64];
-    let mut i = 0;
-    while i < 64 {
-        list[i] = node_from(cells, MAP_LIST + MAP_NODE_CELLS * i);
-        i += 1;
-    }
     DependencyMap {
         count: widened(cells[MAP_COUNT]),
-        list: list,
+        list: array::from_fn(|i| node_from(cells, MAP_LIST + MAP_NODE_CELLS * i)),
     }
 }
 
@@ -77,23 +71,23 @@ fn put_map(map: DependencyMap, cells: &mut [u16; MAP_CELLS])
     ensures { cells.new ≡ map_cells map }
 {
     cells[MAP_COUNT] = short(map.count);
-    let mut i = 0;
-    while i < 64 {
-        let node = map.list[i];
-        put_node(node, cells, MAP_LIST + MAP_NODE_CELLS * i);
-        i += 1;
+    for i in 0..64 {
+        put_node(map.list[i], cells, MAP_LIST + MAP_NODE_CELLS * i);
     }
 }
 
 // Writes the map that a call hands back, unless it was refused. The answer is the refusal's number or 0.
+#[tactic(auto, unfolding(crate::specs::Maps::stored_map, crate::specs::Cells::told))]
 pub fn store_map(inserted: Inserted, cells: &mut [u16; MAP_CELLS]) -> u32
     requires { MapFitsIfDone inserted }
     ensures { (result, cells.new) ≡ stored_map cells.old inserted }
 {
-    if inserted.number != 0 {
-        return inserted.number;
+    match inserted.done {
+        Ok(()) => {
+            let map = inserted.map;
+            put_map(map, cells);
+            0
+        }
+        Err(why) => u32::from(why),
     }
-    let map = inserted.map;
-    put_map(map, cells);
-    0
 }

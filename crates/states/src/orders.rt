@@ -6,8 +6,8 @@ ghost use Rattle.states.specs.Inner.{ListFits, ListFitsIfDone};
 
 use crate::numbers::{short, widened};
 use crate::{ORDERING_CELLS, ORDERINGS_CELLS, ORDERINGS_COUNT, ORDERINGS_LIST};
-use orderings::making::nothing;
 use orderings::{Listed, Ordering, Orderings};
+use std::array;
 
 // The 16 keys from a cell on.
 pub fn keys_from(cells: &[u16], at: usize) -> [u16; 16]
@@ -15,11 +15,7 @@ pub fn keys_from(cells: &[u16], at: usize) -> [u16; 16]
     ensures { result ≡ part cells.now at 16 }
 {
     let mut keys = [0u16; 16];
-    let mut k = 0;
-    while k < 16 {
-        keys[k] = cells[at + k];
-        k += 1;
-    }
+    keys.copy_from_slice(&cells[at..at + 16]);
     keys
 }
 
@@ -28,10 +24,9 @@ fn ordering_from(cells: &[u16; ORDERINGS_CELLS], at: usize) -> Ordering
     requires { at + 17 ≤ 545 }
     ensures { result ≡ ordering_from cells.now at }
 {
-    let keys = keys_from(cells, at + 1);
     Ordering {
         size: widened(cells[at]),
-        keys: keys,
+        keys: keys_from(cells, at + 1),
     }
 }
 
@@ -39,15 +34,9 @@ fn ordering_from(cells: &[u16; ORDERINGS_CELLS], at: usize) -> Ordering
 pub fn load_orderings(cells: &[u16; ORDERINGS_CELLS]) -> Orderings
     ensures { result ≡ orderings_from cells.now }
 {
-    let mut list = [nothing(); 32];
-    let mut i = 0;
-    while i < 32 {
-        list[i] = ordering_from(cells, ORDERINGS_LIST + ORDERING_CELLS * i);
-        i += 1;
-    }
     Orderings {
         count: widened(cells[ORDERINGS_COUNT]),
-        list: list,
+        list: array::from_fn(|i| ordering_from(cells, ORDERINGS_LIST + ORDERING_CELLS * i)),
     }
 }
 
@@ -56,11 +45,7 @@ pub fn put_keys(keys: [u16; 16], cells: &mut [u16], at: usize)
     requires { at + 16 ≤ length cells.old }
     ensures { take (at + 16) cells.new ≡ take at cells.old ++ keys }
 {
-    let mut k = 0;
-    while k < 16 {
-        cells[at + k] = keys[k];
-        k += 1;
-    }
+    cells[at..at + 16].copy_from_slice(&keys);
 }
 
 // Writes an ordering into the cells from one on.
@@ -79,23 +64,27 @@ fn put_orderings(orderings: Orderings, cells: &mut [u16; ORDERINGS_CELLS])
     ensures { cells.new ≡ orderings_cells orderings }
 {
     cells[ORDERINGS_COUNT] = short(orderings.count);
-    let mut i = 0;
-    while i < 32 {
-        let ordering = orderings.list[i];
-        put_ordering(ordering, cells, ORDERINGS_LIST + ORDERING_CELLS * i);
-        i += 1;
+    for i in 0..32 {
+        put_ordering(
+            orderings.list[i],
+            cells,
+            ORDERINGS_LIST + ORDERING_CELLS * i,
+        );
     }
 }
 
 // Writes the list that a call hands back, unless it was refused. The answer is the refusal's number or 0.
+#[tactic(auto, unfolding(crate::specs::Orders::stored_list, crate::specs::Cells::told))]
 pub fn store_orderings(listed: Listed, cells: &mut [u16; ORDERINGS_CELLS]) -> u32
     requires { ListFitsIfDone listed }
     ensures { (result, cells.new) ≡ stored_list cells.old listed }
 {
-    if listed.number != 0 {
-        return listed.number;
+    match listed.done {
+        Ok(()) => {
+            let list = listed.list;
+            put_orderings(list, cells);
+            0
+        }
+        Err(why) => u32::from(why),
     }
-    let list = listed.list;
-    put_orderings(list, cells);
-    0
 }

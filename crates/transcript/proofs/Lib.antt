@@ -1,6 +1,5 @@
 -- Laws of a session, and what it promises.
 pub mod Saying
-pub mod Copying
 pub mod Scripts
 pub mod LineLengths
 pub mod Running

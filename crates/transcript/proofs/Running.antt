@@ -1,8 +1,7 @@
 -- How a session runs over its input: what is written so far and what is still to come make the whole text.
 use Prim.Native.Nat.{ℕ, ◌+◌, ◌-◌, ◌*◌, ◌<◌, ◌≤◌}
-use mathlib.Core.Bool.{Bool, true, false}
 use mathlib.Core.List.{List, [], ◌∷◌, ◌++◌, append_assoc}
-use mathlib.Core.Option.{Option, none, some}
+use Rattle.std.specs.Prelude.{Option, None, Some}
 use mathlib.Core.Path.{◌≡◌, refl, sym, ap, ap₂, ◌∙◌, subst}
 use native.Mathlib.Omega.{arith}
 use lib.ListN.{length, take, drop, length-append, length-drop, drop_of_length-le}
@@ -26,15 +25,18 @@ use Rattle.orderings.specs.Good.{Good as GoodList}
 use Rattle.orderings.proofs.Codec.{decode-encode as decode-list, length-decode as length-list}
 use Rattle.records.specs.Record.{Record, read_record, record_size, item_of}
 use Rattle.records.specs.declared.Item.{Item}
-use Rattle.records.specs.declared.Item.TheVariants.{Malformed}
 use Rattle.records.proofs.Items.{malformed_answer, size_least, size-most}
 use Rattle.session_steps.specs.State.{State, start, step}
 use Rattle.transcript.specs.Session.{read_all, read_none, read_malformed, read-record, r_word, end_word, reply_text, end_text, script_text}
 use Rattle.session_steps.specs.Inner.{Fit, Went, state_of}
-use Rattle.transcript.specs.Inner.{said_text, is_malformed}
+use Rattle.transcript.specs.Inner.{said_text}
+use Rattle.session_steps.proofs.Told.{step-told}
+use Rattle.arena.specs.declared.Refusal.{Refusal}
+use Rattle.arena.specs.declared.Refusal.TheVariants.{Malformed}
+use Rattle.std.specs.Prelude.{Result, Ok, Err}
 use Rattle.session_steps.specs.declared.holding.Holding.{Holding}
 use Rattle.session_steps.specs.declared.holding.Stepped.{Stepped}
-use Rattle.transcript.proofs.Saying.{said-text, malformed_is}
+use Rattle.transcript.proofs.Saying.{said-text}
 use Rattle.session_steps.proofs.Bounds.{Small, small-start, step-answered}
 use Rattle.transcript.proofs.Scripts.{script-record, script_end, script-stop}
 use Rattle.transcript.proofs.LineLengths.{stop-short, reply-short, end_short}
@@ -147,18 +149,18 @@ module _ (input old new cells : List ℕ) (h : Holding) (done at k : ℕ) (few :
           ∙ ap (script_text k (state_of cells h)) read_none ∙ script_end k (state_of cells h) ∙ sym (last_line_lem cells h r.fit) in
           subst (λ (t : List ℕ). Put old 0 t new' next) (sym (r.goes ∙ ap (λ (l : List ℕ). r.text ++ l) e)) (joins (last_line h) new' next p)
 
-  module _ (ahead : at < length input) (item : Item) (is : item ≡ item_of (read_record (part_of input at))) where
+  module _ (ahead : at < length input) (item : Result Item Refusal) (is : item ≡ item_of (read_record (part_of input at))) where
     part-size : length (part_of input at) ≡ length input - at
     part-size = ap (λ (l : List ℕ). length l) (part-is input at) ∙ length-drop at input
 
     -- a malformed record
-    module _ (bad : is_malformed item ≡ true) where
+    module _ (why : Refusal) (bad : item ≡ Err why) where
       pub stop-room : RoomFor new done (line r_word (k ∷ 9 ∷ []))
       stop-room = has_room (line r_word (k ∷ 9 ∷ [])) (omega (arith, r.short, r.inside, stop-short k k-low))
 
       stopped : script_text k (state_of cells h) (read_all (drop at input)) ≡ line r_word (k ∷ 9 ∷ []) ++ last_line h
       stopped =
-          let q : read_record (drop at input) ≡ none = ap read_record (sym (part-is input at)) ∙ malformed_answer (part_of input at) (sym is ∙ malformed_is item bad) in
+          let q : read_record (drop at input) ≡ None = ap read_record (sym (part-is input at)) ∙ malformed_answer (part_of input at) why (sym is ∙ bad) in
           ap (script_text k (state_of cells h)) (read_malformed (drop at input) (omega (arith, length-drop at input)) q)
           ∙ script-stop k (state_of cells h) ∙ ap (λ (l : List ℕ). line r_word (k ∷ 9 ∷ []) ++ l) (sym (last_line_lem cells h r.fit))
 
@@ -184,18 +186,18 @@ module _ (input old new cells : List ℕ) (h : Holding) (done at k : ℕ) (few :
               (joins (line r_word (k ∷ 9 ∷ []) ++ last_line h) new2 next2 both-put)
 
     -- a record that is read
-    module _ (good : is_malformed item ≡ false) where
+    module _ (i : Item) (good : item ≡ Ok i) where
       record Taken : Type 0 where
         x : Record
-        was : read_record (part_of input at) ≡ some x
+        was : read_record (part_of input at) ≡ Some x
 
       taken : Taken
-      unfolding is_malformed item_of
+      unfolding item_of
       taken = go (read_record (part_of input at)) refl
         where
           go : (o : Option Record) → read_record (part_of input at) ≡ o → Taken
-          go none q = absurd (let e : item ≡ Malformed = is ∙ ap item_of q in let z : ◌≡◌ {A = Bool} true false = sym (ap is_malformed e) ∙ good in let n : ◌≡◌ {A = ℕ} 0 1 = cc in omega arith)
-          go (some x) q = record { x = x; was = q }
+          go None q = absurd (let e : item ≡ Err Malformed = is ∙ ap item_of q in let n : ◌≡◌ {A = ℕ} 0 1 = cc in omega arith)
+          go (Some x) q = record { x = x; was = q }
 
       abbrev x : Record
       x = taken.x
@@ -210,12 +212,12 @@ module _ (input old new cells : List ℕ) (h : Holding) (done at k : ℕ) (few :
       pub header-there : 4 ≤ length (part_of input at)
       header-there = omega (arith, size_low, size-high, part-size)
 
-      module _ (cells' : List ℕ) (res : Stepped) (w : (x : Record) → read_record (part_of input at) ≡ some x → Went cells h x cells' res) where
+      module _ (cells' : List ℕ) (res : Stepped) (w : (x : Record) → read_record (part_of input at) ≡ Some x → Went cells h x cells' res) where
         went : Went cells h x cells' res
         went = w x taken.was
 
         said-is : said_text k res.said ≡ reply_text k (step x (state_of cells h)).0
-        said-is = ap (said_text k) went.said-is ∙ said-text k (step x (state_of cells h)).0
+        said-is = ap (said_text k) went.said-is ∙ said-text k (step x (state_of cells h)).0 (step-told x (state_of cells h))
 
         said-short : length (said_text k res.said) ≤ 2 * record_size (part_of input at)
         said-short = omega (arith, ap (λ (l : List ℕ). length l) said-is, reply-short k k-low (part_of input at) x (state_of cells h) taken.was r.small)
@@ -226,7 +228,7 @@ module _ (input old new cells : List ℕ) (h : Holding) (done at k : ℕ) (few :
         module _ (new' : List ℕ) (done' : ℕ) (p : Put new done (said_text k res.said) new' done') (size : ℕ) (sized : size ≡ record_size (part_of input at)) where
           on : script_text k (state_of cells h) (read_all (drop at input)) ≡ said_text k res.said ++ script_text (k + 1) (state_of cells' res.holding) (read_all (drop (at + size) input))
           on =
-              let q : read_record (drop at input) ≡ some x = ap read_record (sym (part-is input at)) ∙ taken.was in
+              let q : read_record (drop at input) ≡ Some x = ap read_record (sym (part-is input at)) ∙ taken.was in
               let e : size ≡ record_size (drop at input) = sized ∙ ap record_size (part-is input at) in
               ap (script_text k (state_of cells h)) (read-record (drop at input) x q)
               ∙ script-record k (state_of cells h) x (read_all (drop (record_size (drop at input)) (drop at input)))

@@ -2,7 +2,7 @@
 use Prim.Native.Nat.{ℕ, zero, suc, ◌+◌, ◌*◌, ◌<◌, ◌≤◌}
 use mathlib.Core.Bool.{true}
 use mathlib.Core.List.{List, [], ◌∷◌, ◌++◌, append_assoc}
-use mathlib.Core.Option.{Option, none, some}
+use Rattle.std.specs.Prelude.{Option, None, Some}
 use mathlib.Core.Path.{◌≡◌, refl, sym, ap, ap₂, ◌∙◌}
 use native.Mathlib.Decide.{dec_lt}
 use native.Mathlib.Omega.{arith}
@@ -18,8 +18,9 @@ use Rattle.records.proofs.Items.{size_least, size-most}
 use Rattle.records.proofs.Reading.{was_read}
 use Rattle.session_steps.specs.State.{State, start, refusal, step, after}
 use Rattle.transcript.specs.Session.{Script, before, read_all, read_none, read_malformed, read-record, r_word, reply_text, replies, stop_text, end_text, script_text, session_text, session}
-use Rattle.transcript.specs.declared.Written.{Written}
-use Rattle.transcript.specs.declared.Written.TheVariants.{Bytes, Refused}
+use Rattle.std.specs.Prelude.{Result, Ok, Err}
+use Rattle.arena.specs.declared.Refusal.{Refusal}
+use Rattle.arena.specs.declared.Refusal.TheVariants.{OutputShort}
 use Rattle.session_steps.proofs.Bounds.{Small, small-start, step-answered}
 use Rattle.transcript.proofs.LineLengths.{stop-short, reply-short, end_short}
 use Rattle.transcript.proofs.Scripts.{script-record, script_end, script-stop}
@@ -41,10 +42,10 @@ script-bounded (suc n) bytes k s l c h = at (dec_lt 0 (length bytes)) (λ k s re
     go : 0 < length bytes → (o : Option Record) → read_record bytes ≡ o
         → ((k : ℕ) (s : State) (rest : List ℕ) → length rest ≤ n → 4 * k + length rest < 400000 → Small s → length (script_text k s (read_all rest)) ≤ 2 * length rest + 24)
         → length (script_text k s (read_all bytes)) ≤ 2 * length bytes + 24
-    go p none q f =
+    go p None q f =
         let e = ap (λ (t : List ℕ). length t) (ap (script_text k s) (read_malformed bytes p q) ∙ script-stop k s) in
         omega (arith, e, length-append (line r_word (k ∷ 9 ∷ [])) (end_text s), stop-short k low, end_short s h)
-    go p (some x) q f =
+    go p (Some x) q f =
         let rest : List ℕ = drop (record_size bytes) bytes in
         let d = length-drop (record_size bytes) bytes in
         let m = size_least bytes x q in
@@ -74,13 +75,13 @@ text-bounded bytes = go (dec_lt 65536 (length bytes))
 
 -- and output of 131,096 bytes is never too short: the call answers the text's length, and the text stands at the start
 pub never-short : (bytes output : List ℕ) → 131096 ≤ length output
-    → session bytes output ≡ (Bytes (length (session_text bytes)), session_text bytes ++ drop (length (session_text bytes)) output)
+    → session bytes output ≡ (Ok (length (session_text bytes)), session_text bytes ++ drop (length (session_text bytes)) output)
 unfolding session
 never-short bytes output l = rw (le-leb (length (session_text bytes)) (length output) (omega (arith, text-bounded bytes)))
 
-pub never-refused : (bytes output : List ℕ) → 131096 ≤ length output → (session bytes output).0 ≡ Refused 8 → ⊥
+pub never-refused : (bytes output : List ℕ) → 131096 ≤ length output → (session bytes output).0 ≡ Err OutputShort → ⊥
 never-refused bytes output l q =
-    let e : Bytes (length (session_text bytes)) ≡ Refused 8 = sym (ap (λ (o : Written × List ℕ). o.0) (never-short bytes output l)) ∙ q in
+    let e : Ok (length (session_text bytes)) ≡ Err OutputShort = sym (ap (λ (o : Result ℕ Refusal × List ℕ). o.0) (never-short bytes output l)) ∙ q in
     let z : ◌≡◌ {A = ℕ} 0 1 = cc in omega arith
 
 -- a record that is read is read the same where bytes follow
@@ -131,8 +132,8 @@ appended-within (suc n) bytes more l w = at (dec_lt 0 (length bytes)) (λ rest a
     go : 0 < length bytes → (o : Option Record) → read_record bytes ≡ o
         → ((rest : List ℕ) → length rest ≤ n → (read_all rest).whole ≡ true → read_all (rest ++ more) ≡ prefixed (read_all rest).records (read_all more))
         → read_all (bytes ++ more) ≡ prefixed (read_all bytes).records (read_all more)
-    go p none q f = absurd (true_not_false w (ap (λ (s : Script). s.whole) (read_malformed bytes p q)))
-    go p (some x) q f =
+    go p None q f = absurd (true_not_false w (ap (λ (s : Script). s.whole) (read_malformed bytes p q)))
+    go p (Some x) q f =
         let h = (was_read bytes x q).whole in
         let rest : List ℕ = drop (record_size bytes) bytes in
         let e = read-record bytes x q in

@@ -13,8 +13,9 @@ use Rattle.arena.specs.Layout.{encode as encode_nodes}
 use Rattle.session_steps.specs.State.{start}
 use Rattle.transcript.specs.Session.{read_all, r_word, end_text, script_text, session_text, session}
 use Rattle.session_steps.specs.declared.holding.Holding.{Holding}
-use Rattle.transcript.specs.declared.Written.{Written}
-use Rattle.transcript.specs.declared.Written.TheVariants.{Bytes, Refused}
+use Rattle.std.specs.Prelude.{Result, Ok, Err}
+use Rattle.arena.specs.declared.Refusal.{Refusal}
+use Rattle.arena.specs.declared.Refusal.TheVariants.{OutputShort}
 use Rattle.session_steps.proofs.Bounds.{small-start}
 use Rattle.transcript.proofs.LineLengths.{stop-short, end_short}
 use Rattle.transcript.proofs.Running.{opening, opening-fit, opening-state, last_line, last_line_lem}
@@ -63,14 +64,14 @@ module _ (old text new : List ℕ) (n : ℕ) (p : Put old 0 text new n) where
 
 -- the call: refused where the output is too short, else the text is copied
 module _ (input output old new : List ℕ) (n : ℕ) (p : Put old 0 (session_text input) new n) where
-  pub session-refused : length output < n → ◌≡◌ {A = Written × List ℕ} (Refused 8, output) (session input output)
+  pub session-refused : length output < n → ◌≡◌ {A = Result ℕ Refusal × List ℕ} (Err OutputShort, output) (session input output)
   unfolding session
   session-refused l = sym (rw (lt-leb (length (session_text input)) (length output) (omega (arith, p.past))))
 
-  pub session-done : n ≤ length output → (copied : List ℕ) → copied ≡ take n new ++ drop n output → ◌≡◌ {A = Written × List ℕ} (Bytes n, copied) (session input output)
+  pub session-done : n ≤ length output → (copied : List ℕ) → copied ≡ take n new ++ drop n output → ◌≡◌ {A = Result ℕ Refusal × List ℕ} (Ok n, copied) (session input output)
   unfolding session
   session-done l copied e =
       let m : n ≡ length (session_text input) = omega (arith, p.past) in
       let c : copied ≡ session_text input ++ drop (length (session_text input)) output = e ∙ ap (λ (t : List ℕ). t ++ drop n output) (put-starts old (session_text input) new n p) ∙ ap (λ (k : ℕ). session_text input ++ drop k output) m in
-      ap (λ (k : ℕ). (Bytes k, copied)) m ∙ ap (λ (t : List ℕ). (Bytes (length (session_text input)), t)) c
+      ap (λ (k : ℕ). (Ok k, copied)) m ∙ ap (λ (t : List ℕ). (Ok (length (session_text input)), t)) c
       ∙ sym (rw (le-leb (length (session_text input)) (length output) (omega arith)))

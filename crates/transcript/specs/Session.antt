@@ -1,6 +1,5 @@
 -- A session: input bytes to the text that is printed.
-use Rattle.std.specs.Prelude.{ℕ, zero, suc, ◌+◌, ◌<◌, ◌≤◌, Bool, true, false, List, [], ◌∷◌, ◌++◌, ◌≡◌, refl, eqb, leb, length, drop, if◌then◌else◌}
-use Rattle.std.proofs.Math.Option.{Option, none, some}
+use Rattle.std.specs.Prelude.{ℕ, zero, suc, ◌+◌, ◌<◌, ◌≤◌, Bool, true, false, List, [], ◌∷◌, ◌++◌, ◌≡◌, refl, eqb, leb, length, drop, if◌then◌else◌, Option, None, Some}
 use Rattle.std.proofs.Common.{ap, ◌∙◌, arith, eq-eqb, ne_eqb}
 use Rattle.std.proofs.lemmas.Bool.{eqb-false}
 use Rattle.std.proofs.Math.ListN.{length-drop}
@@ -9,8 +8,9 @@ use Rattle.records.specs.Record.{Record, read_record, record_size}
 use Rattle.records.proofs.Items.{size_least, size-most}
 use Rattle.session_steps.specs.State.{State, start, Reply, quiet, normal_form, equality, refusal, step, after}
 use Rattle.lines.specs.Text.{line}
-use Rattle.transcript.specs.declared.Written.{Written}
-use Rattle.transcript.specs.declared.Written.TheVariants.{Bytes, Refused}
+use Rattle.std.specs.Prelude.{Result, Ok, Err}
+use Rattle.arena.specs.declared.Refusal.{Refusal}
+use Rattle.arena.specs.declared.Refusal.TheVariants.{OutputShort}
 
 -- what some bytes hold: records, and whether they end with the last of them (else a malformed one stands after it)
 pub record Script : Type 0 where
@@ -27,8 +27,8 @@ read_from zero bytes = record { records = []; whole = true }
 read_from (suc n) bytes =
     if eqb (length bytes) 0 then record { records = []; whole = true }
     else elim (read_record bytes) [
-      | none ↦ record { records = []; whole = false }
-      | some r ↦ before r (read_from n (drop (record_size bytes) bytes))
+      | None ↦ record { records = []; whole = false }
+      | Some r ↦ before r (read_from n (drop (record_size bytes) bytes))
     ]
 
 -- the records of some bytes: a record takes at least one byte
@@ -45,15 +45,15 @@ read-enough (suc n) (suc m) bytes a b =
     go (eqb (length bytes) 0) refl (read_record bytes) refl
     (λ r l e. read-enough n m (drop (record_size bytes) bytes) (shorter r l e n a) (shorter r l e m b))
   where
-    shorter : (r : Record) → (length bytes ≡ 0 → ⊥) → read_record bytes ≡ some r → (k : ℕ) → length bytes ≤ suc k → length (drop (record_size bytes) bytes) ≤ k
+    shorter : (r : Record) → (length bytes ≡ 0 → ⊥) → read_record bytes ≡ Some r → (k : ℕ) → length bytes ≤ suc k → length (drop (record_size bytes) bytes) ≤ k
     shorter r l e k c = omega (arith, length-drop (record_size bytes) bytes, size_least bytes r e)
 
     go : (t : Bool) → eqb (length bytes) 0 ≡ t → (o : Option Record) → read_record bytes ≡ o
-        → ((r : Record) → (length bytes ≡ 0 → ⊥) → read_record bytes ≡ some r → read_from n (drop (record_size bytes) bytes) ≡ read_from m (drop (record_size bytes) bytes))
+        → ((r : Record) → (length bytes ≡ 0 → ⊥) → read_record bytes ≡ Some r → read_from n (drop (record_size bytes) bytes) ≡ read_from m (drop (record_size bytes) bytes))
         → read_from (suc n) bytes ≡ read_from (suc m) bytes
     go true e o q f = rw e
-    go false e none q f = rw (e, q, read_from)
-    go false e (some r) q f = rw (e, q, read_from, f r (eqb-false (length bytes) 0 e) q)
+    go false e None q f = rw (e, q, read_from)
+    go false e (Some r) q f = rw (e, q, read_from, f r (eqb-false (length bytes) 0 e) q)
 
 -- so: no bytes hold no record, a malformed record ends the script, and a record stands before the script of the bytes after it. Nothing after this looks at how many are enough
 pub read_none : read_all [] ≡ record { records = []; whole = true }
@@ -61,13 +61,13 @@ unfolding read_all read_from
 read_none = refl
 
 module _ (bytes : List ℕ) where
-  pub read_malformed : 0 < length bytes → read_record bytes ≡ none → read_all bytes ≡ record { records = []; whole = false }
+  pub read_malformed : 0 < length bytes → read_record bytes ≡ None → read_all bytes ≡ record { records = []; whole = false }
   unfolding read_all read_from
   read_malformed l q =
       read-enough (length bytes) (suc (length bytes)) bytes (omega arith) (omega arith)
       ∙ rw (ne_eqb (length bytes) 0 (λ z. omega arith), q, read_from)
 
-  pub read-record : (r : Record) → read_record bytes ≡ some r → read_all bytes ≡ before r (read_all (drop (record_size bytes) bytes))
+  pub read-record : (r : Record) → read_record bytes ≡ Some r → read_all bytes ≡ before r (read_all (drop (record_size bytes) bytes))
   unfolding read_all read_from
   read-record r q =
       read-enough (length bytes) (suc (length bytes)) bytes (omega arith) (omega arith)
@@ -125,7 +125,7 @@ session_text bytes =
     else line r_word (0 ∷ 9 ∷ []) ++ end_text start
 
 -- the call on lent output: 8 where the text doesn't fit, and then nothing is written; else its length, and the text at the start of the output
-unfoldable pub session : List ℕ → List ℕ → Written × List ℕ
+unfoldable pub session : List ℕ → List ℕ → Result ℕ Refusal × List ℕ
 session bytes output =
-    if leb (length (session_text bytes)) (length output) then (Bytes (length (session_text bytes)), session_text bytes ++ drop (length (session_text bytes)) output)
-    else (Refused 8, output)
+    if leb (length (session_text bytes)) (length output) then (Ok (length (session_text bytes)), session_text bytes ++ drop (length (session_text bytes)) output)
+    else (Err OutputShort, output)

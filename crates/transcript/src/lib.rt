@@ -12,23 +12,16 @@ ghost use Rattle.arena.specs.Layout.{encode};
 ghost use Rattle.session_steps.specs.State.{start};
 ghost use Rattle.transcript.specs.Session.{read_all, script_text, session_text, session as session_of};
 ghost use Rattle.lines.specs.Writing.{Put};
-ghost use Rattle.transcript.specs.Inner.{is_malformed};
 
+use arena::Refusal;
 use records::kinds::record_size;
-use records::{Item, read_record};
-use session_steps::holding::{Holding, Stepped, opened};
+use records::read_record;
+use session_steps::holding::opened;
 use session_steps::steps::step;
 use text::{put_end, put_refusal, put_said};
 
 // Output of this many bytes suffices for every session: two bytes for each byte of input, and 24 for the last lines.
 pub const ENOUGH: usize = 131096;
-
-// What a session answers: how many bytes were written, or the number of the refusal.
-#[derive(Clone, Copy)]
-pub enum Written {
-    Bytes(usize),
-    Refused(u32),
-}
 
 // The cells of an empty arena.
 fn no_nodes() -> [u32; 11265]
@@ -47,30 +40,19 @@ fn run(input: &[u8], output: &mut [u8]) -> usize
     let mut done = 0;
     let mut at = 0;
     let mut k = 1;
+    // A while: the length of each record decides where the next one starts.
     while at < input.len() {
-        let item = read_record(&input[at..]);
-        if is_malformed(item) {
+        let Ok(item) = read_record(&input[at..]) else {
             done = put_refusal(output, done, k, 9);
             return put_end(output, done, state);
-        }
+        };
         let next = step(&mut cells, state, &input[at..], item);
-        let said = next.said;
-        done = put_said(output, done, k, said);
+        done = put_said(output, done, k, next.said);
         state = next.holding;
         at += record_size(&input[at..]);
         k += 1;
     }
     put_end(output, done, state)
-}
-
-// The record is malformed.
-fn is_malformed(item: Item) -> bool
-    ensures { result ≡ is_malformed item }
-{
-    match item {
-        Item::Malformed => true,
-        _ => false,
-    }
 }
 
 // Writes the text of a session from the start of the output on, and answers its length.
@@ -90,23 +72,19 @@ fn copy(from: &[u8], n: usize, to: &mut [u8])
     requires { (n ≤ length from.now) × (n ≤ length to.old) }
     ensures { to.new ≡ take n from.now ++ drop n to.old }
 {
-    let mut i = 0;
-    while i < n {
-        to[i] = from[i];
-        i += 1;
-    }
+    to[..n].copy_from_slice(&from[..n]);
 }
 
 // Runs a session: reads records from the input and writes its lines to the output. Refusal: 8 where the output is too
 // short, and then nothing is written. Output of ENOUGH bytes is never too short.
-pub fn session(input: &[u8], output: &mut [u8]) -> Written
+pub fn session(input: &[u8], output: &mut [u8]) -> Result<usize, Refusal>
     ensures { (result, output.new) ≡ session_of input.now output.old }
 {
     let mut text = [0u8; 131096];
     let n = transcribe(input, &mut text);
     if output.len() < n {
-        return Written::Refused(8);
+        return Err(Refusal::OutputShort);
     }
     copy(&text, n, output);
-    Written::Bytes(n)
+    Ok(n)
 }

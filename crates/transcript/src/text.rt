@@ -5,6 +5,7 @@ ghost use Rattle.lines.specs.Writing.{Put, RoomFor};
 ghost use Rattle.transcript.specs.Session.{r_word, end_word, bit as bit_of};
 ghost use Rattle.transcript.specs.Inner.{said_text};
 
+use arena::Refusal;
 use arena::cells::wide;
 use lines::{put_byte, put_three, put_two};
 use session_steps::holding::{Holding, Said};
@@ -29,24 +30,27 @@ pub fn put_end(out: &mut [u8], at: usize, h: Holding) -> usize
 }
 
 // A yes is 1, a no is 0.
+#[tactic(auto, unfolding(crate::specs::Session::bit))]
 fn bit(yes: bool) -> usize
     ensures { result ≡ bit_of yes }
 {
-    if yes { 1 } else { 0 }
+    usize::from(yes)
 }
 
 // Writes what a record is answered with, by the record's number.
-pub fn put_said(out: &mut [u8], at: usize, k: usize, said: Said) -> usize
+pub fn put_said(out: &mut [u8], at: usize, k: usize, said: Result<Said, Refusal>) -> usize
     requires { RoomFor out.old at (said_text k said) }
     ensures { Put out.old at (said_text k said) out.new result }
 {
     match said {
-        Said::Quiet => at,
-        Said::NormalForm(e, r) => put_two(out, at, 110, wide(e), wide(r)),
-        Said::Equality(a, b, yes) => {
-            let next = put_byte(out, at, 113);
-            put_three(out, next, wide(a), wide(b), bit(yes))
-        }
-        Said::Refused(number) => put_refusal(out, at, k, wide(number)),
+        Ok(what) => match what {
+            Said::Quiet => at,
+            Said::NormalForm(e, r) => put_two(out, at, 110, wide(e), wide(r)),
+            Said::Equality(a, b, yes) => {
+                let next = put_byte(out, at, 113);
+                put_three(out, next, wide(a), wide(b), bit(yes))
+            }
+        },
+        Err(why) => put_refusal(out, at, k, wide(u32::from(why))),
     }
 }

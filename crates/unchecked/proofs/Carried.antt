@@ -9,11 +9,12 @@ use borrow.Author.Tests.{leb-true}
 use lib.Dec.{leb}
 use lib.ListN.{length}
 use Rattle.laws.proofs.Booleans.{and_left, and_right}
+use Rattle.arena.specs.Refusals.{refusal}
 use Rattle.classes.specs.Class.{Class}
 use Rattle.classes.specs.Group.{total}
 use Rattle.classes.specs.Steps.{Outcome, fits, judged, refused}
 use Rattle.classes.specs.Layout.{encode, decode}
-use Rattle.classes.specs.Calls.{changed}
+use Rattle.classes.specs.Calls.{changed, answer_of}
 use Rattle.classes.specs.Inner.{Coded}
 use Rattle.classes.specs.declared.Group.{Group}
 use Rattle.classes.specs.declared.Changed.{Changed}
@@ -25,16 +26,6 @@ use Rattle.lent_classes.proofs.ListCounts.{fits-few, fits-small}
 use Rattle.group_states.specs.Inner.{GroupFits, FitsIfDone}
 use Rattle.state_laws.proofs.GroupFit.{encode-fits}
 use Rattle.answers.specs.Answers.{on_first}
-use Rattle.group_answers.specs.Answers.{bit}
-
--- a yes and a no as numbers
-pub bit_yes : (b : Bool) → b ≡ true → 1 ≡ bit b
-unfolding bit
-bit_yes b e = rw e
-
-pub bit_no : (b : Bool) → b ≡ false → 0 ≡ bit b
-unfolding bit
-bit_no b e = rw e
 
 -- an answer that is put into numbers, beside what its call left in memory
 pub put_first : {A B : Type 0} (f : A → B) (a : A) (b : B) (s : List ℕ) (o : A × List ℕ) → b ≡ f a → (a, s) ≡ o → (b, s) ≡ on_first f o
@@ -43,7 +34,7 @@ put_first {A} {B} f a b s o e q = ap (λ (x : B). (x, s)) e ∙ ap (on_first f) 
 
 -- a step that is judged fits its cells, unless it is refused
 pub judged-fits : (limit : ℕ) (cs : List Class) (o : Bool × List Class) → limit ≤ 256 → FitsIfDone (changed limit (judged limit cs o))
-unfolding changed judged refused fits
+unfolding changed answer_of judged refused fits refusal
 judged-fits limit cs o high = go (fits limit o.1) refl
   where
     out : Bool → Outcome

@@ -33,11 +33,14 @@ ghost use Rattle.dependency_orderings.specs.Inner.{KeysFit};
 ghost use Rattle.group_states.specs.Groups.{group_from, stored_group};
 ghost use Rattle.states.specs.Orders.{orderings_from, stored_list};
 ghost use Rattle.states.specs.Maps.{map_from};
-ghost use Rattle.answers.specs.Answers.{on_first, enumerated_in};
-ghost use Rattle.group_answers.specs.Answers.{added_in, bit};
+ghost use Rattle.answers.specs.Answers.{on_first, enumerated_in, bit};
+ghost use Rattle.group_answers.specs.Answers.{added_in};
 
-use answers::put_enumerated;
+use answers::{bit_of, put_enumerated};
+use arena::Refusal;
 use conditions::equating::equal_condition_in;
+use dependencies::DependencyMap;
+use dependency_orderings::Enumerated;
 use dependency_orderings::answering::answer_gathered;
 use dependency_orderings::gathering::gather;
 use group_answers::put_added;
@@ -69,11 +72,7 @@ pub fn unchecked_exprs_equal(arena: &[u32; 11265], group: &[u32; 451], left: u32
     requires { (Known arena.now left × Known arena.now right) × Coded (group_from group.now) }
     ensures { result ≡ bit (exprs_equal (nodes arena.now) (decode (group_from group.now)) left right) }
 {
-    if equal_in(arena, load_group(group), left, right) {
-        1
-    } else {
-        0
-    }
+    bit_of(equal_in(arena, load_group(group), left, right))
 }
 
 // The normal form of an expression.
@@ -108,6 +107,14 @@ pub fn unchecked_add_orderings(orderings: &mut [u16; 545], numbers: &[u16]) -> u
     store_orderings(listed, orderings)
 }
 
+// The enumeration over some keys of a map.
+fn enumerate(map: DependencyMap, keys: &[u32], output: &mut [u16]) -> Result<Enumerated, Refusal>
+    requires { HeldMap map × KeysFit keys.now }
+    ensures { (result, output.new) ≡ gathered_answer (contributing (entries_of map) (different keys.now)) (length (different keys.now)) output.old }
+{
+    answer_gathered(gather(map, keys)?, output)
+}
+
 // Enumerates the orderings of some keys.
 pub fn unchecked_generate_dependency_orderings(
     map: &[u16; 1217],
@@ -118,6 +125,6 @@ pub fn unchecked_generate_dependency_orderings(
     requires { HeldMap (map_from map.now) × KeysFit keys.now }
     ensures { ((result, answer.new), output.new) ≡ on_first (enumerated_in answer.old) (gathered_answer (contributing (entries_of (map_from map.now)) (different keys.now)) (length (different keys.now)) output.old) }
 {
-    let enumerated = answer_gathered(gather(load_map(map), keys), output);
+    let enumerated = enumerate(load_map(map), keys, output);
     put_enumerated(enumerated, answer)
 }

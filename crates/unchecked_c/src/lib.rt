@@ -32,8 +32,8 @@ ghost use Rattle.dependency_orderings.specs.Inner.{KeysFit};
 ghost use Rattle.group_states.specs.Groups.{group_from, stored_group};
 ghost use Rattle.states.specs.Orders.{orderings_from, stored_list};
 ghost use Rattle.states.specs.Maps.{map_from};
-ghost use Rattle.answers.specs.Answers.{on_first, enumerated_in};
-ghost use Rattle.group_answers.specs.Answers.{added_in, bit};
+ghost use Rattle.answers.specs.Answers.{on_first, enumerated_in, bit};
+ghost use Rattle.group_answers.specs.Answers.{added_in};
 
 // Two expressions are equal.
 #[unsafe(no_mangle)]

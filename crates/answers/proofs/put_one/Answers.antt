@@ -7,4 +7,4 @@ use Rattle.answers.proofs.put_one.Goals as goal
 
 pub returns : goal.returns
 unfolding ordering_cells
-returns c = sym (take_all 17 c.put_ordering.new.cells (omega (arith, c.put_ordering.auto.cells, c.put_ordering-arg-1.given.0.1))) ∙ c.put_ordering.ensures
+returns c = sym (take_all 17 c.put_ordering.new.cells (omega (arith, c.put_ordering.auto.cells, c.told-answer))) ∙ c.put_ordering.ensures

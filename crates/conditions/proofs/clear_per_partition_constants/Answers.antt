@@ -2,15 +2,16 @@
 use mathlib.Core.Path.{◌≡◌, sym, ◌∙◌}
 use borrow.Author.Rules.{rules}
 use lib.ListN.{length}
+use Rattle.arena.proofs.Refusals.{done-zero}
 use Rattle.group_checks.proofs.HeldLaws.{number-held}
 use Rattle.classes.proofs.Judging.{refusal_is}
 use Rattle.group_checks.proofs.Calling.{group-done, group-refused}
 use Rattle.conditions.specs.Steps.{clear}
 use Rattle.conditions.proofs.clear_per_partition_constants.Goals as goal
 
-pub returns-then-number-ne0 : goal.returns-then-number-ne0
-returns-then-number-ne0 c =
-    refusal_is c.refusal.result c.check_group-number.result c.args.group c.refusal.ensures ∙ group-refused c.args.cells.now c.args.group (λ ns cs. clear cs) c.check_group-number.result c.check_group-number.ensures c.if-number-ne0.true
+pub returns-in-Err : goal.returns-in-Err
+returns-in-Err c =
+    refusal_is c.refusal.result c.in-Err.why c.args.group c.refusal.ensures ∙ group-refused c.args.cells.now c.args.group (λ ns cs. clear cs) c.in-Err.why (sym c.check_group.ensures ∙ c.in-Err.is)
 
 pub clear_in-requires : goal.clear_in-requires
 clear_in-requires c =
@@ -18,9 +19,9 @@ clear_in-requires c =
     let fl : length c.args.group.flavours ≡ 64 = search rules in
     let vl : length c.args.group.values ≡ 64 = search rules in
     let mm : length c.args.group.members ≡ 256 = search rules in
-    let h = number-held c.args.cells.now c.args.group sz fl vl mm (sym c.check_group-number.ensures ∙ c.if-number-ne0.false) in
+    let h = number-held c.args.cells.now c.args.group sz fl vl mm (done-zero _ (sym c.check_group.ensures ∙ c.in_default.is)) in
     h.coded
 
 pub returns : goal.returns
 returns c =
-    c.clear_in.ensures ∙ sym (group-done c.args.cells.now c.args.group (λ ns cs. clear cs) (sym c.check_group-number.ensures ∙ c.if-number-ne0.false))
+    c.clear_in.ensures ∙ sym (group-done c.args.cells.now c.args.group (λ ns cs. clear cs) (sym c.check_group.ensures ∙ c.in_default.is))

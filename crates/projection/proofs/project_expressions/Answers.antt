@@ -1,7 +1,12 @@
 -- `projection::project_expressions` meets its contract.
 use Prim.Native.Nat.{ℕ}
 use mathlib.Core.Bool.{true, false}
-use mathlib.Core.Path.{◌≡◌, sym, ◌∙◌}
+use mathlib.Core.List.{List}
+use mathlib.Core.Path.{◌≡◌, refl, sym, ap, ◌∙◌}
+use Rattle.std.specs.Prelude.{Result}
+use borrow.Author.Tests.{eqb-false}
+use Rattle.arena.specs.declared.Refusal.{Refusal}
+use Rattle.arena.specs.Refusals.{outcome, refusal}
 use lib.ListN.{length}
 use Rattle.arena.specs.Layout.{count}
 use Rattle.group_checks.proofs.HeldLaws.{number-held}
@@ -9,29 +14,38 @@ use Rattle.normal.proofs.Calling.{checked_refused}
 use Rattle.mappings.specs.Lent.{mapping_lent}
 use Rattle.mappings.specs.Calls.{project_number}
 use Rattle.mappings.proofs.MappingChecked.{mapping-whole, group-passes}
-use Rattle.projection.specs.Calls.{project_expressions}
+use Rattle.projection.specs.Calls.{project_expressions, told_list}
+use Rattle.arena.proofs.Refusals.{done-zero, err-refusal, handed-on}
 use Rattle.projection.proofs.CallLaws.{all_below, each_below, lent-holds, lent-checked, exprs-unknown, exprs-known}
 use borrow.Author.Rules.{rules}
 use Rattle.projection.proofs.project_expressions.Goals as goal
 
-pub returns-then-number-ne0 : goal.returns-then-number-ne0
-returns-then-number-ne0 c =
-    rw c.project_number-number.ensures
-    (checked_refused (project_number c.args.cells.now c.args.group c.args.mapping.now) (λ (k : ℕ). (k, c.args.out.now)) (project_expressions c.args.exprs.now c.args.out.now (mapping_lent c.args.mapping.now)) c.args.cells.now c.args.group (λ w. c.if-number-ne0.true (c.project_number-number.ensures ∙ w)))
+-- an answer, the output and the cells
+abbrev Told : Type 0
+Told = (Result (Unit {0}) Refusal × List ℕ) × List ℕ
+
+pub returns-in_err-project_number : goal.returns-in_err-project_number
+returns-in_err-project_number c =
+    let x = c.args in
+    let n = project_number x.cells.now x.group x.mapping.now in
+    let h = sym c.project_number.ensures ∙ c.in_err-project_number.was in
+    ap {B = Told} (λ (r : Result (Unit {0}) Refusal). ((r, x.out.now), x.cells.now)) (handed-on _ _ c.from_residual.ensures.1 ∙ sym h)
+    ∙ ap told_list (checked_refused n (λ (k : ℕ). (k, x.out.now)) (project_expressions x.exprs.now x.out.now (mapping_lent x.mapping.now)) x.cells.now x.group (eqb-false n 0 (err-refusal _ _ h).0))
 
 pub returns-then-not-all_below : goal.returns-then-not-all_below
+unfolding outcome refusal
 returns-then-not-all_below c =
-    let z = sym c.project_number-number.ensures ∙ c.if-number-ne0.false in
+    let z = done-zero _ (sym c.project_number.ensures ∙ c.in_ok-project_number.was) in
     let t : all_below c.args.exprs.now (count c.args.cells.now) ≡ false = sym (rw c.node_count.ensures at c.all_below.ensures) ∙ c.if-not-all_below.true in
-    exprs-unknown c.args.cells.now c.args.mapping.now c.args.group z c.args.exprs.now c.args.out.now t
+    ap told_list (exprs-unknown c.args.cells.now c.args.mapping.now c.args.group z c.args.exprs.now c.args.out.now t)
 
 pub read_mapping-requires : goal.read_mapping-requires
 read_mapping-requires c =
-    mapping-whole c.args.cells.now c.args.mapping.now c.args.group (sym c.project_number-number.ensures ∙ c.if-number-ne0.false)
+    mapping-whole c.args.cells.now c.args.mapping.now c.args.group (done-zero _ (sym c.project_number.ensures ∙ c.in_ok-project_number.was))
 
 pub project_list-requires : goal.project_list-requires
 project_list-requires c =
-    let z = sym c.project_number-number.ensures ∙ c.if-number-ne0.false in
+    let z = done-zero _ (sym c.project_number.ensures ∙ c.in_ok-project_number.was) in
     let sz : length c.args.group.sizes ≡ 64 = search rules in
     let fl : length c.args.group.flavours ≡ 64 = search rules in
     let vl : length c.args.group.values ≡ 64 = search rules in
@@ -44,8 +58,8 @@ project_list-requires c =
 
 pub returns : goal.returns
 returns c =
-    let z = sym c.project_number-number.ensures ∙ c.if-number-ne0.false in
+    let z = done-zero _ (sym c.project_number.ensures ∙ c.in_ok-project_number.was) in
     let t : all_below c.args.exprs.now (count c.args.cells.now) ≡ true = sym (rw c.node_count.ensures at c.all_below.ensures) ∙ c.if-not-all_below.false in
     let m = c.read_mapping in
     let w = c.project_list in
-    exprs-known c.args.cells.now c.args.mapping.now c.args.group z c.args.exprs.now c.args.out.now t m.result m.ensures.0 ((w.result, w.new.out), w.new.cells) w.ensures
+    w.ensures ∙ ap told_list (exprs-known c.args.cells.now c.args.mapping.now c.args.group z c.args.exprs.now c.args.out.now t m.result m.ensures.0 _ refl)

@@ -1,5 +1,5 @@
 -- `records::chosen` meets its contract.
-use mathlib.Core.Option.{none}
+use Rattle.std.specs.Prelude.{None}
 use mathlib.Core.Path.{◌≡◌}
 use Rattle.records.specs.Chosen.{side_of, chosen_part, part_of}
 use Rattle.records.proofs.Choices.{side-low, side_left, side_right, side-high}
@@ -22,7 +22,7 @@ unfolding chosen_part part_of
 returns-in_default c =
     let l = c.args.left.now in
     let r = c.args.right.now in
-    let e : side_of c.args.kind l r ≡ none = elim c.in_default.branch [
+    let e : side_of c.args.kind l r ≡ None = elim c.in_default.branch [
       | in_default-via-then-kind-lt4 w ↦ side-low c.args.kind l r (omega arith)
       | in_default-via-else-kind-lt4+else-kind-lt7+else-kind-lt10 w ↦ side-high c.args.kind l r (omega arith)
     ] in

@@ -1,4 +1,5 @@
 -- `records::chosen_number` meets its contract.
+use Rattle.arena.specs.Refusals.{outcome, refusal}
 use Rattle.records.specs.Chosen.{chosen_number, number_of}
 use Rattle.records.proofs.Choices.{side-low, side_left, side_right, side-high}
 use native.Mathlib.Omega.{arith}
@@ -15,11 +16,11 @@ returns-in-7-to-9 c =
     rw (side_right c.args.kind c.args.left.now c.args.right.now (omega arith) (omega arith)) c.group_number-in-7-to-9.ensures
 
 pub returns-in_default : goal.returns-in_default
-unfolding chosen_number number_of
+unfolding chosen_number number_of outcome refusal
 returns-in_default c =
     rw (side-low c.args.kind c.args.left.now c.args.right.now (omega arith))
 
 pub returns-in_default-2 : goal.returns-in_default-2
-unfolding chosen_number number_of
+unfolding chosen_number number_of outcome refusal
 returns-in_default-2 c =
     rw (side-high c.args.kind c.args.left.now c.args.right.now (omega arith))

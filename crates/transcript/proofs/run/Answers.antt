@@ -14,19 +14,19 @@ slice_bounds-read_record-count c =
 
 pub put_refusal-done-requires : goal.put_refusal-done-requires
 put_refusal-done-requires c =
-    stop-room c.args.input.now c.args.output.now c.loop-at.output c.loop-at.cells c.loop-at.state c.loop-at.done c.loop-at.at c.loop-at.k c.requires.0 c.requires.1 c.loop-at.invariant c.loop-at-test.true c.read_record-item.result c.read_record-item.ensures (sym c.is_malformed.ensures ∙ c.if-is_malformed.true)
+    stop-room c.args.input.now c.args.output.now c.loop-at.output c.loop-at.cells c.loop-at.state c.loop-at.done c.loop-at.at c.loop-at.k c.requires.0 c.requires.1 c.loop-at.invariant c.loop-at-test.true c.read_record.result c.read_record.ensures _ c.in_default.is
 
 pub put_end-requires : goal.put_end-requires
 put_end-requires c =
-    stop_end_room c.args.input.now c.args.output.now c.loop-at.output c.loop-at.cells c.loop-at.state c.loop-at.done c.loop-at.at c.loop-at.k c.requires.0 c.requires.1 c.loop-at.invariant c.loop-at-test.true c.read_record-item.result c.read_record-item.ensures (sym c.is_malformed.ensures ∙ c.if-is_malformed.true) c.put_refusal-done.new.out c.put_refusal-done.result c.put_refusal-done.ensures
+    stop_end_room c.args.input.now c.args.output.now c.loop-at.output c.loop-at.cells c.loop-at.state c.loop-at.done c.loop-at.at c.loop-at.k c.requires.0 c.requires.1 c.loop-at.invariant c.loop-at-test.true c.read_record.result c.read_record.ensures _ c.in_default.is c.put_refusal-done.new.out c.put_refusal-done.result c.put_refusal-done.ensures
 
-pub shape_of-output-then-is_malformed : goal.shape_of-output-then-is_malformed
-shape_of-output-then-is_malformed c =
-    stop-length c.args.input.now c.args.output.now c.loop-at.output c.loop-at.cells c.loop-at.state c.loop-at.done c.loop-at.at c.loop-at.k c.requires.0 c.requires.1 c.loop-at.invariant c.loop-at-test.true c.read_record-item.result c.read_record-item.ensures (sym c.is_malformed.ensures ∙ c.if-is_malformed.true) c.put_refusal-done.new.out c.put_refusal-done.result c.put_refusal-done.ensures c.put_end.new.out c.put_end.result c.put_end.ensures
+pub shape_of-output-in_default : goal.shape_of-output-in_default
+shape_of-output-in_default c =
+    stop-length c.args.input.now c.args.output.now c.loop-at.output c.loop-at.cells c.loop-at.state c.loop-at.done c.loop-at.at c.loop-at.k c.requires.0 c.requires.1 c.loop-at.invariant c.loop-at-test.true c.read_record.result c.read_record.ensures _ c.in_default.is c.put_refusal-done.new.out c.put_refusal-done.result c.put_refusal-done.ensures c.put_end.new.out c.put_end.result c.put_end.ensures
 
-pub returns-then-is_malformed : goal.returns-then-is_malformed
-returns-then-is_malformed c =
-    run-stops c.args.input.now c.args.output.now c.loop-at.output c.loop-at.cells c.loop-at.state c.loop-at.done c.loop-at.at c.loop-at.k c.requires.0 c.requires.1 c.loop-at.invariant c.loop-at-test.true c.read_record-item.result c.read_record-item.ensures (sym c.is_malformed.ensures ∙ c.if-is_malformed.true) c.put_refusal-done.new.out c.put_refusal-done.result c.put_refusal-done.ensures c.put_end.new.out c.put_end.result c.put_end.ensures
+pub returns-in_default : goal.returns-in_default
+returns-in_default c =
+    run-stops c.args.input.now c.args.output.now c.loop-at.output c.loop-at.cells c.loop-at.state c.loop-at.done c.loop-at.at c.loop-at.k c.requires.0 c.requires.1 c.loop-at.invariant c.loop-at-test.true c.read_record.result c.read_record.ensures _ c.in_default.is c.put_refusal-done.new.out c.put_refusal-done.result c.put_refusal-done.ensures c.put_end.new.out c.put_end.result c.put_end.ensures
 
 pub slice_bounds-step-count : goal.slice_bounds-step-count
 slice_bounds-step-count c =
@@ -34,11 +34,11 @@ slice_bounds-step-count c =
 
 pub step-next-requires : goal.step-next-requires
 step-next-requires c =
-    (c.loop-at.invariant.fit, c.read_record-item.ensures)
+    (c.loop-at.invariant.fit, sym c.in-Ok.is ∙ c.read_record.ensures)
 
 pub put_said-done-requires : goal.put_said-done-requires
 put_said-done-requires c =
-    said-room c.args.input.now c.args.output.now c.loop-at.output c.loop-at.cells c.loop-at.state c.loop-at.done c.loop-at.at c.loop-at.k c.requires.0 c.requires.1 c.loop-at.invariant c.loop-at-test.true c.read_record-item.result c.read_record-item.ensures (sym c.is_malformed.ensures ∙ c.if-is_malformed.false) c.step-next.new.cells c.step-next.result c.step-next.ensures
+    said-room c.args.input.now c.args.output.now c.loop-at.output c.loop-at.cells c.loop-at.state c.loop-at.done c.loop-at.at c.loop-at.k c.requires.0 c.requires.1 c.loop-at.invariant c.loop-at-test.true c.read_record.result c.read_record.ensures _ c.in-Ok.is c.step-next.new.cells c.step-next.result c.step-next.ensures
 
 pub slice_bounds-record_size-count : goal.slice_bounds-record_size-count
 slice_bounds-record_size-count c =
@@ -46,11 +46,11 @@ slice_bounds-record_size-count c =
 
 pub record_size-at-requires : goal.record_size-at-requires
 record_size-at-requires c =
-    header-there c.args.input.now c.args.output.now c.loop-at.output c.loop-at.cells c.loop-at.state c.loop-at.done c.loop-at.at c.loop-at.k c.requires.0 c.requires.1 c.loop-at.invariant c.loop-at-test.true c.read_record-item.result c.read_record-item.ensures (sym c.is_malformed.ensures ∙ c.if-is_malformed.false)
+    header-there c.args.input.now c.args.output.now c.loop-at.output c.loop-at.cells c.loop-at.state c.loop-at.done c.loop-at.at c.loop-at.k c.requires.0 c.requires.1 c.loop-at.invariant c.loop-at-test.true c.read_record.result c.read_record.ensures _ c.in-Ok.is
 
 pub overflow_add-at : goal.overflow_add-at
 overflow_add-at c =
-    omega (arith, c.record_size-at.ensures, size-high c.args.input.now c.args.output.now c.loop-at.output c.loop-at.cells c.loop-at.state c.loop-at.done c.loop-at.at c.loop-at.k c.requires.0 c.requires.1 c.loop-at.invariant c.loop-at-test.true c.read_record-item.result c.read_record-item.ensures (sym c.is_malformed.ensures ∙ c.if-is_malformed.false), c.requires.0)
+    omega (arith, c.record_size-at.ensures, size-high c.args.input.now c.args.output.now c.loop-at.output c.loop-at.cells c.loop-at.state c.loop-at.done c.loop-at.at c.loop-at.k c.requires.0 c.requires.1 c.loop-at.invariant c.loop-at-test.true c.read_record.result c.read_record.ensures _ c.in-Ok.is, c.requires.0)
 
 pub overflow_add-k : goal.overflow_add-k
 overflow_add-k c =
@@ -58,11 +58,11 @@ overflow_add-k c =
 
 pub loop-at-smaller : goal.loop-at-smaller
 loop-at-smaller c =
-    omega (arith, c.loop-at-test.true, c.record_size-at.ensures, size_low c.args.input.now c.args.output.now c.loop-at.output c.loop-at.cells c.loop-at.state c.loop-at.done c.loop-at.at c.loop-at.k c.requires.0 c.requires.1 c.loop-at.invariant c.loop-at-test.true c.read_record-item.result c.read_record-item.ensures (sym c.is_malformed.ensures ∙ c.if-is_malformed.false))
+    omega (arith, c.loop-at-test.true, c.record_size-at.ensures, size_low c.args.input.now c.args.output.now c.loop-at.output c.loop-at.cells c.loop-at.state c.loop-at.done c.loop-at.at c.loop-at.k c.requires.0 c.requires.1 c.loop-at.invariant c.loop-at-test.true c.read_record.result c.read_record.ensures _ c.in-Ok.is)
 
 pub loop-at-preserved : goal.loop-at-preserved
 loop-at-preserved c =
-    run-goes_on c.args.input.now c.args.output.now c.loop-at.output c.loop-at.cells c.loop-at.state c.loop-at.done c.loop-at.at c.loop-at.k c.requires.0 c.requires.1 c.loop-at.invariant c.loop-at-test.true c.read_record-item.result c.read_record-item.ensures (sym c.is_malformed.ensures ∙ c.if-is_malformed.false) c.step-next.new.cells c.step-next.result c.step-next.ensures c.put_said-done.new.out c.put_said-done.result c.put_said-done.ensures c.record_size-at.result c.record_size-at.ensures
+    run-goes_on c.args.input.now c.args.output.now c.loop-at.output c.loop-at.cells c.loop-at.state c.loop-at.done c.loop-at.at c.loop-at.k c.requires.0 c.requires.1 c.loop-at.invariant c.loop-at-test.true c.read_record.result c.read_record.ensures _ c.in-Ok.is c.step-next.new.cells c.step-next.result c.step-next.ensures c.put_said-done.new.out c.put_said-done.result c.put_said-done.ensures c.record_size-at.result c.record_size-at.ensures
 
 pub put_end-requires-2 : goal.put_end-requires-2
 put_end-requires-2 c =

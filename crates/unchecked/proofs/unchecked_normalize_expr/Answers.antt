@@ -1,4 +1,5 @@
 -- `unchecked::unchecked_normalize_expr` meets its contract.
+use Rattle.arena.specs.Refusals.{Added}
 use mathlib.Core.List.{List}
 use mathlib.Core.Path.{sym, ap, subst, ◌∙◌}
 use Prim.Native.Nat.{ℕ}
@@ -6,7 +7,6 @@ use Rattle.arena.specs.Arena.{add_expression}
 use Rattle.arena.specs.Calls.{in_cells, answered}
 use Rattle.arena.specs.Expression.{expression_at}
 use Rattle.arena.specs.Layout.{decode as nodes}
-use Rattle.arena.specs.declared.Added.{Added}
 use Rattle.classes.specs.Inner.{Held}
 use Rattle.classes.specs.Layout.{decode}
 use Rattle.classes.specs.declared.Group.{Group}

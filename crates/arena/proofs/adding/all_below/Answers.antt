@@ -1,24 +1,9 @@
 -- `arena::adding::all_below` meets its contract.
-use native.Mathlib.Omega.{arith}
-use lib.ListN.{length, get_or}
-use borrow.Author.Tests.{lt-ltb, le-ltb}
-use Rattle.laws.proofs.Each.{each_none, each_more, each-stops, each-ends}
-use borrow.Author.Rules.{rules}
-use Rattle.arena.proofs.adding.all_below.Invariants.{Below}
+use Rattle.std.proofs.Common.{rules, tests, ltb}
+use Rattle.std.proofs.lemmas.Iterator.{YieldsList-from_slice}
+use Rattle.laws.proofs.Runs.{each-list}
 use Rattle.arena.proofs.adding.all_below.Goals as goal
-
-pub loop-k-init : goal.loop-k-init
-loop-k-init c =
-    (search rules, each_none (Below c.args.numbers.now c.args.n))
-
-pub returns-then-n-wide : goal.returns-then-n-wide
-returns-then-n-wide c =
-    each-stops (Below c.args.numbers.now c.args.n) (length c.args.numbers.now) c.loop-k.k (search rules) (le-ltb (get_or c.args.numbers.now c.loop-k.k 0) c.args.n (omega (arith, c.wide.ensures)))
-
-pub loop-k-preserved : goal.loop-k-preserved
-loop-k-preserved c =
-    (search rules, each_more (Below c.args.numbers.now c.args.n) c.loop-k.k c.loop-k.invariant.1 (lt-ltb (get_or c.args.numbers.now c.loop-k.k 0) c.args.n (omega (arith, c.wide.ensures))))
 
 pub returns : goal.returns
 returns c =
-    each-ends (Below c.args.numbers.now c.args.n) (length c.args.numbers.now) c.loop-k.k (search rules) (search rules) c.loop-k.invariant.1
+    each-list (λ x. ltb x c.args.n) _ _ _ c.all.ensures.ran (YieldsList-from_slice c.args.numbers.now cc) (λ x b q k. search (rules, tests))

@@ -1,14 +1,11 @@
 -- `arena::adding::operation_row` meets its contract.
-use mathlib.Core.Path.{◌∙◌}
-use borrow.Author.Rules.{rules}
-use Rattle.arena.proofs.Writing.{begun_more, begun-done}
+use Rattle.std.proofs.Common.{◌+◌, ◌-◌, ◌≡◌, ℕ, List, ◌∷◌, ◌++◌, length, ap, arith}
+use Rattle.std.proofs.lemmas.List.{drop-replicate}
+use Rattle.arena.specs.Layout.{row}
 use Rattle.arena.proofs.adding.operation_row.Goals as goal
 
-pub loop-k-preserved : goal.loop-k-preserved
-loop-k-preserved c =
-    let l = c.loop-k in
-    (search rules, rw l.invariant.1 (begun_more c.args.label c.args.children.now c.requires l.k (search rules)))
-
 pub returns : goal.returns
+unfolding row
 returns c =
-    c.loop-k.invariant.1 ∙ begun-done c.args.label c.args.children.now c.requires c.loop-k.k (search rules) (search rules)
+    let e : 3 + length c.args.children.now - 3 ≡ length c.args.children.now = omega arith in
+    rw (e, c.copy_from_slice.ensures.after) (ap {B = List ℕ} (λ (t : List ℕ). 3 ∷ c.args.label ∷ length c.args.children.now ∷ (c.args.children.now ++ t)) (drop-replicate (length c.args.children.now) 8 0))

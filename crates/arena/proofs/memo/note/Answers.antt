@@ -6,14 +6,14 @@ use Rattle.arena.proofs.memo.note.Goals as goal
 
 pub overflow_add-memo : goal.overflow_add-memo
 overflow_add-memo c =
-    omega (arith, c.requires.1 c.in-Number.i c.in-Number.is)
+    omega (arith, c.requires.1 c.in-Ok.i c.in-Ok.is)
 
-pub returns-in-Number : goal.returns-in-Number
+pub returns-in-Ok : goal.returns-in-Ok
 unfolding noted
-returns-in-Number c =
-    sym (ap (noted c.args.memo.now c.args.e) c.in-Number.is)
+returns-in-Ok c =
+    sym (ap (noted c.args.memo.now c.args.e) c.in-Ok.is)
 
-pub returns-in-Refused : goal.returns-in-Refused
+pub returns-in-Err : goal.returns-in-Err
 unfolding noted
-returns-in-Refused c =
-    sym (ap (noted c.args.memo.now c.args.e) c.in-Refused.is)
+returns-in-Err c =
+    sym (ap (noted c.args.memo.now c.args.e) c.in-Err.is)

@@ -1,14 +1,14 @@
 -- `arena::memo::refused` meets its contract.
-use mathlib.Core.Path.{sym, ap}
+use Rattle.std.proofs.Common.{◌≡◌, ◌∙◌, refl}
+use Rattle.std.specs.Prelude.{Ok, Err, is_err}
+use Rattle.arena.specs.Refusals.{Added}
 use Rattle.arena.specs.Inner.{is_refused}
 use Rattle.arena.proofs.memo.refused.Goals as goal
 
-pub returns-in-Number : goal.returns-in-Number
+is-err : (answer : Added) → is_err answer ≡ is_refused answer
 unfolding is_refused
-returns-in-Number c =
-    sym (ap is_refused c.in-Number.is)
+is-err (Ok i) = refl
+is-err (Err e) = refl
 
-pub returns-in-Refused : goal.returns-in-Refused
-unfolding is_refused
-returns-in-Refused c =
-    sym (ap is_refused c.in-Refused.is)
+pub returns : goal.returns
+returns c = c.is_err.ensures.value ∙ is-err c.args.answer

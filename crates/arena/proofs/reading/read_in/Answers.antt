@@ -1,5 +1,5 @@
 -- `arena::reading::read_in` meets its contract.
-use mathlib.Core.Path.{sym, ◌∙◌}
+use mathlib.Core.Path.{◌≡◌, sym, ◌∙◌}
 use native.Mathlib.Omega.{arith}
 use Rattle.arena.proofs.NodeCells.{read-column, read-literal, read-operation}
 use Rattle.arena.proofs.reading.read_in.Goals as goal
@@ -12,18 +12,18 @@ pub cell_of-payload-requires : goal.cell_of-payload-requires
 cell_of-payload-requires c =
     omega (arith, c.requires.below, c.requires.holds.few)
 
-pub returns-then-kind-eq1 : goal.returns-then-kind-eq1
-returns-then-kind-eq1 c =
-    rw (read-column c.args.cells.now c.args.e c.requires (sym c.cell_of-kind.ensures ∙ c.if-kind-eq1.true), c.cell_of-payload.ensures)
+pub returns-in-1 : goal.returns-in-1
+returns-in-1 c =
+    rw (read-column c.args.cells.now c.args.e c.requires (sym c.cell_of-kind.ensures ∙ c.in-1.is), c.cell_of-payload.ensures)
 
-pub returns-then-kind-eq2 : goal.returns-then-kind-eq2
-returns-then-kind-eq2 c =
-    rw (read-literal c.args.cells.now c.args.e c.requires (sym c.cell_of-kind.ensures ∙ c.if-kind-eq2.true), c.cell_of-payload.ensures)
+pub returns-in-2 : goal.returns-in-2
+returns-in-2 c =
+    rw (read-literal c.args.cells.now c.args.e c.requires (sym c.cell_of-kind.ensures ∙ c.in-2.is), c.cell_of-payload.ensures)
 
 pub cell_of-requires : goal.cell_of-requires
 cell_of-requires c =
     omega (arith, c.requires.below, c.requires.holds.few)
 
-pub returns : goal.returns
-returns c =
-    rw (read-operation c.args.cells.now c.args.e c.requires (λ q. c.if-kind-eq1.false (c.cell_of-kind.ensures ∙ q)) (λ q. c.if-kind-eq2.false (c.cell_of-kind.ensures ∙ q)), c.cell_of-payload.ensures, c.cell_of.ensures)
+pub returns-in_default : goal.returns-in_default
+returns-in_default c =
+    rw (read-operation c.args.cells.now c.args.e c.requires (λ q. let k : c.cell_of-kind.result ≡ 1 = c.cell_of-kind.ensures ∙ q in omega arith) (λ q. let k : c.cell_of-kind.result ≡ 2 = c.cell_of-kind.ensures ∙ q in omega arith), c.cell_of-payload.ensures, c.cell_of.ensures)

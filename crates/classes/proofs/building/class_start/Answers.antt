@@ -1,10 +1,7 @@
 -- `classes::building::class_start` meets its contract.
-use Prim.Native.Nat.{◌+◌}
-use mathlib.Core.Path.{◌≡◌, sym}
-use native.Mathlib.Omega.{arith}
+use Rattle.std.proofs.Common.{◌+◌, ◌≡◌, sym, arith, rules}
 use Rattle.classes.specs.Layout.{sum_to}
 use Rattle.classes.proofs.Numbers.{sum-next, sum_more}
-use borrow.Author.Rules.{rules}
 use Rattle.classes.proofs.building.class_start.Goals as goal
 
 pub loop-i-init : goal.loop-i-init
@@ -17,8 +14,7 @@ overflow_add-sum c =
     omega (arith, sum-next c.args.sizes l.i, sum_more c.args.sizes (l.i + 1) c.args.j (omega arith))
 
 pub loop-i-preserved : goal.loop-i-preserved
-loop-i-preserved c =
-    (search rules, rw c.loop-i.invariant.1 (sym (sum-next c.args.sizes c.loop-i.i)))
+loop-i-preserved c = rw c.loop-i.invariant (sym (sum-next c.args.sizes c.loop-i.i))
 
 pub returns : goal.returns
-returns c = let e : c.loop-i.i ≡ c.args.j = omega arith in rw e at c.loop-i.invariant.1
+returns c = let e : c.loop-i.i ≡ c.args.j = omega arith in rw e at c.loop-i.invariant

@@ -8,11 +8,11 @@ pub class_start-start-requires : goal.class_start-start-requires
 class_start-start-requires c =
     start-inside c.args.src c.requires.0.src_coded c.args.j c.requires.0.there
 
-pub mark_of-requires : goal.mark_of-requires
-mark_of-requires c = (c.requires.0.out-coded, omega (arith, c.requires.1))
+pub constant_of-requires : goal.constant_of-requires
+constant_of-requires c = (c.requires.0.out-coded, omega (arith, c.requires.1))
 
-pub mark_of-requires-2 : goal.mark_of-requires-2
-mark_of-requires-2 c = (c.requires.0.src_coded, c.requires.0.there)
+pub constant_of-requires-2 : goal.constant_of-requires-2
+constant_of-requires-2 c = (c.requires.0.src_coded, c.requires.0.there)
 
 pub copy_members-members-requires : goal.copy_members-members-requires
 copy_members-members-requires c =
@@ -24,4 +24,4 @@ overflow_add-grown c =
 
 pub returns : goal.returns
 returns c =
-    merge_made c.args.out c.args.src c.args.j c.requires.0 c.class_start-start.result c.copy_members-members.result c.taken_over-mark.result c.mark_of.result c.mark_of-2.result c.requires.1 c.class_start-start.ensures c.copy_members-members.ensures c.mark_of.ensures c.mark_of-2.ensures c.taken_over-mark.ensures
+    merge_made c.args.out c.args.src c.args.j c.requires.0 c.class_start-start.result c.copy_members-members.result c.flavour.result c.value.result _ _ _ c.requires.1 c.class_start-start.ensures c.copy_members-members.ensures c.constant_of.ensures c.constant_of-2.ensures c.taken_over-constant.ensures c.flavour.ensures c.value.ensures

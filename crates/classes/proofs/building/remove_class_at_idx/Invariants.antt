@@ -1,5 +1,5 @@
 -- `classes::building::remove_class_at_idx` meets its contract.
-use Prim.Native.Nat.{◌-◌, ◌≤◌}
+use Prim.Native.Nat.{◌≤◌}
 use mathlib.Core.Path.{◌≡◌}
 use lib.ListN.{take}
 use Rattle.classes.specs.Group.{removed}
@@ -8,6 +8,3 @@ use Rattle.classes.proofs.building.remove_class_at_idx.Given as goal
 
 abbrev pub invariant-loop-k : goal.invariant-loop-k
 invariant-loop-k l = (l.k ≤ l.last) × (l.out ≡ encode l.g.limit (take l.k (removed (decode l.g) l.i)))
-
-abbrev pub decreases-loop-k : goal.decreases-loop-k
-decreases-loop-k l = l.last - l.k

@@ -1,9 +1,8 @@
 -- `classes::finding::find_class` meets its contract.
-use mathlib.Core.Path.{sym, ap, ◌∙◌}
+use mathlib.Core.Path.{sym, ◌∙◌}
 use native.Mathlib.Omega.{arith}
 use Rattle.laws.proofs.First.{first-hit, first_on, first_ends}
 use Rattle.classes.specs.Layout.{sum_to}
-use Rattle.classes.specs.Inner.{place_of}
 use Rattle.classes.proofs.Numbers.{sum-next}
 use Rattle.classes.proofs.Codec.{class-inside}
 use Rattle.classes.proofs.Members.{Holds, class-begins, part-holds}
@@ -21,7 +20,7 @@ among-requires c =
 pub returns-then-among : goal.returns-then-among
 returns-then-among c =
     let l = c.loop-i in
-    ap place_of (sym (l.invariant.1.1 ∙ first-hit (Holds c.args.g c.args.e) c.args.g.count l.i (search rules) (part-holds c.args.g c.args.e l.i l.start c.among.result c.requires l.invariant.1.0 c.among.ensures ∙ c.if-among.true)))
+    sym (l.invariant.1.1 ∙ first-hit (Holds c.args.g c.args.e) c.args.g.count l.i (search rules) (part-holds c.args.g c.args.e l.i l.start c.among.result c.requires l.invariant.1.0 c.among.ensures ∙ c.if-among.true))
 
 pub overflow_add-start : goal.overflow_add-start
 overflow_add-start c =
@@ -35,4 +34,4 @@ loop-i-preserved c =
 pub returns : goal.returns
 returns c =
     let l = c.loop-i in
-    ap place_of (sym (l.invariant.1.1 ∙ first_ends (Holds c.args.g c.args.e) c.args.g.count l.i (search rules)))
+    sym (l.invariant.1.1 ∙ first_ends (Holds c.args.g c.args.e) c.args.g.count l.i (search rules))

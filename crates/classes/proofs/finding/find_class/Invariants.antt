@@ -9,6 +9,3 @@ use Rattle.classes.proofs.finding.find_class.Given as goal
 
 abbrev pub invariant-loop-i : goal.invariant-loop-i
 invariant-loop-i l = (l.i ≤ l.g.count) × ((l.start ≡ sum_to l.g.sizes l.i) × (class_of (decode l.g) l.e ≡ first_from (Holds l.g l.e) (l.g.count - l.i) l.i))
-
-abbrev pub decreases-loop-i : goal.decreases-loop-i
-decreases-loop-i l = l.g.count - l.i

@@ -4,4 +4,4 @@ use Rattle.classes.proofs.refusing.no_group.Goals as goal
 
 pub returns : goal.returns
 returns c =
-    no_group-is c.args.number c.refusal.result c.empty.result c.empty.ensures c.refusal.ensures
+    no_group-is c.args.why c.refusal.result c.empty.result c.empty.ensures c.refusal.ensures

@@ -5,4 +5,4 @@ use Rattle.classes.proofs.single.single_group.Goals as goal
 
 pub returns : goal.returns
 returns c =
-    single-is (nodes c.args.cells.now) c.args.e c.carried_mark.result c.one_class.result c.carried_mark.ensures c.one_class.ensures
+    single-is (nodes c.args.cells.now) c.args.e c.carried.result c.one_class.result c.carried.ensures c.one_class.ensures

@@ -1,30 +1,14 @@
 -- `dependencies::checking::key_fresh` meets its contract.
-use Rattle.laws.proofs.Each.{each_none, each_more, each-stops, each-ends}
-use Rattle.dependencies.specs.Layout.{fresh_key}
-use Rattle.dependencies.proofs.MapChecks.{Unlike, like-read, unlike-read, sized}
-use borrow.Author.Rules.{rules}
+use Rattle.std.proofs.Common.{ap, arith, rules, tests, eqb, not, get_or, ◌∙◌}
+use Rattle.laws.proofs.Runs.{each-all}
+use Rattle.laws.proofs.Each.{each_cong}
+use Rattle.dependencies.specs.Layout.{fresh_key, place_in}
+use Rattle.dependencies.specs.declared.DependencyNode.{DependencyNode}
+use Rattle.dependencies.proofs.MapChecks.{Unlike, no_place, read_is, sized}
 use Rattle.dependencies.proofs.checking.key_fresh.Goals as goal
-
-pub loop-i-init : goal.loop-i-init
-loop-i-init c = (search rules, each_none (Unlike c.args.m c.args.k))
-
-pub returns-then-m-i : goal.returns-then-m-i
-unfolding fresh_key
-returns-then-m-i c =
-    let x = c.args in
-    let i = c.loop-i.i in
-    let z = sized x.m _ c.well_formed.0 in
-    each-stops (Unlike x.m x.k) x.k i (search rules) (like-read x.m z x.k i (search rules) (search rules) c.if-m-i.true)
-
-pub loop-i-preserved : goal.loop-i-preserved
-loop-i-preserved c =
-    let x = c.args in
-    let i = c.loop-i.i in
-    let z = sized x.m _ c.well_formed.0 in
-    (search rules, each_more (Unlike x.m x.k) i c.loop-i.invariant.1 (unlike-read x.m z x.k i (search rules) (search rules) c.if-m-i.false))
 
 pub returns : goal.returns
 unfolding fresh_key
 returns c =
-    let x = c.args in
-    each-ends (Unlike x.m x.k) x.k c.loop-i.i (search rules) (search rules) c.loop-i.invariant.1
+    each-all (λ i. not (eqb (get_or c.args.m.list i no_place).key (get_or c.args.m.list c.args.k no_place).key)) c.args.k _ _ _ c.all.ensures.ran (λ x b q k. search (rules, tests))
+    ∙ each_cong _ (Unlike c.args.m c.args.k) c.args.k (λ i l. let z = sized c.args.m _ c.well_formed.0 in ap (λ (r : DependencyNode). not (eqb r.key (get_or c.args.m.list c.args.k no_place).key)) (read_is c.args.m z i (omega arith)) ∙ ap (λ (r : DependencyNode). not (eqb (place_in c.args.m i).key r.key)) (read_is c.args.m z c.args.k (omega arith)))

@@ -1,35 +1,12 @@
 -- `dependencies::checking::places_unused` meets its contract.
-use Prim.Native.Nat.{◌+◌, ◌-◌}
-use mathlib.Core.Bool.{true, false}
-use mathlib.Core.Path.{sym, ◌∙◌}
-use Rattle.laws.proofs.Each.{each_none, each_more, each-stops, each-ends}
+use Rattle.std.proofs.Common.{ap, arith, rules, tests, get_or, ◌+◌, ◌-◌, ◌∙◌}
+use Rattle.laws.proofs.Runs.{each-all}
+use Rattle.laws.proofs.Each.{each_cong}
 use Rattle.dependencies.specs.Layout.{unused_entry}
-use Rattle.dependencies.proofs.MapChecks.{UnusedAt, at_place, sized}
-use borrow.Author.Rules.{rules}
+use Rattle.dependencies.proofs.MapChecks.{UnusedAt, no_place, read_is, sized}
 use Rattle.dependencies.proofs.checking.places_unused.Goals as goal
-
-pub loop-i-init : goal.loop-i-init
-loop-i-init c = (search rules, each_none (UnusedAt c.args.m))
-
-pub returns-then-not-unused_entry : goal.returns-then-not-unused_entry
-returns-then-not-unused_entry c =
-    let m = c.args.m in
-    let i = c.loop-i.i in
-    let z = sized m _ c.well_formed.0 in
-    each-stops (UnusedAt m) ((64 - m.count)) i (search rules)
-    (at_place unused_entry false m z (m.count + i) (search rules) (sym c.unused_entry.ensures ∙ c.if-not-unused_entry.true))
-
-pub loop-i-preserved : goal.loop-i-preserved
-loop-i-preserved c =
-    let m = c.args.m in
-    let i = c.loop-i.i in
-    let z = sized m _ c.well_formed.0 in (
-      search rules,
-      each_more (UnusedAt m) i c.loop-i.invariant.1
-          (at_place unused_entry true m z (m.count + i) (search rules) (sym c.unused_entry.ensures ∙ c.if-not-unused_entry.false)),
-    )
 
 pub returns : goal.returns
 returns c =
-    let m = c.args.m in
-    each-ends (UnusedAt m) ((64 - m.count)) c.loop-i.i (search rules) (search rules) c.loop-i.invariant.1
+    each-all (λ i. unused_entry (get_or c.args.m.list (c.args.m.count + i) no_place)) (64 - c.args.m.count) _ _ _ c.all.ensures.ran (λ x b q k. search (rules, tests))
+    ∙ each_cong _ (UnusedAt c.args.m) (64 - c.args.m.count) (λ i l. ap unused_entry (read_is c.args.m (sized c.args.m _ c.well_formed.0) (c.args.m.count + i) (omega arith)))

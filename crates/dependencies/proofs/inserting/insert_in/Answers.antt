@@ -1,8 +1,7 @@
 -- `dependencies::inserting::insert_in` meets its contract.
-use mathlib.Core.Option.{none}
+use Rattle.std.specs.Prelude.{None}
 use mathlib.Core.Path.{sym, ◌∙◌}
 use Rattle.dependencies.specs.Calls.{key_of}
-use Rattle.classes.proofs.ClassPlaces.{place_at, place-nowhere}
 use Rattle.dependencies.proofs.MapInserts.{key-inside, inserted-at, inserted-there}
 use Rattle.dependencies.proofs.inserting.insert_in.Goals as goal
 
@@ -14,20 +13,19 @@ find_key-requires c = c.requires.0.0.few
 
 pub replace-requires : goal.replace-requires
 replace-requires c =
-    let p = place_at _ c.in-At.i (sym c.in-At.is ∙ c.find_key.ensures) in
-    ((c.requires.0.0, key-inside c.args.m c.packed-key.result c.in-At.i p), c.requires.1.1)
+    ((c.requires.0.0, key-inside c.args.m c.packed-key.result c.in-Some.i (sym c.find_key.ensures ∙ c.in-Some.is)), c.requires.1.1)
 
 pub append-requires : goal.append-requires
 append-requires c = (c.requires.0.0, c.requires.1)
 
-pub returns-in-At : goal.returns-in-At
-returns-in-At c =
+pub returns-in-Some : goal.returns-in-Some
+returns-in-Some c =
     let k = c.packed-key in
-    inserted-there c.args.m k.result _ (key_of c.args.target) (key_of c.args.dependency) c.replace.result c.in-At.i
-    (place_at _ c.in-At.i (sym c.in-At.is ∙ c.find_key.ensures)) k.ensures c.replace.ensures
+    inserted-there c.args.m k.result _ (key_of c.args.target) (key_of c.args.dependency) c.replace.result c.in-Some.i
+    (sym c.find_key.ensures ∙ c.in-Some.is) k.ensures c.replace.ensures
 
-pub returns-in-Nowhere : goal.returns-in-Nowhere
-returns-in-Nowhere c =
+pub returns-in-None : goal.returns-in-None
+returns-in-None c =
     let k = c.packed-key in
-    inserted-at c.args.m k.result _ (key_of c.args.target) (key_of c.args.dependency) c.append.result none
-    (place-nowhere _ (sym c.in-Nowhere.is ∙ c.find_key.ensures)) k.ensures c.append.ensures
+    inserted-at c.args.m k.result _ (key_of c.args.target) (key_of c.args.dependency) c.append.result None
+    (sym c.find_key.ensures ∙ c.in-None.is) k.ensures c.append.ensures

@@ -1,7 +1,6 @@
 -- `dependencies::inserting::replace` meets its contract.
 use mathlib.Core.Path.{sym, ap, ◌∙◌, subst}
 use native.Mathlib.Omega.{arith}
-use borrow.Author.Tests.{not-true, not-false}
 use Rattle.dependencies.specs.Calls.{key_of}
 use Rattle.dependencies.specs.Inner.{Coded, extended_by}
 use Rattle.dependencies.specs.declared.DependencyNode.{DependencyNode}
@@ -15,24 +14,22 @@ offset_bounds-m-i c = omega (arith, c.requires.0.1)
 pub bounds-m-i : goal.bounds-m-i
 bounds-m-i c = omega (arith, c.requires.0.1)
 
-pub extend-entry-requires : goal.extend-entry-requires
-extend-entry-requires c =
+pub extend-requires : goal.extend-requires
+extend-requires c =
     let m = c.args.m in
     let i = c.args.i in
     let h = c.requires.0.0 in
     let l = c.requires.0.1 in
     (subst Coded (sym (read_is m (sized m _ c.well_formed.0) i (omega (arith, h.few)))) (h.entries i l), c.requires.1)
 
-pub returns-then-not-entry : goal.returns-then-not-entry
-returns-then-not-entry c =
+pub returns-in-Err : goal.returns-in-Err
+returns-in-Err c =
     let m = c.args.m in
     let i = c.args.i in
     let h = c.requires.0.0 in
-    let l = c.requires.0.1 in
     let d = key_of c.args.dependency in
-    let e = c.extend-entry.result in
     c.refusal.ensures
-    ∙ sym (replaced-full m h i l e d (c.extend-entry.ensures ∙ ap (λ (r : DependencyNode). extended_by r d) (read_is m (sized m _ c.well_formed.0) i (omega (arith, h.few)))) (not-true e.fits c.if-not-entry.true))
+    ∙ replaced-full m h i c.requires.0.1 d c.in-Err.why (sym c.in-Err.is ∙ c.extend.ensures ∙ ap (λ (r : DependencyNode). extended_by r d) (read_is m (sized m _ c.well_formed.0) i (omega (arith, h.few))))
 
 pub offset_bounds-next-i : goal.offset_bounds-next-i
 offset_bounds-next-i c = omega (arith, c.requires.0.1)
@@ -40,12 +37,10 @@ offset_bounds-next-i c = omega (arith, c.requires.0.1)
 pub bounds-next-i : goal.bounds-next-i
 bounds-next-i c = omega (arith, c.requires.0.1)
 
-pub returns : goal.returns
-returns c =
+pub returns-in-Ok : goal.returns-in-Ok
+returns-in-Ok c =
     let m = c.args.m in
     let i = c.args.i in
     let h = c.requires.0.0 in
-    let l = c.requires.0.1 in
     let d = key_of c.args.dependency in
-    let e = c.extend-entry.result in
-    replaced m h i l e d (c.extend-entry.ensures ∙ ap (λ (r : DependencyNode). extended_by r d) (read_is m (sized m _ c.well_formed.0) i (omega (arith, h.few)))) (not-false e.fits c.if-not-entry.false)
+    replaced m h i c.requires.0.1 d c.in-Ok.node (sym c.in-Ok.is ∙ c.extend.ensures ∙ ap (λ (r : DependencyNode). extended_by r d) (read_is m (sized m _ c.well_formed.0) i (omega (arith, h.few))))

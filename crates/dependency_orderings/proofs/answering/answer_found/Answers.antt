@@ -6,13 +6,12 @@ use Rattle.products.specs.Generate.{generated}
 use Rattle.products.specs.Inner.{lists_of, Laid}
 use Rattle.products.specs.declared.Lists.{Lists}
 use Rattle.dependency_orderings.specs.Calls.{answered}
-use Rattle.dependency_orderings.specs.declared.Enumerated.{Enumerated}
 use Rattle.dependency_orderings.proofs.AnswerLaws.{answered-over, found-over, found-fits, one-laid, one-generated}
 use Rattle.dependency_orderings.proofs.answering.answer_found.Goals as goal
 
 pub returns-then-found : goal.returns-then-found
 returns-then-found c =
-    λ os rows. ap (λ (r : Enumerated). (r, c.args.out.now)) c.refused.ensures ∙ answered-over os c.args.out.now (found-over c.args.found os rows c.if-found.true)
+    λ os rows. answered-over os c.args.out.now (found-over c.args.found os rows c.if-found.true)
 
 pub answer-requires : goal.answer-requires
 answer-requires c =

@@ -1,7 +1,8 @@
 -- `dependency_orderings::gathering::add_place` meets its contract.
-use mathlib.Core.Path.{ap}
+use mathlib.Core.Path.{sym, subst}
 use native.Mathlib.Omega.{arith}
-use Rattle.dependency_orderings.specs.declared.Gathered.{Gathered}
+use Rattle.arena.proofs.Refusals.{handed-on}
+use Rattle.dependency_orderings.specs.Inner.{Steps}
 use Rattle.dependency_orderings.proofs.GatherLaws.{standing-key, steps-walked, steps_halt, steps-found}
 use Rattle.dependency_orderings.proofs.gathering.add_place.Goals as goal
 
@@ -12,13 +13,12 @@ pub returns-then-g-place : goal.returns-then-g-place
 returns-then-g-place c =
     λ k p. steps-walked c.args.m c.args.g k c.requires.1 c.args.place p c.if-g-place.true
 
-pub prefixes_at-next-requires : goal.prefixes_at-next-requires
-prefixes_at-next-requires c = (c.requires.0, c.requires.1.room)
+pub prefixes_at-requires : goal.prefixes_at-requires
+prefixes_at-requires c = (c.requires.0, c.requires.1.room)
 
-pub returns-then-next-ne0 : goal.returns-then-next-ne0
-returns-then-next-ne0 c =
-    let x = c.prefixes_at-next in
-    λ k p. steps_halt c.args.m c.args.g k c.requires.1 c.args.place p x.result x.ensures c.stopped_with.result (ap (λ (r : Gathered). r.number) c.stopped_with.ensures) c.if-next-ne0.true
+pub returns-in_err-found : goal.returns-in_err-found
+returns-in_err-found c =
+    λ k p. subst (Steps c.args.m c.args.g k) (sym (handed-on _ _ c.from_residual.ensures.1)) (steps_halt c.args.m c.args.g k c.requires.1 c.args.place p _ c.in_err-found.ensures)
 
 pub note_key-requires : goal.note_key-requires
 note_key-requires c = omega (arith, c.requires.0.0.few, c.requires.0.1)
@@ -28,5 +28,4 @@ add_found-requires c = rw c.note_key.ensures (standing-key c.args.g c.args.place
 
 pub returns : goal.returns
 returns c =
-    let x = c.prefixes_at-next in
-    λ k p. rw (c.add_found.ensures, c.note_key.ensures) (steps-found c.args.m c.args.g k c.requires.1 c.args.place p x.result x.ensures c.if-next-ne0.false c.if-g-place.false (omega (arith, c.requires.0.0.few, c.requires.0.1)))
+    λ k p. rw (c.add_found.ensures, c.note_key.ensures) (steps-found c.args.m c.args.g k c.requires.1 c.args.place p _ c.in_ok-found.ensures c.if-g-place.false (omega (arith, c.requires.0.0.few, c.requires.0.1)))

@@ -1,6 +1,9 @@
 -- `dependency_orderings::gathering::gather` meets its contract.
-use mathlib.Core.Path.{subst}
-use Rattle.dependency_orderings.specs.Inner.{Steps}
+use mathlib.Core.List.{map}
+use mathlib.Core.Path.{sym, subst}
+use Rattle.arena.proofs.Refusals.{handed-on}
+use Rattle.sort_keys.specs.Layout.{keys_of, packed}
+use Rattle.dependency_orderings.specs.Inner.{Gathers}
 use Rattle.dependency_orderings.proofs.GatherLaws.{gone-none, gone-next, gone-stop, gone-all}
 use Rattle.dependency_orderings.proofs.gathering.gather.Goals as goal
 
@@ -11,20 +14,19 @@ loop-k-init c =
 pub key_at-requires : goal.key_at-requires
 key_at-requires c = (c.requires.1, c.loop-k-test.true)
 
-pub add_key-g-requires : goal.add_key-g-requires
-add_key-g-requires c = (c.requires.0, c.loop-k.invariant.standing)
+pub add_key-requires : goal.add_key-requires
+add_key-requires c = (c.requires.0, c.loop-k.invariant.standing)
 
-pub returns-then-g-ne0 : goal.returns-then-g-ne0
-returns-then-g-ne0 c =
+pub returns-in_err-g : goal.returns-in_err-g
+returns-in_err-g c =
     let l = c.loop-k in
-    let x = c.add_key-g in
-    gone-stop c.args.m c.args.keys.now l.g l.k l.invariant x.result c.loop-k-test.true (subst (λ k. Steps c.args.m l.g k x.result) c.key_at.ensures x.ensures) c.if-g-ne0.true
+    subst (Gathers c.args.m (map packed (keys_of c.args.keys.now))) (sym (handed-on _ _ c.from_residual.ensures.1))
+    (gone-stop c.args.m c.args.keys.now l.g l.k l.invariant c.loop-k-test.true c.key_at.result c.key_at.ensures _ c.in_err-g.ensures)
 
 pub loop-k-preserved : goal.loop-k-preserved
 loop-k-preserved c =
     let l = c.loop-k in
-    let x = c.add_key-g in
-    gone-next c.args.m c.args.keys.now l.g l.k l.invariant x.result c.loop-k-test.true (subst (λ k. Steps c.args.m l.g k x.result) c.key_at.ensures x.ensures) c.if-g-ne0.false
+    gone-next c.args.m c.args.keys.now l.g l.k l.invariant c.loop-k-test.true c.key_at.result c.key_at.ensures _ c.in_ok-g.ensures
 
 pub returns : goal.returns
 returns c =

@@ -1,5 +1,5 @@
 -- `dependency_orderings::writing::measure_all` meets its contract.
-use Prim.Native.Nat.{◌-◌, ◌*◌, ◌≤◌}
+use Prim.Native.Nat.{◌*◌, ◌≤◌}
 use lib.ListN.{drop}
 use Rattle.products.specs.Orders.{product}
 use Rattle.products.specs.Generate.{all_orders}
@@ -8,7 +8,4 @@ use Rattle.dependency_orderings.proofs.Measures.{Measuring}
 use Rattle.dependency_orderings.proofs.writing.measure_all.Given as goal
 
 abbrev pub invariant-loop-k : goal.invariant-loop-k
-invariant-loop-k l = (l.k ≤ l.n) × (Measuring (all_orders (product (lists_of l.l))) (all_orders (drop l.k (product (lists_of l.l)))) l.total × (l.total ≤ 23760 * l.k))
-
-abbrev pub decreases-loop-k : goal.decreases-loop-k
-decreases-loop-k l = l.n - l.k
+invariant-loop-k l = (Measuring (all_orders (product (lists_of l.l))) (all_orders (drop l.k (product (lists_of l.l)))) l.total × (l.total ≤ 23760 * l.k))

@@ -1,5 +1,5 @@
 -- `dependency_orderings::writing::measure_choice` meets its contract.
-use Prim.Native.Nat.{◌-◌, ◌*◌, ◌≤◌}
+use Prim.Native.Nat.{◌*◌, ◌≤◌}
 use lib.ListN.{drop}
 use Rattle.products.specs.Generate.{in_all_orders}
 use Rattle.products.specs.Inner.{choice_of}
@@ -7,7 +7,4 @@ use Rattle.dependency_orderings.proofs.Measures.{Measuring}
 use Rattle.dependency_orderings.proofs.writing.measure_choice.Given as goal
 
 abbrev pub invariant-loop-k : goal.invariant-loop-k
-invariant-loop-k l = (l.k ≤ l.orders) × (Measuring (in_all_orders (choice_of l.c)) (drop l.k (in_all_orders (choice_of l.c))) l.total × (l.total ≤ 33 * l.k))
-
-abbrev pub decreases-loop-k : goal.decreases-loop-k
-decreases-loop-k l = l.orders - l.k
+invariant-loop-k l = (Measuring (in_all_orders (choice_of l.c)) (drop l.k (in_all_orders (choice_of l.c))) l.total × (l.total ≤ 33 * l.k))

@@ -14,27 +14,27 @@ use Rattle.dependency_orderings.proofs.writing.write_all.Goals as goal
 
 pub loop-k-init : goal.loop-k-init
 loop-k-init c =
-    (omega arith, out-begins (all_orders (product (lists_of c.args.l))) c.args.out.now c.requires.1.1 c.requires.1.0)
+    (out-begins (all_orders (product (lists_of c.args.l))) c.args.out.now c.requires.1.1 c.requires.1.0)
 
 pub offset_bounds-out-at : goal.offset_bounds-out-at
 offset_bounds-out-at c =
     let o = c.loop-k in
     let cs = product (lists_of c.args.l) in
-    omega (arith, c.well_formed.0.1, out_within (all_orders cs) c.args.out.now c.requires.1.1 (all_orders (drop o.k cs)) o.out o.at o.invariant.1)
+    omega (arith, c.well_formed.0.1, out_within (all_orders cs) c.args.out.now c.requires.1.1 (all_orders (drop o.k cs)) o.out o.at o.invariant)
 
 pub slice_bounds-write_choice-count : goal.slice_bounds-write_choice-count
 slice_bounds-write_choice-count c =
     let o = c.loop-k in
     let cs = product (lists_of c.args.l) in
     let left = all_orders (drop o.k cs) in
-    omega (arith, out_within (all_orders cs) c.args.out.now c.requires.1.1 left o.out o.at o.invariant.1, out-length (all_orders cs) c.args.out.now c.requires.1.1 left o.out o.at o.invariant.1)
+    omega (arith, out_within (all_orders cs) c.args.out.now c.requires.1.1 left o.out o.at o.invariant, out-length (all_orders cs) c.args.out.now c.requires.1.1 left o.out o.at o.invariant)
 
 pub slice_bounds-write_choice-start : goal.slice_bounds-write_choice-start
 slice_bounds-write_choice-start c =
     let o = c.loop-k in
     let cs = product (lists_of c.args.l) in
     let left = all_orders (drop o.k cs) in
-    omega (arith, out_within (all_orders cs) c.args.out.now c.requires.1.1 left o.out o.at o.invariant.1, out-length (all_orders cs) c.args.out.now c.requires.1.1 left o.out o.at o.invariant.1)
+    omega (arith, out_within (all_orders cs) c.args.out.now c.requires.1.1 left o.out o.at o.invariant, out-length (all_orders cs) c.args.out.now c.requires.1.1 left o.out o.at o.invariant)
 
 pub slice_bounds-write_choice-end : goal.slice_bounds-write_choice-end
 slice_bounds-write_choice-end c = omega arith
@@ -54,8 +54,8 @@ write_choice-used-requires c =
     let next = ready-next c.args.l c.args.n c.requires.0 o.k c.loop-k-test.true x.result x.ensures in (
       ready-chosen c.args.l c.args.n c.requires.0 o.k c.loop-k-test.true x.result x.ensures,
       (
-        part-short (all_orders cs) c.args.out.now c.requires.1.1 left o.out o.at o.invariant.1 part after next,
-        part_room (all_orders cs) c.args.out.now c.requires.1.1 left o.out o.at o.invariant.1 part after next,
+        part-short (all_orders cs) c.args.out.now c.requires.1.1 left o.out o.at o.invariant part after next,
+        part_room (all_orders cs) c.args.out.now c.requires.1.1 left o.out o.at o.invariant part after next,
       ),
     )
 
@@ -65,13 +65,7 @@ overflow_add-at c =
     let x = c.choice_at in
     let cs = product (lists_of c.args.l) in
     let next = ready-next c.args.l c.args.n c.requires.0 o.k c.loop-k-test.true x.result x.ensures in
-    omega (arith, c.well_formed.0.1, c.write_choice-used.ensures.0, part-within (all_orders cs) c.args.out.now c.requires.1.1 (all_orders (drop o.k cs)) o.out o.at o.invariant.1 (in_all_orders (choice_of x.result)) (all_orders (drop (o.k + 1) cs)) next)
-
-pub overflow_add-k : goal.overflow_add-k
-overflow_add-k c = omega (arith, c.loop-k-test.true, ready-few c.args.l c.args.n c.requires.0)
-
-pub loop-k-smaller : goal.loop-k-smaller
-loop-k-smaller c = omega (arith, c.loop-k-test.true)
+    omega (arith, c.well_formed.0.1, c.write_choice-used.ensures.0, part-within (all_orders cs) c.args.out.now c.requires.1.1 (all_orders (drop o.k cs)) o.out o.at o.invariant (in_all_orders (choice_of x.result)) (all_orders (drop (o.k + 1) cs)) next)
 
 pub loop-k-preserved : goal.loop-k-preserved
 loop-k-preserved c =
@@ -80,20 +74,18 @@ loop-k-preserved c =
     let v = c.write_choice-used in
     let cs = product (lists_of c.args.l) in
     let part = in_all_orders (choice_of x.result) in
-    let next = ready-next c.args.l c.args.n c.requires.0 o.k c.loop-k-test.true x.result x.ensures in (
-      omega (arith, c.loop-k-test.true),
-      out-on (all_orders cs) c.args.out.now c.requires.1.1 (all_orders (drop o.k cs)) o.out o.at o.invariant.1 part (all_orders (drop (o.k + 1) cs)) next v.new.out v.result v.ensures.0
-          (v.ensures.1 ∙ ap (λ (n : ℕ). written_all part ++ drop n (take (length o.out - o.at) (drop o.at o.out))) (sym v.ensures.0)),
-    )
+    let next = ready-next c.args.l c.args.n c.requires.0 o.k c.loop-k-test.true x.result x.ensures in
+    out-on (all_orders cs) c.args.out.now c.requires.1.1 (all_orders (drop o.k cs)) o.out o.at o.invariant part (all_orders (drop (o.k + 1) cs)) next v.new.out v.result v.ensures.0
+    (v.ensures.1 ∙ ap (λ (n : ℕ). written_all part ++ drop n (take (length o.out - o.at) (drop o.at o.out))) (sym v.ensures.0))
 
 pub shape_of-out : goal.shape_of-out
 shape_of-out c =
     let o = c.loop-k in
     let cs = product (lists_of c.args.l) in
-    out-length (all_orders cs) c.args.out.now c.requires.1.1 (all_orders (drop o.k cs)) o.out o.at o.invariant.1
+    out-length (all_orders cs) c.args.out.now c.requires.1.1 (all_orders (drop o.k cs)) o.out o.at o.invariant
 
 pub returns : goal.returns
 returns c =
     let o = c.loop-k in
     let cs = product (lists_of c.args.l) in
-    out-ends (all_orders cs) c.args.out.now c.requires.1.1 (all_orders (drop o.k cs)) o.out o.at o.invariant.1 (ready-done c.args.l c.args.n c.requires.0 o.k (omega (arith, c.loop-k-test.false)))
+    out-ends (all_orders cs) c.args.out.now c.requires.1.1 (all_orders (drop o.k cs)) o.out o.at o.invariant (ready-done c.args.l c.args.n c.requires.0 o.k (omega (arith, c.loop-k-test.false)))

@@ -14,7 +14,7 @@ pub bounds-out-0 : goal.bounds-out-0
 bounds-out-0 c = omega (arith, c.requires.1)
 
 pub loop-k-init : goal.loop-k-init
-loop-k-init c = (omega arith, begun-begins c.args.o c.args.out.now c.narrow.result (omega (arith, c.requires.1)) c.narrow.ensures)
+loop-k-init c = begun-begins c.args.o c.args.out.now c.narrow.result (omega (arith, c.requires.1)) c.narrow.ensures
 
 pub offset_bounds-o-k : goal.offset_bounds-o-k
 offset_bounds-o-k c = omega (arith, c.requires.0.short, c.loop-k-test.true)
@@ -35,7 +35,7 @@ pub bounds-out-k : goal.bounds-out-k
 bounds-out-k c =
     let o = c.loop-k in
     let first : List ℕ = set c.args.out.now 0 c.narrow.result in
-    omega (arith, ap (λ (l : List ℕ). length l) o.invariant.1, begun-length c.args.o first o.k o.invariant.0 (omega (arith, c.requires.1, length-set c.args.out.now 0 c.narrow.result)), length-set c.args.out.now 0 c.narrow.result, c.requires.1, c.loop-k-test.true)
+    omega (arith, ap (λ (l : List ℕ). length l) o.invariant, begun-length c.args.o first o.k (omega arith) (omega (arith, c.requires.1, length-set c.args.out.now 0 c.narrow.result)), length-set c.args.out.now 0 c.narrow.result, c.requires.1, c.loop-k-test.true)
 
 pub overflow_mul-out-in-loop-k : goal.overflow_mul-out-in-loop-k
 overflow_mul-out-in-loop-k c = omega (arith, c.requires.0.short, c.loop-k-test.true)
@@ -50,32 +50,24 @@ pub bounds-out-k-in-loop-k : goal.bounds-out-k-in-loop-k
 bounds-out-k-in-loop-k c =
     let o = c.loop-k in
     let first : List ℕ = set c.args.out.now 0 c.narrow.result in
-    omega (arith, length-set o.out (2 * o.k + 1) (get_or c.args.o.keys o.k 0 / 4), ap (λ (l : List ℕ). length l) o.invariant.1, begun-length c.args.o first o.k o.invariant.0 (omega (arith, c.requires.1, length-set c.args.out.now 0 c.narrow.result)), length-set c.args.out.now 0 c.narrow.result, c.requires.1, c.loop-k-test.true)
-
-pub overflow_add-k : goal.overflow_add-k
-overflow_add-k c = omega (arith, c.requires.0.short, c.loop-k-test.true)
-
-pub loop-k-smaller : goal.loop-k-smaller
-loop-k-smaller c = omega (arith, c.loop-k-test.true)
+    omega (arith, length-set o.out (2 * o.k + 1) (get_or c.args.o.keys o.k 0 / 4), ap (λ (l : List ℕ). length l) o.invariant, begun-length c.args.o first o.k (omega arith) (omega (arith, c.requires.1, length-set c.args.out.now 0 c.narrow.result)), length-set c.args.out.now 0 c.narrow.result, c.requires.1, c.loop-k-test.true)
 
 pub loop-k-preserved : goal.loop-k-preserved
 loop-k-preserved c =
     let o = c.loop-k in
     let first : List ℕ = set c.args.out.now 0 c.narrow.result in
-    let key : ℕ = get_or c.args.o.keys o.k 0 in (
-      omega (arith, c.loop-k-test.true),
-      ap (λ (l : List ℕ). set (set l (2 * o.k + 1) (key / 4)) (2 * o.k + 2) (key % 4)) o.invariant.1
-          ∙ begun-next c.args.o first o.k c.loop-k-test.true (omega (arith, c.requires.1, length-set c.args.out.now 0 c.narrow.result)),
-    )
+    let key : ℕ = get_or c.args.o.keys o.k 0 in
+    ap (λ (l : List ℕ). set (set l (2 * o.k + 1) (key / 4)) (2 * o.k + 2) (key % 4)) o.invariant
+    ∙ begun-next c.args.o first o.k c.loop-k-test.true (omega (arith, c.requires.1, length-set c.args.out.now 0 c.narrow.result))
 
 pub shape_of-out : goal.shape_of-out
 shape_of-out c =
     let o = c.loop-k in
     let first : List ℕ = set c.args.out.now 0 c.narrow.result in
     let e : length first ≡ length c.args.out.now = length-set c.args.out.now 0 c.narrow.result in
-    ap (λ (l : List ℕ). length l) o.invariant.1 ∙ begun-length c.args.o first o.k o.invariant.0 (omega (arith, c.requires.1, e)) ∙ e
+    ap (λ (l : List ℕ). length l) o.invariant ∙ begun-length c.args.o first o.k (omega arith) (omega (arith, c.requires.1, e)) ∙ e
 
 pub returns : goal.returns
 returns c =
     let o = c.loop-k in
-    o.invariant.1 ∙ begun-ends c.args.o c.args.out.now o.k c.narrow.result o.invariant.0 (omega (arith, c.loop-k-test.false))
+    o.invariant ∙ begun-ends c.args.o c.args.out.now o.k c.narrow.result (omega arith) (omega (arith, c.loop-k-test.false))

@@ -1,11 +1,7 @@
 -- `dependency_orderings::writing::write_ordering` meets its contract.
-use Prim.Native.Nat.{◌-◌, ◌≤◌}
 use mathlib.Core.Path.{◌≡◌}
 use Rattle.dependency_orderings.proofs.WrittenLaws.{begun_to}
 use Rattle.dependency_orderings.proofs.writing.write_ordering.Given as goal
 
 abbrev pub invariant-loop-k : goal.invariant-loop-k
-invariant-loop-k l = (l.k ≤ l.n) × (l.out ≡ begun_to l.o l.initial.out l.k)
-
-abbrev pub decreases-loop-k : goal.decreases-loop-k
-decreases-loop-k l = l.n - l.k
+invariant-loop-k l = (l.out ≡ begun_to l.o l.initial.out l.k)

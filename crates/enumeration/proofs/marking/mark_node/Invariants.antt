@@ -1,5 +1,4 @@
 -- `enumeration::marking::mark_node` meets its contract.
-use Prim.Native.Nat.{◌-◌}
 use mathlib.Core.Bool.{false, ◌||◌}
 use lib.ListN.{get_or}
 use Rattle.enumeration.specs.Inner.{hits}
@@ -8,6 +7,3 @@ use Rattle.enumeration.proofs.marking.mark_node.Given as goal
 
 abbrev pub invariant-loop-k : goal.invariant-loop-k
 invariant-loop-k l = Filled (λ j. get_or l.seen.told j false || hits l.node j l.target l.dependency) false 16 l.k l.out.told
-
-abbrev pub decreases-loop-k : goal.decreases-loop-k
-decreases-loop-k l = 16 - l.k

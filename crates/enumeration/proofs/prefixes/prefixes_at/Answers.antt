@@ -1,5 +1,8 @@
 -- `enumeration::prefixes::prefixes_at` meets its contract.
+use mathlib.Core.Path.{sym, subst}
 use native.Mathlib.Omega.{arith}
+use Rattle.arena.proofs.Refusals.{handed-on}
+use Rattle.enumeration.specs.Inner.{Began}
 use borrow.Author.Rules.{rules}
 use lib.ListN.{get_or}
 use Rattle.dependencies.proofs.MapChecks.{no_place}
@@ -27,27 +30,21 @@ bounds-node-k c =
     let b = node-short c.args.m c.requires.0.0 c.args.place c.requires.0.1 in
     search rules
 
-pub construct_orderings-next-requires : goal.construct_orderings-next-requires
-construct_orderings-next-requires c = let l = c.loop-k in ((l.invariant.walking, l.invariant.top), l.invariant.room)
+pub construct_orderings-requires : goal.construct_orderings-requires
+construct_orderings-requires c = let l = c.loop-k in ((l.invariant.walking, l.invariant.top), l.invariant.room)
 
-pub returns-then-next-ne0 : goal.returns-then-next-ne0
-returns-then-next-ne0 c =
+pub returns-in_err-next : goal.returns-in_err-next
+returns-in_err-next c =
     let e = node-is c.args.m c.requires.0.0 c.args.place c.requires.0.1 in
     let l = c.loop-k in
-    let r = c.construct_orderings-next in
-    starts-stop c.args.m c.args.place (get_or c.args.m.list c.args.place no_place) c.requires.0.1 e c.args.found l.walk l.rows l.k l.invariant r.result c.loop-k-test.true r.ensures c.if-next-ne0.true
-
-pub overflow_add-k : goal.overflow_add-k
-overflow_add-k c =
-    let b = node-short c.args.m c.requires.0.0 c.args.place c.requires.0.1 in
-    search rules
+    subst (Began c.args.m c.args.place c.args.found) (sym (handed-on _ _ c.from_residual.ensures.1))
+    (starts-stop c.args.m c.args.place (get_or c.args.m.list c.args.place no_place) c.requires.0.1 e c.args.found l.walk l.rows l.k l.invariant c.loop-k-test.true _ c.in_err-next.ensures)
 
 pub loop-k-preserved : goal.loop-k-preserved
 loop-k-preserved c =
     let e = node-is c.args.m c.requires.0.0 c.args.place c.requires.0.1 in
     let l = c.loop-k in
-    let r = c.construct_orderings-next in
-    starts-next c.args.m c.args.place (get_or c.args.m.list c.args.place no_place) c.requires.0.1 e c.args.found l.walk l.rows l.k l.invariant r.result c.loop-k-test.true r.ensures c.if-next-ne0.false
+    starts-next c.args.m c.args.place (get_or c.args.m.list c.args.place no_place) c.requires.0.1 e c.args.found l.walk l.rows l.k l.invariant c.loop-k-test.true _ c.in_ok-next.ensures
 
 pub returns : goal.returns
 returns c =

@@ -1,10 +1,6 @@
 -- `enumeration::prefixes::prefixes_at` meets its contract.
-use Prim.Native.Nat.{◌-◌}
 use Rattle.enumeration.proofs.Walks.{Starts}
 use Rattle.enumeration.proofs.prefixes.prefixes_at.Given as goal
 
 abbrev pub invariant-loop-k : goal.invariant-loop-k
 invariant-loop-k l = Starts l.m l.place l.initial.rows l.walk l.rows l.k
-
-abbrev pub decreases-loop-k : goal.decreases-loop-k
-decreases-loop-k l = l.size - l.k

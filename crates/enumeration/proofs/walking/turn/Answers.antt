@@ -3,7 +3,9 @@ use Prim.Native.Nat.{◌-◌}
 use mathlib.Core.Path.{sym, ap, subst}
 use native.Mathlib.Omega.{arith}
 use Rattle.dependencies.specs.declared.DependencyNode.{DependencyNode}
+use Rattle.std.specs.Prelude.{Ok}
 use Rattle.enumeration.specs.Inner.{frame_at, Went}
+use Rattle.enumeration.specs.declared.Turned.{Turned}
 use Rattle.enumeration.proofs.Turns.{frame_below, depth_few, top-framed, top-node, marks-are, opened-is, went_up, read-asks, went-read}
 use Rattle.enumeration.proofs.walking.turn.Goals as goal
 
@@ -60,7 +62,7 @@ returns-then-node-k c =
     let k = c.next_open-k in
     let q = top-node m e w up in
     let o = opened-is m e w up k.result _ _ q (marks-are m e w up) k.ensures in
-    subst (Went m e) (sym c.go_on.ensures) (went_up m e w up k.result o (omega (arith, c.if-node-k.true, ap (λ (r : DependencyNode). r.size) q)))
+    subst (λ (t : Turned). Went m e (Ok t)) (sym c.go_on.ensures) (went_up m e w up k.result o (omega (arith, c.if-node-k.true, ap (λ (r : DependencyNode). r.size) q)))
 
 pub offset_bounds-node-k : goal.offset_bounds-node-k
 offset_bounds-node-k c =

@@ -5,7 +5,9 @@ use native.Mathlib.Omega.{arith}
 use borrow.Author.Tests.{not-true, not-false}
 use Rattle.orderings.specs.Inner.{extended_of}
 use Rattle.dependencies.specs.declared.DependencyNode.{DependencyNode}
+use Rattle.std.specs.Prelude.{Ok}
 use Rattle.enumeration.specs.Inner.{up_all, way_of, Visited}
+use Rattle.enumeration.specs.declared.Turned.{Turned}
 use Rattle.enumeration.proofs.Turns.{node-is, visited_bare, visited_leaf, visited_open}
 use Rattle.enumeration.proofs.walking.visit.Goals as goal
 
@@ -21,8 +23,7 @@ returns-then-not-node c =
     let i = c.args.place in
     let w = c.requires.0.0 in
     let q = node-is m w.map i c.requires.1 in
-    subst (Visited m c.args.walk i) (sym c.stop.ensures)
-    (visited_bare m i c.requires.1 c.args.walk w (ap (λ (r : DependencyNode). r.projected) (sym q) ∙ not-true _ c.if-not-node.true))
+    visited_bare m i c.requires.1 c.args.walk w (ap (λ (r : DependencyNode). r.projected) (sym q) ∙ not-true _ c.if-not-node.true)
 
 pub way_up-requires : goal.way_up-requires
 way_up-requires c = c.requires.0.0
@@ -46,6 +47,6 @@ returns c =
     let i = c.args.place in
     let w = c.requires.0.0 in
     let q = node-is m w.map i c.requires.1 in
-    subst (Visited m c.args.walk i) (sym c.go_down.ensures)
+    subst (λ (t : Turned). Visited m c.args.walk i (Ok t)) (sym c.go_down.ensures)
     (visited_open m i c.requires.1 c.args.walk w c.requires.0.1 (ap (λ (r : DependencyNode). r.projected) (sym q) ∙ not-false _ c.if-not-node.false)
     (λ z. c.if-node-eq0.false (ap (λ (r : DependencyNode). r.size) q ∙ z)))

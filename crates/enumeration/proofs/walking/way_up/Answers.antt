@@ -1,22 +1,24 @@
 -- `enumeration::walking::way_up` meets its contract.
 use Prim.Native.Nat.{◌-◌, ◌<◌}
 use mathlib.Core.List.{[]}
-use mathlib.Core.Path.{sym, ap}
+use mathlib.Core.Path.{sym, ap, ◌∙◌}
 use native.Mathlib.Omega.{arith}
-use borrow.Author.Tests.{not-true, not-false}
+use Rattle.arena.proofs.Refusals.{handed-on}
 use Rattle.orderings.proofs.Extending.{row-short}
 use Rattle.dependencies.specs.declared.DependencyNode.{DependencyNode}
 use Rattle.enumeration.specs.Inner.{frame_at}
-use Rattle.enumeration.proofs.Turns.{node-is, frame_below, depth_few, climbing_begins, climbing_on, climbing_stops, climbing_ends}
+use Rattle.enumeration.proofs.Turns.{node-is, frame_below, depth_few, climbing_begins, climbing-room, climbing_on, climbing_stops, climbing_ends}
 use borrow.Author.Rules.{rules}
 use Rattle.enumeration.proofs.walking.way_up.Goals as goal
 
-pub push-first-requires : goal.push-first-requires
-push-first-requires c = rw c.nothing.ensures (row-short [] (omega arith))
+pub push-requires : goal.push-requires
+push-requires c = rw c.nothing.ensures (row-short [] (omega arith))
+
+pub returns-in_err-out : goal.returns-in_err-out
+returns-in_err-out c = climbing-room c.args.m c.args.walk c.args.target c.nothing.result c.nothing.ensures _ _ c.in_err-out.ensures
 
 pub loop-i-init : goal.loop-i-init
-loop-i-init c =
-    climbing_begins c.args.m c.args.walk c.args.target c.nothing.result c.push-first.result c.nothing.ensures c.push-first.ensures
+loop-i-init c = climbing_begins c.args.m c.args.walk c.args.target c.nothing.result c.nothing.ensures _ c.in_ok-out.ensures
 
 pub offset_bounds-walk-i : goal.offset_bounds-walk-i
 offset_bounds-walk-i c =
@@ -34,26 +36,24 @@ pub bounds-m-place : goal.bounds-m-place
 bounds-m-place c =
     frame_below c.args.m c.args.walk c.requires (c.loop-i.i - 1) (omega (arith, c.loop-i.invariant.below))
 
-pub push-next-requires : goal.push-next-requires
-push-next-requires c = c.loop-i.invariant.short
+pub push-requires-in-loop-i : goal.push-requires-in-loop-i
+push-requires-in-loop-i c = c.loop-i.invariant.short
 
-pub returns-then-not-next : goal.returns-then-not-next
-returns-then-not-next c =
+pub returns-in_err-out-2 : goal.returns-in_err-out-2
+returns-in_err-out-2 c =
     let l = c.loop-i in
-    let e = c.push-next in
     let up : 0 < l.i = search rules in
     let f = c.requires.framed (l.i - 1) (omega (arith, l.invariant.below)) in
     let target = sym (ap (λ (r : DependencyNode). r.target) (node-is c.args.m c.requires.map (frame_at c.args.walk (l.i - 1)).place f.there)) in
-    climbing_stops c.args.m c.args.walk c.args.target l.i l.out l.invariant up e.result _ target e.ensures (not-true e.result.fits c.if-not-next.true)
+    handed-on _ _ c.from_residual-in_err-out-2.ensures.1 ∙ climbing_stops c.args.m c.args.walk c.args.target l.i l.out l.invariant up _ target _ c.in_err-out-2.ensures
 
 pub loop-i-preserved : goal.loop-i-preserved
 loop-i-preserved c =
     let l = c.loop-i in
-    let e = c.push-next in
     let up : 0 < l.i = search rules in
     let f = c.requires.framed (l.i - 1) (omega (arith, l.invariant.below)) in
     let target = sym (ap (λ (r : DependencyNode). r.target) (node-is c.args.m c.requires.map (frame_at c.args.walk (l.i - 1)).place f.there)) in
-    climbing_on c.args.m c.args.walk c.args.target l.i l.out l.invariant up e.result _ target e.ensures (not-false e.result.fits c.if-not-next.false)
+    climbing_on c.args.m c.args.walk c.args.target l.i l.out l.invariant up _ target _ c.in_ok-out-2.ensures
 
 pub returns : goal.returns
 returns c =

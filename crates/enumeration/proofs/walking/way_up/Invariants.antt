@@ -4,6 +4,3 @@ use Rattle.enumeration.proofs.walking.way_up.Given as goal
 
 abbrev pub invariant-loop-i : goal.invariant-loop-i
 invariant-loop-i l = Climbing l.m l.walk l.target l.i l.out
-
-abbrev pub decreases-loop-i : goal.decreases-loop-i
-decreases-loop-i l = l.i

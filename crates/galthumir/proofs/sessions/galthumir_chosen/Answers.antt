@@ -1,18 +1,18 @@
 -- `galthumir::sessions::galthumir_chosen` meets its contract.
-use mathlib.Core.Path.{sym}
-use native.Mathlib.Omega.{arith}
-use Rattle.galthumir.proofs.Shapes.{chosen_large, chosen-refused, chosen-done}
+use Rattle.std.proofs.Common.{sym, ◌∙◌}
+use Rattle.galthumir.proofs.Shapes.{chosen-unknown, chosen-refused, chosen-done}
 use Rattle.galthumir.proofs.sessions.galthumir_chosen.Goals as goal
 
 pub returns-then-kind-gt9 : goal.returns-then-kind-gt9
-returns-then-kind-gt9 c = chosen-refused c.args.answer.now c.args.kind c.args.left.now c.args.right.now 12 (sym (chosen_large c.args.kind c.args.left.now c.args.right.now c.if-kind-gt9.true)) (λ z. omega arith)
+returns-then-kind-gt9 c = chosen-unknown c.args.answer.now c.args.kind c.args.left.now c.args.right.now c.if-kind-gt9.true
 
-pub returns-then-number-ne0 : goal.returns-then-number-ne0
-returns-then-number-ne0 c = chosen-refused c.args.answer.now c.args.kind c.args.left.now c.args.right.now c.chosen_number-number.result (rw (c.short-small.ensures, c.wide.ensures) at c.chosen_number-number.ensures) c.if-number-ne0.true
+pub returns-in-Err : goal.returns-in-Err
+returns-in-Err c =
+    let e = sym c.chosen_number.ensures ∙ c.in-Err.is in
+    rw c.from.ensures (chosen-refused c.args.answer.now c.args.kind c.args.left.now c.args.right.now c.in-Err.why (rw (c.short-small.ensures, c.wide.ensures) at e))
 
 pub returns : goal.returns
-returns c = let n = c.chosen_number-number in
-    let small = c.short-small.ensures in
-    let same = c.wide.ensures in
-    rw (c.put_sizes.ensures, c.side_of.ensures, c.chosen-part.ensures, small, same)
-    (chosen-done c.args.answer.now c.args.kind c.args.left.now c.args.right.now n.result (rw (small, same) at n.ensures) c.if-number-ne0.false)
+returns c =
+    let e = sym c.chosen_number.ensures ∙ c.in_default.is in
+    rw (c.side_of.ensures, c.chosen-part.ensures, c.short-small.ensures, c.wide.ensures)
+    (chosen-done c.args.answer.now c.args.kind c.args.left.now c.args.right.now (rw (c.short-small.ensures, c.wide.ensures) at e))

@@ -11,16 +11,17 @@ use Rattle.arena.proofs.Layouts.{length-decode, lawful-holds}
 use Rattle.classes.specs.Layout.{in_set, lawful_group, members_inside}
 use Rattle.classes.specs.Calls.{group_number}
 use Rattle.group_checks.proofs.Checks.{limit-few, group-counts}
+use Rattle.arena.specs.Refusals.{outcome, refusal}
 use Rattle.group_checks.proofs.checking.check_group.Goals as goal
 
 pub returns-then-not-in_set : goal.returns-then-not-in_set
-unfolding group_number
+unfolding group_number outcome refusal
 returns-then-not-in_set c =
     let s : in_set c.args.g ≡ false = sym c.in_set.ensures ∙ c.if-not-in_set.true in
     rw s
 
 pub returns-then-not-lawful_arena : goal.returns-then-not-lawful_arena
-unfolding group_number
+unfolding group_number outcome refusal
 returns-then-not-lawful_arena c =
     let s : in_set c.args.g ≡ true = sym c.in_set.ensures ∙ c.if-not-in_set.false in
     let a : lawful c.args.cells.now ≡ false = sym c.lawful_arena.ensures ∙ c.if-not-lawful_arena.true in
@@ -34,7 +35,7 @@ lawful_group-requires c =
     (lawful-holds x.cells.now a, limit-few x.g s)
 
 pub returns-then-not-lawful_group : goal.returns-then-not-lawful_group
-unfolding group_number
+unfolding group_number outcome refusal
 returns-then-not-lawful_group c =
     let x = c.args in
     let s : in_set x.g ≡ true = sym c.in_set.ensures ∙ c.if-not-in_set.false in
@@ -50,7 +51,7 @@ members_below-requires c =
     omega (arith, limit-few x.g s, group-counts (nodes x.cells.now) x.g l)
 
 pub returns-then-not-members_below : goal.returns-then-not-members_below
-unfolding group_number members_inside
+unfolding group_number members_inside outcome refusal
 returns-then-not-members_below c =
     let x = c.args in
     let s : in_set x.g ≡ true = sym c.in_set.ensures ∙ c.if-not-in_set.false in
@@ -60,7 +61,7 @@ returns-then-not-members_below c =
     rw (s, a, l, m)
 
 pub returns : goal.returns
-unfolding group_number members_inside
+unfolding group_number members_inside outcome refusal
 returns c =
     let x = c.args in
     let s : in_set x.g ≡ true = sym c.in_set.ensures ∙ c.if-not-in_set.false in

@@ -1,5 +1,5 @@
 -- `group_checks::checking::classes_uniform` meets its contract.
-use Prim.Native.Nat.{◌-◌, ◌≤◌}
+use Prim.Native.Nat.{◌≤◌}
 use mathlib.Core.Bool.{true}
 use mathlib.Core.Path.{◌≡◌}
 use Rattle.laws.specs.Tests.{each}
@@ -9,6 +9,3 @@ use Rattle.group_checks.proofs.checking.classes_uniform.Given as goal
 
 abbrev pub invariant-loop-j : goal.invariant-loop-j
 invariant-loop-j l = (l.j ≤ l.g.count) × ((l.start ≡ sum_to l.g.sizes l.j) × (each (λ j. uniform_at (nodes l.cells) l.g j) l.j ≡ true))
-
-abbrev pub decreases-loop-j : goal.decreases-loop-j
-decreases-loop-j l = l.g.count - l.j

@@ -1,22 +1,11 @@
 -- `group_checks::checking::sizes_unused` meets its contract.
-use borrow.Author.Rules.{rules}
-use Rattle.group_checks.proofs.Checks.{unused-none, unused-more, unused-stops, unused-ends}
+use Rattle.std.proofs.Common.{◌∙◌, rules, tests, eqb, drop}
+use Rattle.std.proofs.lemmas.Iterator.{YieldsList-from_slice}
+use Rattle.laws.proofs.Runs.{each-list, each-drop, take-rest}
+use Rattle.classes.specs.Layout.{unused_from}
 use Rattle.group_checks.proofs.checking.sizes_unused.Goals as goal
 
-pub loop-k-init : goal.loop-k-init
-loop-k-init c = unused-none c.args.n 64 c.args.xs
-
-pub returns-then-xs-n-ne0 : goal.returns-then-xs-n-ne0
-returns-then-xs-n-ne0 c =
-    let x = c.args in
-    unused-stops x.n 64 x.xs c.loop-k.k (search rules) c.if-xs-n-ne0.true
-
-pub loop-k-preserved : goal.loop-k-preserved
-loop-k-preserved c =
-    let x = c.args in
-    unused-more x.n 64 x.xs c.loop-k.k (search rules) c.loop-k.invariant c.if-xs-n-ne0.false
-
 pub returns : goal.returns
+unfolding unused_from
 returns c =
-    let x = c.args in
-    unused-ends x.n 64 x.xs c.loop-k.k (search rules) c.loop-k.invariant
+    each-list (λ x. eqb x 0) _ _ _ c.all.ensures.ran (YieldsList-from_slice (drop c.args.n c.args.sizes.now) (c.iter.ensures.rest ∙ take-rest c.args.n c.args.sizes.now)) (λ x b q k. search (rules, tests)) ∙ each-drop (λ x. eqb x 0) c.args.n c.args.sizes.now

@@ -1,35 +1,12 @@
 -- `group_checks::checking::uniform_class` meets its contract.
-use mathlib.Core.Path.{sym, ◌∙◌}
-use lib.ListN.{get_or}
-use borrow.Author.Rules.{rules}
-use Rattle.laws.proofs.Each.{each_none, each_more, each-stops, each-ends}
+use Rattle.std.proofs.Common.{rules, tests, not, ◌||◌, ◌&&◌, ◌+◌, ltb, leb, length, get_or}
+use Rattle.laws.proofs.Runs.{each-all}
+use Rattle.arena.specs.Node.{node_at}
 use Rattle.arena.specs.Layout.{decode as nodes}
-use Rattle.classes.specs.Layout.{uniform_at}
-use Rattle.group_checks.proofs.checking.uniform_class.Invariants.{Fits}
+use Rattle.classes.specs.Layout.{uniform_at, is_literal, sum_to}
 use Rattle.group_checks.proofs.checking.uniform_class.Goals as goal
-
-pub loop-k-init : goal.loop-k-init
-loop-k-init c =
-    let x = c.args in
-    (search rules, each_none (Fits (nodes x.cells.now) x.g x.j))
-
-pub member_fits-requires : goal.member_fits-requires
-member_fits-requires c =
-    c.requires.0.0
-
-pub returns-then-not-member_fits : goal.returns-then-not-member_fits
-unfolding uniform_at
-returns-then-not-member_fits c =
-    let x = c.args in
-    each-stops (Fits (nodes x.cells.now) x.g x.j) (get_or x.g.sizes x.j 0) c.loop-k.k (search rules) (rw (← c.requires.1.0) (sym c.member_fits.ensures ∙ c.if-not-member_fits.true))
-
-pub loop-k-preserved : goal.loop-k-preserved
-loop-k-preserved c =
-    let x = c.args in
-    (search rules, each_more (Fits (nodes x.cells.now) x.g x.j) c.loop-k.k c.loop-k.invariant.1 (rw (← c.requires.1.0) (sym c.member_fits.ensures ∙ c.if-not-member_fits.false)))
 
 pub returns : goal.returns
 unfolding uniform_at
 returns c =
-    let x = c.args in
-    each-ends (Fits (nodes x.cells.now) x.g x.j) (get_or x.g.sizes x.j 0) c.loop-k.k (search rules) (search rules) c.loop-k.invariant.1
+    each-all (λ k. not (ltb (get_or c.args.g.members (sum_to c.args.g.sizes c.args.j + k) 0) (length (nodes c.args.cells.now)) && is_literal (node_at (nodes c.args.cells.now) (get_or c.args.g.members (sum_to c.args.g.sizes c.args.j + k) 0))) || leb 2 (get_or c.args.g.flavours c.args.j 0)) (get_or c.args.g.sizes c.args.j 0) _ _ _ c.all.ensures.ran (λ x b q k. search (rules, tests))

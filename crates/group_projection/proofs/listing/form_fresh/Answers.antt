@@ -1,23 +1,15 @@
 -- `group_projection::listing::form_fresh` meets its contract.
-use native.Mathlib.Omega.{arith}
-use Rattle.group_projection.proofs.SourceLaws.{fresh-begins, fresh-stops, fresh-more, fresh-ends}
+use mathlib.Core.Bool.{not}
+use mathlib.Core.Path.{◌∙◌}
 use borrow.Author.Rules.{rules}
+use borrow.Author.Tests.{tests}
+use lib.Dec.{eqb}
+use lib.ListN.{get_or}
+use Rattle.laws.proofs.Runs.{each-all}
+use Rattle.group_projection.proofs.SourceLaws.{fresh-front}
 use Rattle.group_projection.proofs.listing.form_fresh.Goals as goal
 
-pub loop-k-init : goal.loop-k-init
-loop-k-init c = (omega arith, fresh-begins c.args.numbers c.args.n c.args.i c.requires.0)
-
-pub bounds-numbers-k : goal.bounds-numbers-k
-bounds-numbers-k c = omega (arith, c.requires.0, c.requires.1, c.loop-k-test.true)
-
-pub bounds-numbers-i : goal.bounds-numbers-i
-bounds-numbers-i c = omega (arith, c.requires.0, c.requires.1)
-
-pub returns-then-numbers-k : goal.returns-then-numbers-k
-returns-then-numbers-k c = fresh-stops c.args.numbers c.args.n c.args.i c.requires.0 c.loop-k.k c.loop-k-test.true c.if-numbers-k.true
-
-pub loop-k-preserved : goal.loop-k-preserved
-loop-k-preserved c = (search rules, fresh-more c.args.numbers c.args.n c.args.i c.requires.0 c.loop-k.k c.loop-k-test.true c.if-numbers-k.false c.loop-k.invariant.1)
-
 pub returns : goal.returns
-returns c = fresh-ends c.args.numbers c.args.n c.args.i c.requires.0 c.loop-k.k c.loop-k.invariant.0 c.loop-k-test.false c.loop-k.invariant.1
+returns c =
+    let x = c.args in
+    each-all (λ k. not (eqb (get_or x.numbers k 0) (get_or x.numbers x.i 0))) x.i _ _ _ c.all.ensures.ran (λ k b q h. search (rules, tests)) ∙ fresh-front x.numbers x.n x.i c.requires.0

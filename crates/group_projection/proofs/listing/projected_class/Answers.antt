@@ -11,15 +11,7 @@ use Rattle.group_projection.proofs.listing.projected_class.Goals as goal
 
 pub loop-k-init : goal.loop-k-init
 loop-k-init c =
-    (omega arith, members-begin (nodes c.args.cells.now) c.args.table.now (take c.args.n (drop c.args.start c.args.members)) c.one_empty-one.result c.one_empty-one.ensures)
-
-pub overflow_add-start : goal.overflow_add-start
-overflow_add-start c =
-    search rules
-
-pub offset_bounds-members-start : goal.offset_bounds-members-start
-offset_bounds-members-start c =
-    search rules
+    members-begin (nodes c.args.cells.now) c.args.table.now (take c.args.n (drop c.args.start c.args.members)) c.one_empty-one.result c.one_empty-one.ensures
 
 pub bounds-members-start : goal.bounds-members-start
 bounds-members-start c = omega (arith, c.requires.0.1, c.loop-k-test.true)
@@ -43,13 +35,9 @@ push_entry-one-requires c =
     let mm : length c.args.members ≡ 256 = search rules in
     let len : length es ≡ c.args.n = length-take-le c.args.n (drop c.args.start c.args.members) (omega (arith, c.requires.0.1, length-drop c.args.start c.args.members)) in
     let x : c.wide-e.result ≡ get_or (drop c.args.start c.args.members) o.k 0 = c.wide-e.ensures ∙ sym (get_or-drop c.args.start c.args.members o.k 0) in (
-      members_ask (nodes c.args.cells.now) c.args.table.now es o.k o.one o.invariant.1 (omega (arith, len, c.loop-k-test.true)) (omega (arith, len, c.requires.0.1)),
+      members_ask (nodes c.args.cells.now) c.args.table.now es o.k o.one o.invariant (omega (arith, len, c.loop-k-test.true)) (omega (arith, len, c.requires.0.1)),
       (c.requires.0.0, subst (λ (e : ℕ). get_or c.args.table.now e 0 < count c.args.cells.now + 2) (sym x) (c.requires.1 o.k c.loop-k-test.true).1),
     )
-
-pub overflow_add-k : goal.overflow_add-k
-overflow_add-k c =
-    search rules
 
 pub loop-k-preserved : goal.loop-k-preserved
 loop-k-preserved c =
@@ -57,10 +45,8 @@ loop-k-preserved c =
     let es = take c.args.n (drop c.args.start c.args.members) in
     let mm : length c.args.members ≡ 256 = search rules in
     let len : length es ≡ c.args.n = length-take-le c.args.n (drop c.args.start c.args.members) (omega (arith, c.requires.0.1, length-drop c.args.start c.args.members)) in
-    let x : c.wide-e.result ≡ get_or es o.k 0 = c.wide-e.ensures ∙ sym (get_or-take c.args.n (drop c.args.start c.args.members) o.k 0 c.loop-k-test.true ∙ get_or-drop c.args.start c.args.members o.k 0) in (
-      search rules,
-      members-more (nodes c.args.cells.now) c.args.table.now es o.k o.one o.invariant.1 (omega (arith, len, c.loop-k-test.true)) (omega (arith, len, c.requires.0.1)) c.wide-e.result x c.push_entry-one.result c.push_entry-one.ensures,
-    )
+    let x : c.wide-e.result ≡ get_or es o.k 0 = c.wide-e.ensures ∙ sym (get_or-take c.args.n (drop c.args.start c.args.members) o.k 0 c.loop-k-test.true ∙ get_or-drop c.args.start c.args.members o.k 0) in
+    members-more (nodes c.args.cells.now) c.args.table.now es o.k o.one o.invariant (omega (arith, len, c.loop-k-test.true)) (omega (arith, len, c.requires.0.1)) c.wide-e.result x c.push_entry-one.result c.push_entry-one.ensures
 
 pub returns : goal.returns
 returns c =
@@ -68,4 +54,4 @@ returns c =
     let es = take c.args.n (drop c.args.start c.args.members) in
     let mm : length c.args.members ≡ 256 = search rules in
     let len : length es ≡ c.args.n = length-take-le c.args.n (drop c.args.start c.args.members) (omega (arith, c.requires.0.1, length-drop c.args.start c.args.members)) in
-    members_end (nodes c.args.cells.now) c.args.table.now es o.k o.one (omega (arith, len, c.loop-k-test.false)) o.invariant.1
+    members_end (nodes c.args.cells.now) c.args.table.now es o.k o.one (omega (arith, len, c.loop-k-test.false)) o.invariant

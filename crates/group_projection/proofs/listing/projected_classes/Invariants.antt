@@ -1,5 +1,4 @@
 -- `group_projection::listing::projected_classes` meets its contract.
-use Prim.Native.Nat.{◌-◌, ◌≤◌}
 use mathlib.Core.Path.{◌≡◌}
 use lib.ListN.{take}
 use Rattle.arena.specs.Layout.{decode as nodes}
@@ -10,7 +9,4 @@ use Rattle.group_projection.proofs.ProjectedParts.{front_telling}
 use Rattle.group_projection.proofs.listing.projected_classes.Given as goal
 
 abbrev pub invariant-loop-j : goal.invariant-loop-j
-invariant-loop-j l = (l.n ≡ l.g.count) × (l.j ≤ l.n) × (l.members ≡ l.g.members) × (l.start ≡ total (take l.j (decode l.g))) × Lists l.out (front_telling (nodes l.cells) l.table l.g l.j)
-
-abbrev pub decreases-loop-j : goal.decreases-loop-j
-decreases-loop-j l = l.n - l.j
+invariant-loop-j l = (l.start ≡ total (take l.j (decode l.g))) × Lists l.out (front_telling (nodes l.cells) l.table l.g l.j)

@@ -11,8 +11,5 @@ push_targets-requires c = c.requires
 pub returns-then-same : goal.returns-then-same
 returns-then-same c = same-pushed (nodes c.args.cells.now) (class_at (decode c.args.one) 0) c.args.source c.args.same c.if-same.true c.push_targets.result c.push_targets.ensures
 
-pub made-requires : goal.made-requires
-made-requires c = c.requires.0.0.coded
-
 pub returns : goal.returns
-returns c = other-pushed (nodes c.args.cells.now) c.args.one c.requires.0.0 c.args.source c.args.same c.if-same.false c.made.result c.made.ensures
+returns c = other-pushed (nodes c.args.cells.now) c.args.one c.requires.0.0 c.args.source c.args.same c.if-same.false

@@ -1,6 +1,4 @@
 -- `group_projection::listing::push_targets` meets its contract.
-use Prim.Native.Nat.{◌-◌, ◌≤◌}
-use mathlib.Core.Path.{◌≡◌}
 use Rattle.arena.specs.Layout.{decode as nodes}
 use Rattle.classes.specs.Group.{class_at}
 use Rattle.classes.specs.Layout.{decode}
@@ -8,7 +6,4 @@ use Rattle.group_projection.proofs.SourceLaws.{TargetsTo}
 use Rattle.group_projection.proofs.listing.push_targets.Given as goal
 
 abbrev pub invariant-loop-k : goal.invariant-loop-k
-invariant-loop-k l = (l.n ≡ l.source.size) × (l.k ≤ l.n) × TargetsTo (nodes l.cells) (class_at (decode l.initial.out) 0) l.source l.k l.out
-
-abbrev pub decreases-loop-k : goal.decreases-loop-k
-decreases-loop-k l = l.n - l.k
+invariant-loop-k l = TargetsTo (nodes l.cells) (class_at (decode l.initial.out) 0) l.source l.k l.out

@@ -1,7 +1,5 @@
 -- `group_projection::listing::source_class` meets its contract.
-use Prim.Native.Nat.{◌-◌, ◌≤◌}
 use mathlib.Core.List.{[], ◌∷◌}
-use mathlib.Core.Path.{◌≡◌}
 use lib.ListN.{take}
 use Rattle.arena.specs.Layout.{decode as nodes}
 use Rattle.group_projection.proofs.ListedLaws.{Lists}
@@ -9,7 +7,4 @@ use Rattle.group_projection.proofs.SourceLaws.{class_of_sources}
 use Rattle.group_projection.proofs.listing.source_class.Given as goal
 
 abbrev pub invariant-loop-i : goal.invariant-loop-i
-invariant-loop-i l = (l.n ≡ l.m.count) × (l.i ≤ l.n) × Lists l.one (class_of_sources (nodes l.cells) l.m (take l.m.count l.numbers) l.form l.i ∷ [])
-
-abbrev pub decreases-loop-i : goal.decreases-loop-i
-decreases-loop-i l = l.n - l.i
+invariant-loop-i l = Lists l.one (class_of_sources (nodes l.cells) l.m (take l.m.count l.numbers) l.form l.i ∷ [])

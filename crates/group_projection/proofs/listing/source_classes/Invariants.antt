@@ -1,6 +1,4 @@
 -- `group_projection::listing::source_classes` meets its contract.
-use Prim.Native.Nat.{◌-◌, ◌≤◌}
-use mathlib.Core.Path.{◌≡◌}
 use lib.ListN.{take}
 use Rattle.arena.specs.Layout.{decode as nodes}
 use Rattle.group_projection.proofs.ListedLaws.{Lists}
@@ -8,7 +6,4 @@ use Rattle.group_projection.proofs.SourceLaws.{with_sources}
 use Rattle.group_projection.proofs.listing.source_classes.Given as goal
 
 abbrev pub invariant-loop-i : goal.invariant-loop-i
-invariant-loop-i l = (l.n ≡ l.m.count) × (l.i ≤ l.n) × Lists l.out (with_sources (nodes l.cells) l.initial.out l.m (take l.m.count l.numbers) l.i)
-
-abbrev pub decreases-loop-i : goal.decreases-loop-i
-decreases-loop-i l = l.n - l.i
+invariant-loop-i l = Lists l.out (with_sources (nodes l.cells) l.initial.out l.m (take l.m.count l.numbers) l.i)

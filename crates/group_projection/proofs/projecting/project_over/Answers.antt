@@ -1,11 +1,11 @@
 -- `group_projection::projecting::project_over` meets its contract.
-use mathlib.Core.Path.{sym}
+use mathlib.Core.Bool.{true, false}
+use mathlib.Core.Path.{refl, sym}
 use native.Mathlib.Omega.{arith}
 use lib.ListN.{take}
 use lib.Seq.{length-take-le}
 use Rattle.classes.proofs.Codec.{length-members}
 use Rattle.group_projection.proofs.ProjectLaws.{walk-ready, walk-full, forms-ready, forms-full, group-ready, group-made}
-use borrow.Author.Tests.{not-true, not-false}
 use Rattle.group_projection.proofs.projecting.project_over.Goals as goal
 
 pub class_firsts-firsts-requires : goal.class_firsts-firsts-requires
@@ -34,39 +34,39 @@ returns-then-not-project_all c =
     let p = c.projection_table-table in
     let f = c.class_firsts-firsts in
     let n = c.node_count-old in
-    walk-full c.args.cells.now c.args.g c.args.m c.requires n.result f.result p.result n.ensures f.ensures p.ensures w.new.cells w.new.table w.result w.ensures c.if-not-project_all.true c.no_group.result c.no_group.ensures
+    walk-full c.args.cells.now c.args.g c.args.m c.requires n.result f.result p.result n.ensures f.ensures p.ensures w.new.cells w.new.table w.result w.ensures c.if-not-project_all.true
 
-pub source_forms-forms-requires : goal.source_forms-forms-requires
-source_forms-forms-requires c =
+pub source_forms-requires : goal.source_forms-requires
+source_forms-requires c =
     let w = c.project_all in
     let p = c.projection_table-table in
     let f = c.class_firsts-firsts in
     let n = c.node_count-old in
     forms-ready c.args.cells.now c.args.g c.args.m c.requires n.result f.result p.result n.ensures f.ensures p.ensures w.new.cells w.new.table w.result w.ensures c.if-not-project_all.false
 
-pub returns-then-not-forms : goal.returns-then-not-forms
-returns-then-not-forms c =
-    let o = c.source_forms-forms in
+pub returns-in_default : goal.returns-in_default
+returns-in_default c =
+    let o = c.source_forms in
     let w = c.project_all in
     let p = c.projection_table-table in
     let f = c.class_firsts-firsts in
     let n = c.node_count-old in
-    forms-full c.args.cells.now c.args.g c.args.m c.requires n.result f.result p.result n.ensures f.ensures p.ensures w.new.cells w.new.table w.result w.ensures c.if-not-project_all.false o.new.cells o.result.fits (take c.args.m.count o.result.numbers) o.ensures c.no_group-then-not-forms.result (not-true _ c.if-not-forms.true) c.no_group-then-not-forms.ensures
+    forms-full c.args.cells.now c.args.g c.args.m c.requires n.result f.result p.result n.ensures f.ensures p.ensures w.new.cells w.new.table w.result w.ensures c.if-not-project_all.false o.new.cells false _ (rw c.in_default.is at o.ensures) refl
 
 pub projected_group-requires : goal.projected_group-requires
 projected_group-requires c =
-    let o = c.source_forms-forms in
+    let o = c.source_forms in
     let w = c.project_all in
     let p = c.projection_table-table in
     let f = c.class_firsts-firsts in
     let n = c.node_count-old in
-    group-ready c.args.cells.now c.args.g c.args.m c.requires n.result f.result p.result n.ensures f.ensures p.ensures w.new.cells w.new.table w.result w.ensures c.if-not-project_all.false o.new.cells o.result.fits (take c.args.m.count o.result.numbers) o.ensures
+    group-ready c.args.cells.now c.args.g c.args.m c.requires n.result f.result p.result n.ensures f.ensures p.ensures w.new.cells w.new.table w.result w.ensures c.if-not-project_all.false o.new.cells true (take c.args.m.count c.in-Ok.numbers) (rw c.in-Ok.is at o.ensures)
 
 pub returns : goal.returns
 returns c =
-    let o = c.source_forms-forms in
+    let o = c.source_forms in
     let w = c.project_all in
     let p = c.projection_table-table in
     let f = c.class_firsts-firsts in
     let n = c.node_count-old in
-    group-made c.args.cells.now c.args.g c.args.m c.requires n.result f.result p.result n.ensures f.ensures p.ensures w.new.cells w.new.table w.result w.ensures c.if-not-project_all.false o.new.cells o.result.fits (take c.args.m.count o.result.numbers) o.ensures c.projected_group.result (not-false _ c.if-not-forms.false) c.projected_group.ensures
+    group-made c.args.cells.now c.args.g c.args.m c.requires n.result f.result p.result n.ensures f.ensures p.ensures w.new.cells w.new.table w.result w.ensures c.if-not-project_all.false o.new.cells true (take c.args.m.count c.in-Ok.numbers) (rw c.in-Ok.is at o.ensures) c.projected_group.result refl c.projected_group.ensures

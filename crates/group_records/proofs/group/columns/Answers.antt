@@ -68,17 +68,13 @@ overflow_add-at-in-loop-j-2 c =
     let h = t.whole in
     search rules
 
-pub loop-j-smaller : goal.loop-j-smaller
-loop-j-smaller c =
-    omega (arith, c.loop-j-test.true)
-
 pub loop-j-preserved : goal.loop-j-preserved
 loop-j-preserved c =
     let b = c.args.body.now in
     let l = c.loop-j in
     let k : l.j < length (given_of b) = omega (arith, c.loop-j-test.true, c.class_count-n.ensures) in
     let t = turn b l.j l.at l.invariant.0 k in
-    (rw c.member_count-m.ensures.0 t.next, columns-more (given_of b) l.group l.j c.requires.1.0 c.requires.1.1 k l.invariant.1 c.member_count-m.result c.field.result c.wide_field.result (c.member_count-m.ensures.0 ∙ sym t.size) (c.field.ensures ∙ sym t.flavour) (c.wide_field.ensures ∙ sym t.value))
+    (rw c.member_count-m.ensures.0 t.next, columns-more (given_of b) l.group l.j c.requires.1.0 c.requires.1.1 k l.invariant.1 c.member_count-m.result c.from.result c.wide_field.result (c.member_count-m.ensures.0 ∙ sym t.size) (c.from.ensures ∙ c.field.ensures ∙ sym t.flavour) (c.wide_field.ensures ∙ sym t.value))
 
 pub returns : goal.returns
 returns c =

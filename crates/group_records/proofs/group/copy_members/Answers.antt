@@ -1,33 +1,12 @@
 -- `group_records::group::copy_members` meets its contract.
 use native.Mathlib.Omega.{arith}
 use Rattle.group_records.proofs.GroupCopy.{copied_none, copied_more, copied_all}
-use borrow.Author.Rules.{rules}
 use Rattle.group_records.proofs.group.copy_members.Goals as goal
 
 pub loop-k-init : goal.loop-k-init
 loop-k-init c =
     let x = c.args in
     copied_none x.list.now x.used x.body.now x.at x.m c.requires.0.0
-
-pub overflow_mul-k : goal.overflow_mul-k
-overflow_mul-k c =
-    search rules
-
-pub overflow_add-at : goal.overflow_add-at
-overflow_add-at c =
-    search rules
-
-pub member_at-requires : goal.member_at-requires
-member_at-requires c =
-    search rules
-
-pub bounds-list-used : goal.bounds-list-used
-bounds-list-used c =
-    search rules
-
-pub loop-k-smaller : goal.loop-k-smaller
-loop-k-smaller c =
-    omega (arith, c.loop-k-test.true)
 
 pub loop-k-preserved : goal.loop-k-preserved
 loop-k-preserved c =

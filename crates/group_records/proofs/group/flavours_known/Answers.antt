@@ -19,16 +19,16 @@ pub field-requires : goal.field-requires
 field-requires c =
     let b = c.args.body.now in
     let l = c.loop-j in
-    let k : l.j < length (given_of b) = omega (arith, c.loop-j-test.true, c.class_count-n.ensures) in
-    let t = turn b l.j l.at l.invariant.0 k in
+    let k : l._j < length (given_of b) = omega (arith, c.loop-j-test.true, c.class_count-n.ensures) in
+    let t = turn b l._j l.at l.invariant.0 k in
     omega (arith, t.head)
 
 pub overflow_add-at : goal.overflow_add-at
 overflow_add-at c =
     let b = c.args.body.now in
     let l = c.loop-j in
-    let k : l.j < length (given_of b) = omega (arith, c.loop-j-test.true, c.class_count-n.ensures) in
-    let t = turn b l.j l.at l.invariant.0 k in
+    let k : l._j < length (given_of b) = omega (arith, c.loop-j-test.true, c.class_count-n.ensures) in
+    let t = turn b l._j l.at l.invariant.0 k in
     let h = t.head in
     search rules
 
@@ -36,8 +36,8 @@ pub wide_field-requires : goal.wide_field-requires
 wide_field-requires c =
     let b = c.args.body.now in
     let l = c.loop-j in
-    let k : l.j < length (given_of b) = omega (arith, c.loop-j-test.true, c.class_count-n.ensures) in
-    let t = turn b l.j l.at l.invariant.0 k in
+    let k : l._j < length (given_of b) = omega (arith, c.loop-j-test.true, c.class_count-n.ensures) in
+    let t = turn b l._j l.at l.invariant.0 k in
     omega (arith, t.head)
 
 pub returns-then-not-known_flavour : goal.returns-then-not-known_flavour
@@ -45,46 +45,38 @@ unfolding flavours_known
 returns-then-not-known_flavour c =
     let b = c.args.body.now in
     let l = c.loop-j in
-    let k : l.j < length (given_of b) = omega (arith, c.loop-j-test.true, c.class_count-n.ensures) in
-    let t = turn b l.j l.at l.invariant.0 k in
-    each-stops (Known b) (length (given_of b)) l.j k (known_at b l.j l.at t c.field.result c.wide_field.result c.field.ensures c.wide_field.ensures ∙ sym c.known_flavour.ensures ∙ c.if-not-known_flavour.true)
+    let k : l._j < length (given_of b) = omega (arith, c.loop-j-test.true, c.class_count-n.ensures) in
+    let t = turn b l._j l.at l.invariant.0 k in
+    each-stops (Known b) (length (given_of b)) l._j k (known_at b l._j l.at t c.from.result c.wide_field.result (c.from.ensures ∙ c.field.ensures) c.wide_field.ensures ∙ sym c.known_flavour.ensures ∙ c.if-not-known_flavour.true)
 
 pub member_count-requires : goal.member_count-requires
 member_count-requires c =
     let b = c.args.body.now in
     let l = c.loop-j in
-    let k : l.j < length (given_of b) = omega (arith, c.loop-j-test.true, c.class_count-n.ensures) in
-    let t = turn b l.j l.at l.invariant.0 k in
+    let k : l._j < length (given_of b) = omega (arith, c.loop-j-test.true, c.class_count-n.ensures) in
+    let t = turn b l._j l.at l.invariant.0 k in
     t.head
 
 pub overflow_add-at-in-loop-j-2 : goal.overflow_add-at-in-loop-j-2
 overflow_add-at-in-loop-j-2 c =
     let b = c.args.body.now in
     let l = c.loop-j in
-    let k : l.j < length (given_of b) = omega (arith, c.loop-j-test.true, c.class_count-n.ensures) in
-    let t = turn b l.j l.at l.invariant.0 k in
+    let k : l._j < length (given_of b) = omega (arith, c.loop-j-test.true, c.class_count-n.ensures) in
+    let t = turn b l._j l.at l.invariant.0 k in
     let h = t.whole in
     search rules
-
-pub overflow_add-j : goal.overflow_add-j
-overflow_add-j c =
-    search rules
-
-pub loop-j-smaller : goal.loop-j-smaller
-loop-j-smaller c =
-    omega (arith, c.loop-j-test.true)
 
 pub loop-j-preserved : goal.loop-j-preserved
 loop-j-preserved c =
     let b = c.args.body.now in
     let l = c.loop-j in
-    let k : l.j < length (given_of b) = omega (arith, c.loop-j-test.true, c.class_count-n.ensures) in
-    let t = turn b l.j l.at l.invariant.0 k in
-    (rw c.member_count.ensures.0 t.next, each_more (Known b) l.j l.invariant.1 (known_at b l.j l.at t c.field.result c.wide_field.result c.field.ensures c.wide_field.ensures ∙ sym c.known_flavour.ensures ∙ c.if-not-known_flavour.false))
+    let k : l._j < length (given_of b) = omega (arith, c.loop-j-test.true, c.class_count-n.ensures) in
+    let t = turn b l._j l.at l.invariant.0 k in
+    (rw c.member_count.ensures.0 t.next, each_more (Known b) l._j l.invariant.1 (known_at b l._j l.at t c.from.result c.wide_field.result (c.from.ensures ∙ c.field.ensures) c.wide_field.ensures ∙ sym c.known_flavour.ensures ∙ c.if-not-known_flavour.false))
 
 pub returns : goal.returns
 unfolding flavours_known
 returns c =
     let b = c.args.body.now in
     let l = c.loop-j in
-    each-ends (Known b) (length (given_of b)) l.j l.invariant.0.below (omega (arith, c.loop-j-test.false, c.class_count-n.ensures)) l.invariant.1
+    each-ends (Known b) (length (given_of b)) l._j l.invariant.0.below (omega (arith, c.loop-j-test.false, c.class_count-n.ensures)) l.invariant.1

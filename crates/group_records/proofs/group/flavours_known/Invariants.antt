@@ -1,5 +1,4 @@
 -- `group_records::group::flavours_known` meets its contract.
-use Prim.Native.Nat.{◌-◌}
 use mathlib.Core.Bool.{true}
 use mathlib.Core.Path.{◌≡◌}
 use Rattle.laws.specs.Tests.{each}
@@ -8,7 +7,4 @@ use Rattle.group_records.proofs.GroupWalk.{Known}
 use Rattle.group_records.proofs.group.flavours_known.Given as goal
 
 abbrev pub invariant-loop-j : goal.invariant-loop-j
-invariant-loop-j l = Before l.body l.j l.at × (each (Known l.body) l.j ≡ true)
-
-abbrev pub decreases-loop-j : goal.decreases-loop-j
-decreases-loop-j l = l.n - l.j
+invariant-loop-j l = Before l.body l._j l.at × (each (Known l.body) l._j ≡ true)

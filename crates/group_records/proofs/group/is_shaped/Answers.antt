@@ -13,13 +13,13 @@ returns-then-body-lt2 c =
 pub loop-j-init : goal.loop-j-init
 loop-j-init c =
     let b = c.args.body.now in
-    (search rules, (search rules, shape_start b c.index-n.result (search rules) (c.index-n.ensures.0 ∙ c.field.ensures)))
+    (search rules, shape_start b c.index-n.result (search rules) (c.index-n.ensures.0 ∙ c.field.ensures))
 
 pub returns-then-not-class_fits : goal.returns-then-not-class_fits
 returns-then-not-class_fits c =
     let b = c.args.body.now in
     let l = c.loop-j in
-    shape_stop b c.index-n.result l.at l.j (search rules) l.invariant.1.0 (sym c.class_fits.ensures ∙ c.if-not-class_fits.true) ∙ sym l.invariant.1.1
+    shape_stop b c.index-n.result l.at l._j (search rules) l.invariant.0 (sym c.class_fits.ensures ∙ c.if-not-class_fits.true) ∙ sym l.invariant.1
 
 pub member_count-requires : goal.member_count-requires
 member_count-requires c =
@@ -38,11 +38,11 @@ loop-j-preserved c =
     let l = c.loop-j in
     let t = sym c.class_fits.ensures ∙ c.if-not-class_fits.false in
     let r = shape_room b l.at c.member_count.result c.member_count.ensures.0 t in
-    let k : l.j < c.index-n.result = search rules in
-    (search rules, (omega arith, l.invariant.1.1 ∙ shape_step b c.index-n.result l.at l.j c.member_count.result k l.invariant.1.0 c.member_count.ensures.0 t))
+    let k : l._j < c.index-n.result = search rules in
+    (omega arith, l.invariant.1 ∙ shape_step b c.index-n.result l.at l._j c.member_count.result k l.invariant.0 c.member_count.ensures.0 t)
 
 pub returns : goal.returns
 returns c =
     let b = c.args.body.now in
     let l = c.loop-j in
-    shape_end b c.index-n.result l.at l.j (search rules) l.invariant.1.0 ∙ sym l.invariant.1.1
+    shape_end b c.index-n.result l.at l._j (search rules) l.invariant.0 ∙ sym l.invariant.1

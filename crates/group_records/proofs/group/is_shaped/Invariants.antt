@@ -1,5 +1,5 @@
 -- `group_records::group::is_shaped` meets its contract.
-use Prim.Native.Nat.{◌-◌, ◌≤◌}
+use Prim.Native.Nat.{◌≤◌}
 use mathlib.Core.Path.{◌≡◌}
 use lib.ListN.{length}
 use Rattle.group_records.specs.GroupRecord.{body_given}
@@ -8,7 +8,4 @@ use Rattle.group_records.proofs.Shape.{Left}
 use Rattle.group_records.proofs.group.is_shaped.Given as goal
 
 abbrev pub invariant-loop-j : goal.invariant-loop-j
-invariant-loop-j l = (l.j ≤ l.n) × ((l.at ≤ length l.body) × (is_given (body_given l.body) ≡ Left l.body l.n l.at l.j))
-
-abbrev pub decreases-loop-j : goal.decreases-loop-j
-decreases-loop-j l = l.n - l.j
+invariant-loop-j l = (l.at ≤ length l.body) × (is_given (body_given l.body) ≡ Left l.body l.n l.at l._j)

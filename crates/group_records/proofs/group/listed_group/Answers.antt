@@ -7,6 +7,7 @@ use Rattle.group_records.specs.GroupRecord.{members_apart, literals_uniform, mem
 use Rattle.group_records.specs.Inner.{given_of}
 use Rattle.group_records.proofs.GroupBuild.{apart-is, known_is, refuse_twice, refuse_literal, refuse_unknown, built-read}
 use Rattle.group_records.proofs.group.listed_group.Goals as goal
+use Rattle.group_records.proofs.group.listed_group.Goals.{then-not-numbers_apart-via-then-not-numbers_apart, then-not-numbers_apart-via-else-not-numbers_apart+then-not-literals_uniform}
 
 pub numbers_apart-requires : goal.numbers_apart-requires
 numbers_apart-requires c =
@@ -16,19 +17,14 @@ pub returns-then-not-numbers_apart : goal.returns-then-not-numbers_apart
 returns-then-not-numbers_apart c =
     let x = c.args in
     let h = c.requires in
-    let d : members_apart (given_of x.body.now) ≡ false = sym (apart-is x.cells.now x.body.now x.numbers.now h) ∙ sym c.numbers_apart.ensures ∙ c.if-not-numbers_apart.true in
-    refuse_twice x.cells.now x.body.now h.shaped c.no_group.result h.known c.no_group.ensures d
+    elim c.then-not-numbers_apart.branch [
+      | then-not-numbers_apart-via-then-not-numbers_apart w ↦ refuse_twice x.cells.now x.body.now h.shaped c.no_group.result h.known c.no_group.ensures (sym (apart-is x.cells.now x.body.now x.numbers.now h) ∙ sym c.numbers_apart.ensures ∙ w.if-not-numbers_apart.true)
+      | then-not-numbers_apart-via-else-not-numbers_apart+then-not-literals_uniform w ↦ refuse_literal x.cells.now x.body.now h.shaped c.no_group.result h.known c.no_group.ensures (sym w.literals_uniform.ensures ∙ w.if-not-literals_uniform.true)
+    ]
 
 pub literals_uniform-requires : goal.literals_uniform-requires
 literals_uniform-requires c =
     (lawful-holds c.args.cells.now c.requires.arena, c.requires.shaped)
-
-pub returns-then-not-literals_uniform : goal.returns-then-not-literals_uniform
-returns-then-not-literals_uniform c =
-    let x = c.args in
-    let h = c.requires in
-    let u : literals_uniform (nodes x.cells.now) (given_of x.body.now) ≡ false = sym c.literals_uniform.ensures ∙ c.if-not-literals_uniform.true in
-    refuse_literal x.cells.now x.body.now h.shaped c.no_group-then-not-literals_uniform.result h.known c.no_group-then-not-literals_uniform.ensures u
 
 pub returns-then-not-all_below : goal.returns-then-not-all_below
 returns-then-not-all_below c =

@@ -23,16 +23,16 @@ pub member_count-m-requires : goal.member_count-m-requires
 member_count-m-requires c =
     let b = c.args.body.now in
     let l = c.loop-j in
-    let k : l.j < length (given_of b) = omega (arith, c.loop-j-test.true, c.class_count-n.ensures) in
-    let t = turn b l.j l.at l.invariant.0 k in
+    let k : l._j < length (given_of b) = omega (arith, c.loop-j-test.true, c.class_count-n.ensures) in
+    let t = turn b l._j l.at l.invariant.0 k in
     t.head
 
 pub overflow_add-at : goal.overflow_add-at
 overflow_add-at c =
     let b = c.args.body.now in
     let l = c.loop-j in
-    let k : l.j < length (given_of b) = omega (arith, c.loop-j-test.true, c.class_count-n.ensures) in
-    let t = turn b l.j l.at l.invariant.0 k in
+    let k : l._j < length (given_of b) = omega (arith, c.loop-j-test.true, c.class_count-n.ensures) in
+    let t = turn b l._j l.at l.invariant.0 k in
     let h = t.head in
     omega arith
 
@@ -40,16 +40,16 @@ pub field-requires : goal.field-requires
 field-requires c =
     let b = c.args.body.now in
     let l = c.loop-j in
-    let k : l.j < length (given_of b) = omega (arith, c.loop-j-test.true, c.class_count-n.ensures) in
-    let t = turn b l.j l.at l.invariant.0 k in
+    let k : l._j < length (given_of b) = omega (arith, c.loop-j-test.true, c.class_count-n.ensures) in
+    let t = turn b l._j l.at l.invariant.0 k in
     omega (arith, t.head)
 
 pub members_fit-requires : goal.members_fit-requires
 members_fit-requires c =
     let b = c.args.body.now in
     let l = c.loop-j in
-    let k : l.j < length (given_of b) = omega (arith, c.loop-j-test.true, c.class_count-n.ensures) in
-    let t = turn b l.j l.at l.invariant.0 k in
+    let k : l._j < length (given_of b) = omega (arith, c.loop-j-test.true, c.class_count-n.ensures) in
+    let t = turn b l._j l.at l.invariant.0 k in
     (c.requires.0, omega (arith, t.whole, c.member_count-m.ensures.0))
 
 pub returns-then-not-members_fit : goal.returns-then-not-members_fit
@@ -57,36 +57,32 @@ unfolding literals_uniform
 returns-then-not-members_fit c =
     let b = c.args.body.now in
     let l = c.loop-j in
-    let k : l.j < length (given_of b) = omega (arith, c.loop-j-test.true, c.class_count-n.ensures) in
-    let t = turn b l.j l.at l.invariant.0 k in
+    let k : l._j < length (given_of b) = omega (arith, c.loop-j-test.true, c.class_count-n.ensures) in
+    let t = turn b l._j l.at l.invariant.0 k in
     let ns = nodes c.args.cells.now in
-    each-stops (Uniform ns b) (length (given_of b)) l.j k (uniform-at b l.j l.at t ns c.field.result c.member_count-m.result c.field.ensures c.member_count-m.ensures.0 ∙ sym c.members_fit.ensures ∙ c.if-not-members_fit.true)
+    each-stops (Uniform ns b) (length (given_of b)) l._j k (uniform-at b l._j l.at t ns c.from.result c.member_count-m.result (c.from.ensures ∙ c.field.ensures) c.member_count-m.ensures.0 ∙ sym c.members_fit.ensures ∙ c.if-not-members_fit.true)
 
 pub overflow_add-at-in-loop-j-2 : goal.overflow_add-at-in-loop-j-2
 overflow_add-at-in-loop-j-2 c =
     let b = c.args.body.now in
     let l = c.loop-j in
-    let k : l.j < length (given_of b) = omega (arith, c.loop-j-test.true, c.class_count-n.ensures) in
-    let t = turn b l.j l.at l.invariant.0 k in
+    let k : l._j < length (given_of b) = omega (arith, c.loop-j-test.true, c.class_count-n.ensures) in
+    let t = turn b l._j l.at l.invariant.0 k in
     let h = t.whole in
     omega arith
-
-pub loop-j-smaller : goal.loop-j-smaller
-loop-j-smaller c =
-    omega (arith, c.loop-j-test.true)
 
 pub loop-j-preserved : goal.loop-j-preserved
 loop-j-preserved c =
     let b = c.args.body.now in
     let l = c.loop-j in
-    let k : l.j < length (given_of b) = omega (arith, c.loop-j-test.true, c.class_count-n.ensures) in
-    let t = turn b l.j l.at l.invariant.0 k in
+    let k : l._j < length (given_of b) = omega (arith, c.loop-j-test.true, c.class_count-n.ensures) in
+    let t = turn b l._j l.at l.invariant.0 k in
     let ns = nodes c.args.cells.now in
-    (rw c.member_count-m.ensures.0 t.next, each_more (Uniform ns b) l.j l.invariant.1 (uniform-at b l.j l.at t ns c.field.result c.member_count-m.result c.field.ensures c.member_count-m.ensures.0 ∙ sym c.members_fit.ensures ∙ c.if-not-members_fit.false))
+    (rw c.member_count-m.ensures.0 t.next, each_more (Uniform ns b) l._j l.invariant.1 (uniform-at b l._j l.at t ns c.from.result c.member_count-m.result (c.from.ensures ∙ c.field.ensures) c.member_count-m.ensures.0 ∙ sym c.members_fit.ensures ∙ c.if-not-members_fit.false))
 
 pub returns : goal.returns
 unfolding literals_uniform
 returns c =
     let b = c.args.body.now in
     let l = c.loop-j in
-    each-ends (Uniform (nodes c.args.cells.now) b) (length (given_of b)) l.j l.invariant.0.below (omega (arith, c.loop-j-test.false, c.class_count-n.ensures)) l.invariant.1
+    each-ends (Uniform (nodes c.args.cells.now) b) (length (given_of b)) l._j l.invariant.0.below (omega (arith, c.loop-j-test.false, c.class_count-n.ensures)) l.invariant.1

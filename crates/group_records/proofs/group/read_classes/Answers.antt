@@ -7,6 +7,7 @@ use lib.Seq.{length-take-le}
 use Rattle.records.specs.Record.{AllBelow}
 use Rattle.group_records.proofs.GroupBuild.{refuse_flavour, refuse_arena, refuse_empty}
 use Rattle.group_records.proofs.group.read_classes.Goals as goal
+use Rattle.group_records.proofs.group.read_classes.Goals.{then-not-lawful_arena-via-then-not-lawful_arena, then-not-lawful_arena-via-else-not-lawful_arena+then-not-classes_filled}
 
 pub returns-then-not-flavours_known : goal.returns-then-not-flavours_known
 returns-then-not-flavours_known c =
@@ -16,12 +17,12 @@ returns-then-not-flavours_known c =
 pub returns-then-not-lawful_arena : goal.returns-then-not-lawful_arena
 returns-then-not-lawful_arena c =
     let x = c.args in
-    refuse_arena x.cells.now x.body.now c.requires c.no_group-then-not-lawful_arena.result (sym c.flavours_known.ensures ∙ c.if-not-flavours_known.false) c.no_group-then-not-lawful_arena.ensures (sym c.lawful_arena.ensures ∙ c.if-not-lawful_arena.true)
-
-pub returns-then-not-classes_filled : goal.returns-then-not-classes_filled
-returns-then-not-classes_filled c =
-    let x = c.args in
-    refuse_empty x.cells.now x.body.now c.requires c.no_group-then-not-classes_filled.result (sym c.flavours_known.ensures ∙ c.if-not-flavours_known.false) c.no_group-then-not-classes_filled.ensures (sym c.classes_filled.ensures ∙ c.if-not-classes_filled.true)
+    let n = c.no_group-then-not-lawful_arena in
+    let f = sym c.flavours_known.ensures ∙ c.if-not-flavours_known.false in
+    elim c.then-not-lawful_arena.branch [
+      | then-not-lawful_arena-via-then-not-lawful_arena w ↦ refuse_arena x.cells.now x.body.now c.requires n.result f n.ensures (sym c.lawful_arena.ensures ∙ w.if-not-lawful_arena.true)
+      | then-not-lawful_arena-via-else-not-lawful_arena+then-not-classes_filled w ↦ refuse_empty x.cells.now x.body.now c.requires n.result f n.ensures (sym w.classes_filled.ensures ∙ w.if-not-classes_filled.true)
+    ]
 
 pub copy_all-n-requires : goal.copy_all-n-requires
 copy_all-n-requires c =

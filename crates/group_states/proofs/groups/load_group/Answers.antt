@@ -9,8 +9,8 @@ returns c =
       limit = c.wide.ensures t;
       count = c.wide-2.ensures t;
       used = c.wide-3.ensures t;
-      sizes = c.sizes_from-sizes.ensures t;
-      flavours = c.table_from-flavours.ensures t;
-      values = c.table_from-values.ensures t;
-      members = c.members_from-members.ensures t;
+      sizes = c.sizes_from.ensures t;
+      flavours = c.table_from.ensures t;
+      values = c.table_from-2.ensures t;
+      members = c.table_from-3.ensures t;
     }

@@ -2,6 +2,7 @@
 use mathlib.Core.Path.{◌≡◌, sym, ap, ◌∙◌}
 use native.Mathlib.Omega.{arith}
 use lib.ListN.{length}
+use Rattle.arena.specs.declared.Refusal.TheVariants.{IndexOutOfRange}
 use Rattle.arena.specs.Layout.{decode as nodes}
 use Rattle.arena.proofs.Layouts.{length-decode}
 use Rattle.classes.specs.declared.Changed.{Changed}
@@ -21,7 +22,7 @@ pub returns-then-not-members_move : goal.returns-then-not-members_move
 returns-then-not-members_move c =
     let w = c.lift_of_size-lift in
     let n : c.node_count.result ≡ length (nodes c.args.cells.now) = c.node_count.ensures ∙ sym (length-decode c.args.cells.now) in
-    ap {B = Outcome} (λ (x : Changed). (x, c.args.cells.now)) (refusal_is c.refusal.result 10 c.args.left c.refusal.ensures)
+    ap {B = Outcome} (λ (x : Changed). (x, c.args.cells.now)) (refusal_is c.refusal.result IndexOutOfRange c.args.left c.refusal.ensures)
     ∙ members-out c.args.cells.now c.args.left c.args.right c.args.pairs.now c.args.left_size w.result c.requires w.ensures.1
     (sym (members-test c.args.cells.now c.args.left c.args.right c.args.pairs.now w.result c.node_count.result c.requires n c.movable-table.result c.movable-table.ensures) ∙ sym c.members_move.ensures ∙ c.if-not-members_move.true)
 
@@ -33,7 +34,7 @@ pub returns-then-not-rights_move : goal.returns-then-not-rights_move
 returns-then-not-rights_move c =
     let w = c.lift_of_size-lift in
     let n : c.node_count.result ≡ length (nodes c.args.cells.now) = c.node_count.ensures ∙ sym (length-decode c.args.cells.now) in
-    ap {B = Outcome} (λ (x : Changed). (x, c.args.cells.now)) (refusal_is c.refusal-then-not-rights_move.result 10 c.args.left c.refusal-then-not-rights_move.ensures)
+    ap {B = Outcome} (λ (x : Changed). (x, c.args.cells.now)) (refusal_is c.refusal-then-not-rights_move.result IndexOutOfRange c.args.left c.refusal-then-not-rights_move.ensures)
     ∙ rights-out c.args.cells.now c.args.left c.args.right c.args.pairs.now c.args.left_size w.result c.requires w.ensures.1
     (sym (rights-test c.args.cells.now c.args.left c.args.right c.args.pairs.now w.result c.node_count.result c.requires n c.movable-table.result c.movable-table.ensures) ∙ sym c.rights_move.ensures ∙ c.if-not-rights_move.true)
 
@@ -45,15 +46,15 @@ join_placed-joined-requires c =
     let b = sym (rights-test c.args.cells.now c.args.left c.args.right c.args.pairs.now w.result c.node_count.result c.requires n c.movable-table.result c.movable-table.ensures) ∙ sym c.rights_move.ensures ∙ c.if-not-rights_move.false in
     shift-ready c.args.cells.now c.args.left c.args.right c.args.pairs.now c.args.left_size w.result c.requires w.ensures.1 a b w.ensures.0
 
-pub returns-then-joined-ne0 : goal.returns-then-joined-ne0
-returns-then-joined-ne0 c =
+pub returns-in-Err : goal.returns-in-Err
+returns-in-Err c =
     let w = c.lift_of_size-lift in
     let j = c.join_placed-joined in
     let n : c.node_count.result ≡ length (nodes c.args.cells.now) = c.node_count.ensures ∙ sym (length-decode c.args.cells.now) in
     let a = sym (members-test c.args.cells.now c.args.left c.args.right c.args.pairs.now w.result c.node_count.result c.requires n c.movable-table.result c.movable-table.ensures) ∙ sym c.members_move.ensures ∙ c.if-not-members_move.false in
     let b = sym (rights-test c.args.cells.now c.args.left c.args.right c.args.pairs.now w.result c.node_count.result c.requires n c.movable-table.result c.movable-table.ensures) ∙ sym c.rights_move.ensures ∙ c.if-not-rights_move.false in
-    ap {B = Outcome} (λ (x : Changed). (x, c.args.cells.now)) (refusal_is c.refusal-then-joined-ne0.result j.result.number c.args.left c.refusal-then-joined-ne0.ensures)
-    ∙ shift-refused c.args.cells.now c.args.left c.args.right c.args.pairs.now c.args.left_size w.result c.requires w.ensures.1 a b j.new.cells j.result j.ensures c.if-joined-ne0.true
+    ap {B = Outcome} (λ (x : Changed). (x, c.args.cells.now)) (refusal_is c.refusal-in-Err.result c.in-Err.why c.args.left c.refusal-in-Err.ensures)
+    ∙ shift-refused c.args.cells.now c.args.left c.args.right c.args.pairs.now c.args.left_size w.result c.requires w.ensures.1 a b j.new.cells j.result j.ensures c.in-Err.why c.in-Err.is
 
 pub returns : goal.returns
 returns c =
@@ -62,4 +63,4 @@ returns c =
     let n : c.node_count.result ≡ length (nodes c.args.cells.now) = c.node_count.ensures ∙ sym (length-decode c.args.cells.now) in
     let a = sym (members-test c.args.cells.now c.args.left c.args.right c.args.pairs.now w.result c.node_count.result c.requires n c.movable-table.result c.movable-table.ensures) ∙ sym c.members_move.ensures ∙ c.if-not-members_move.false in
     let b = sym (rights-test c.args.cells.now c.args.left c.args.right c.args.pairs.now w.result c.node_count.result c.requires n c.movable-table.result c.movable-table.ensures) ∙ sym c.rights_move.ensures ∙ c.if-not-rights_move.false in
-    shift-done c.args.cells.now c.args.left c.args.right c.args.pairs.now c.args.left_size w.result c.requires w.ensures.1 a b j.new.cells j.result j.ensures (omega arith)
+    shift-done c.args.cells.now c.args.left c.args.right c.args.pairs.now c.args.left_size w.result c.requires w.ensures.1 a b j.new.cells j.result j.ensures c.in_default.field-0 c.in_default.is

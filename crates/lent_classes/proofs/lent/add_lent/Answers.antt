@@ -1,17 +1,10 @@
 -- `lent_classes::lent::add_lent` meets its contract.
 use native.Mathlib.Omega.{arith}
 use Rattle.lent_classes.proofs.LentBuild.{lent-made}
-use borrow.Author.Rules.{rules}
 use Rattle.lent_classes.proofs.lent.add_lent.Goals as goal
 
 pub size_at-size-requires : goal.size_at-size-requires
 size_at-size-requires c = c.requires.1.0.begins
-
-pub overflow_add-at : goal.overflow_add-at
-overflow_add-at c = search rules
-
-pub overflow_add-at-2 : goal.overflow_add-at-2
-overflow_add-at-2 c = search rules
 
 pub copy_numbers-members-requires : goal.copy_numbers-members-requires
 copy_numbers-members-requires c =

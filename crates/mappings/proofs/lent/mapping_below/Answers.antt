@@ -1,37 +1,25 @@
 -- `mappings::lent::mapping_below` meets its contract.
-use mathlib.Core.Bool.{true, false}
+use Prim.Native.Nat.{◌≤◌, ◌<◌}
 use mathlib.Core.Path.{sym, ◌∙◌}
 use native.Mathlib.Omega.{arith}
-use Rattle.laws.proofs.Each.{each_none, each_more, each-stops, each-ends}
-use Rattle.mappings.proofs.PlaceReads.{read-size}
-use Rattle.mappings.proofs.StructTests.{SourceBelow, below-read, mapping_below-of}
 use borrow.Author.Rules.{rules}
+use borrow.Author.Tests.{tests}
+use Rattle.laws.proofs.Runs.{each-all}
+use Rattle.laws.proofs.RunsC.{callable-below}
+use Rattle.mappings.proofs.PlaceReads.{read_in, read-size, read_mapped}
+use Rattle.mappings.proofs.StructTests.{SourceBelow, mapping_below-of}
 use Rattle.mappings.proofs.lent.mapping_below.Goals as goal
 
-pub loop-i-init : goal.loop-i-init
-loop-i-init c =
-    (search rules, (search rules, each_none (SourceBelow c.args.n c.args.m)))
-
-pub source_below-requires : goal.source_below-requires
-source_below-requires c =
+pub all-requires-clause-callable : goal.all-requires-clause-callable
+all-requires-clause-callable c =
     let m = c.args.m in
-    let i = c.loop-i.i in
-    omega (arith, read-size m i, c.requires.1 i (search rules))
-
-pub returns-then-not-source_below : goal.returns-then-not-source_below
-returns-then-not-source_below c =
-    let n = c.args.n in
-    let m = c.args.m in
-    each-stops (SourceBelow n m) m.count c.loop-i.i (search rules) (below-read m n c.loop-i.i false (sym c.source_below.ensures ∙ c.if-not-source_below.true)) ∙ sym (mapping_below-of m n)
-
-pub loop-i-preserved : goal.loop-i-preserved
-loop-i-preserved c =
-    let n = c.args.n in
-    let m = c.args.m in
-    (search rules, (search rules, each_more (SourceBelow n m) c.loop-i.i c.loop-i.invariant.1.1 (below-read m n c.loop-i.i true (sym c.source_below.ensures ∙ c.if-not-source_below.false))))
+    callable-below m.count (λ x q h. search rules)
+    (λ i l. let b : (read_in m i).size ≤ 8 = omega (arith, read-size m i, c.requires.1 i l) in
+    let f : i < 64 = omega (arith, c.requires.0) in
+    search rules)
 
 pub returns : goal.returns
 returns c =
     let n = c.args.n in
     let m = c.args.m in
-    each-ends (SourceBelow n m) m.count c.loop-i.i (search rules) (search rules) c.loop-i.invariant.1.1 ∙ sym (mapping_below-of m n)
+    each-all (SourceBelow n m) m.count _ _ _ c.all.ensures.ran (λ x b q k. rw (← read_mapped m x) (search (rules, tests))) ∙ sym (mapping_below-of m n)

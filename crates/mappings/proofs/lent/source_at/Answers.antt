@@ -1,47 +1,37 @@
 -- `mappings::lent::source_at` meets its contract.
+use Prim.Native.Nat.{ℕ, ◌≤◌, ◌+◌, ◌-◌}
+use mathlib.Core.Path.{◌≡◌, sym, ◌∙◌}
 use native.Mathlib.Omega.{arith}
-use Rattle.mappings.proofs.MappingBuild.{written-begins, written_on, written-ends}
-use Rattle.mappings.proofs.MappingChecked.{whole-ends, whole-few}
 use borrow.Author.Rules.{rules}
+use lib.ListN.{length, drop, replicate, length-drop, length-replicate}
+use lib.Seq.{length-take-le}
+use Rattle.mappings.proofs.MappingBuild.{targets-copied}
+use Rattle.mappings.proofs.MappingChecked.{whole-ends, whole-few}
 use Rattle.mappings.proofs.lent.source_at.Goals as goal
 
-pub loop-k-init : goal.loop-k-init
-loop-k-init c =
-    (search rules, (c.count_at-size.ensures.0, written-begins c.args.numbers.now c.args.at))
+pub slice_bounds-targets-end : goal.slice_bounds-targets-end
+slice_bounds-targets-end c =
+    let b : c.count_at-size.result ≤ 8 = omega (arith, whole-few c.args.numbers.now c.args.at c.requires.1) in search rules
 
-pub overflow_add-targets : goal.overflow_add-targets
-overflow_add-targets c =
-    let e = whole-ends c.args.numbers.now c.args.at c.requires.1 in search rules
+pub slice_bounds-copy_from_slice-end : goal.slice_bounds-copy_from_slice-end
+slice_bounds-copy_from_slice-end c =
+    let b : c.count_at-size.result ≤ 8 = omega (arith, whole-few c.args.numbers.now c.args.at c.requires.1) in search rules
 
-pub overflow_add-targets-in-loop-k : goal.overflow_add-targets-in-loop-k
-overflow_add-targets-in-loop-k c =
-    let e = whole-ends c.args.numbers.now c.args.at c.requires.1 in search rules
+pub slice_bounds-copy_from_slice-end-2 : goal.slice_bounds-copy_from_slice-end-2
+slice_bounds-copy_from_slice-end-2 c =
+    let b : c.args.at + 2 + c.count_at-size.result ≤ length c.args.numbers.now = omega (arith, whole-ends c.args.numbers.now c.args.at c.requires.1) in search rules
 
-pub offset_bounds-numbers-at : goal.offset_bounds-numbers-at
-offset_bounds-numbers-at c =
-    let e = whole-ends c.args.numbers.now c.args.at c.requires.1 in search rules
-
-pub bounds-numbers-at : goal.bounds-numbers-at
-bounds-numbers-at c =
-    let e = whole-ends c.args.numbers.now c.args.at c.requires.1 in search rules
-
-pub offset_bounds-targets-k : goal.offset_bounds-targets-k
-offset_bounds-targets-k c =
-    let e = whole-few c.args.numbers.now c.args.at c.requires.1 in search rules
-
-pub bounds-targets-k : goal.bounds-targets-k
-bounds-targets-k c =
-    let e = whole-few c.args.numbers.now c.args.at c.requires.1 in search rules
-
-pub loop-k-preserved : goal.loop-k-preserved
-loop-k-preserved c =
-    let x = c.args in
-    let l = c.loop-k in
-    let e = whole-few x.numbers.now x.at c.requires.1 in
-    (search rules, (l.invariant.1.0, written_on x.numbers.now x.at l.targets l.k l.invariant.1.1 (omega (arith, c.loop-k-test, l.invariant.1.0))))
+pub copy_from_slice-requires : goal.copy_from_slice-requires
+copy_from_slice-requires c =
+    let ns = c.args.numbers.now in
+    let n = c.count_at-size.result in
+    let e : c.args.at + 2 + n - (c.args.at + 2) ≡ n = omega arith in
+    rw e (length-take-le n (replicate {A = ℕ} 8 0) (omega (arith, whole-few ns c.args.at c.requires.1, length-replicate {A = ℕ} 8 0))
+    ∙ sym (length-take-le n (drop (c.args.at + 2) ns) (omega (arith, whole-ends ns c.args.at c.requires.1, length-drop (c.args.at + 2) ns))))
 
 pub returns : goal.returns
 returns c =
-    let x = c.args in
-    let l = c.loop-k in
-    (written-ends x.numbers.now x.at l.targets l.k l.invariant.1.1 c.count_at-size.result c.count_at-size.ensures.0 (search rules), c.count_at-size.ensures.0)
+    let ns = c.args.numbers.now in
+    let n = c.count_at-size.result in
+    let e : c.args.at + 2 + n - (c.args.at + 2) ≡ n = omega arith in
+    (targets-copied ns c.args.at n c.count_at-size.ensures.0 (omega (arith, whole-ends ns c.args.at c.requires.1)) c.copy_from_slice.new.self _ (rw e at c.copy_from_slice.ensures.after), c.count_at-size.ensures.0)

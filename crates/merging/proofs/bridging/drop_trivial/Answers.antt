@@ -6,14 +6,8 @@ use Rattle.merging.proofs.bridging.drop_trivial.Goals as goal
 pub loop-i-init : goal.loop-i-init
 loop-i-init c = kept-begins c.args.g c.requires
 
-pub overflow_sub-i : goal.overflow_sub-i
-overflow_sub-i c = omega (arith, c.loop-i-test.true)
-
 pub drop_at-out-requires : goal.drop_at-out-requires
 drop_at-out-requires c = (c.loop-i.invariant.coded, omega (arith, c.loop-i-test.true, c.loop-i.invariant.below))
-
-pub loop-i-smaller : goal.loop-i-smaller
-loop-i-smaller c = omega (arith, c.loop-i-test.true)
 
 pub loop-i-preserved : goal.loop-i-preserved
 loop-i-preserved c =

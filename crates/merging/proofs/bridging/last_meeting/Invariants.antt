@@ -1,12 +1,8 @@
 -- `merging::bridging::last_meeting` meets its contract.
-use Prim.Native.Nat.{◌≤◌}
 use mathlib.Core.Path.{◌≡◌}
 use Rattle.classes.specs.Layout.{decode}
 use Rattle.merging.specs.Merging.{last_meeting, meeting_below}
 use Rattle.merging.proofs.bridging.last_meeting.Given as goal
 
 abbrev pub invariant-loop-j : goal.invariant-loop-j
-invariant-loop-j l = (l.j ≤ l.g.count) × (last_meeting (decode l.g) l.i ≡ meeting_below (decode l.g) l.i l.j)
-
-abbrev pub decreases-loop-j : goal.decreases-loop-j
-decreases-loop-j l = l.j
+invariant-loop-j l = last_meeting (decode l.g) l.i ≡ meeting_below (decode l.g) l.i l.j

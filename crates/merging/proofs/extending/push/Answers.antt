@@ -13,8 +13,8 @@ overflow_sub-last c = omega (arith, c.requires.0.1.0)
 pub class_holds-requires : goal.class_holds-requires
 class_holds-requires c = (c.requires.0.0, omega (arith, c.requires.0.1.0))
 
-pub carried_mark-requires : goal.carried_mark-requires
-carried_mark-requires c = c.requires.1
+pub carried-requires : goal.carried-requires
+carried-requires c = c.requires.1
 
 pub set_constant-requires : goal.set_constant-requires
 set_constant-requires c = (c.requires.0.0, omega (arith, c.requires.0.1.0))
@@ -22,7 +22,7 @@ set_constant-requires c = (c.requires.0.0, omega (arith, c.requires.0.1.0))
 pub returns-then-class_holds : goal.returns-then-class_holds
 returns-then-class_holds c =
     let h = c.class_holds in
-    let m = c.carried_mark in
+    let m = c.carried in
     push-held (nodes c.args.cells.now) c.args.out (c.args.out.count - 1) c.args.e h.result h.ensures c.if-class_holds.true m.result c.set_constant.result m.ensures c.set_constant.ensures
 
 pub single_group-one-requires : goal.single_group-one-requires

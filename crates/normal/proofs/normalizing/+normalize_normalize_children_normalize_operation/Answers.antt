@@ -1,6 +1,8 @@
 -- `normal::normalizing::normalize`, `normal::normalizing::normalize_children`, `normal::normalizing::normalize_operation` meet their contracts: one proof for their cycle of calls.
-use borrow.Author.Rules.{rules}
 use Prim.Native.Nat.{ℕ, ◌<◌}
+use Rattle.std.specs.Prelude.{Result, is_ok}
+use Rattle.arena.specs.declared.Refusal.{Refusal}
+use Rattle.arena.proofs.Refusals.{handed-on}
 use mathlib.Core.Path.{◌≡◌, sym, ap, subst, ◌∙◌}
 use native.Mathlib.Omega.{arith}
 use lib.ListN.{length, get_or}
@@ -51,69 +53,69 @@ normalize-returns t c =
 
 pub normalize_children-loop-k-init : goal.normalize_children-loop-k-init
 normalize_children-loop-k-init t c =
-    (search rules, loop_begins c.args.old c.args.firsts.now c.args.cells.now c.args.memo.now c.args.row.now c.args.expr c.requires)
+    loop_begins c.args.old c.args.firsts.now c.args.cells.now c.args.memo.now c.args.row.now c.args.expr c.requires
 
-pub normalize_children-overflow_add-child : goal.normalize_children-overflow_add-child
-normalize_children-overflow_add-child t c =
+pub normalize_children-overflow_add-k : goal.normalize_children-overflow_add-k
+normalize_children-overflow_add-k t c =
     let o = c.loop-k in
-    let l : o.k < length (children_of c.args.row.now) = omega (arith, children-count c.args.row.now, c.wide-n.ensures) in
+    let l : o.k < length (children_of c.args.row.now) = omega (arith, children-count c.args.row.now, c.wide-k-end.ensures) in
     omega (arith, l, children_eight c.args.old c.args.firsts.now c.args.cells.now c.args.memo.now c.args.row.now c.args.expr c.requires)
 
 pub normalize_children-offset_bounds-row-k : goal.normalize_children-offset_bounds-row-k
 normalize_children-offset_bounds-row-k t c =
     let o = c.loop-k in
-    let l : o.k < length (children_of c.args.row.now) = omega (arith, children-count c.args.row.now, c.wide-n.ensures) in
+    let l : o.k < length (children_of c.args.row.now) = omega (arith, children-count c.args.row.now, c.wide-k-end.ensures) in
     omega (arith, l, children_eight c.args.old c.args.firsts.now c.args.cells.now c.args.memo.now c.args.row.now c.args.expr c.requires)
 
 pub normalize_children-bounds-row-k : goal.normalize_children-bounds-row-k
 normalize_children-bounds-row-k t c =
     let o = c.loop-k in
-    let l : o.k < length (children_of c.args.row.now) = omega (arith, children-count c.args.row.now, c.wide-n.ensures) in
+    let l : o.k < length (children_of c.args.row.now) = omega (arith, children-count c.args.row.now, c.wide-k-end.ensures) in
     omega (arith, l, children_eight c.args.old c.args.firsts.now c.args.cells.now c.args.memo.now c.args.row.now c.args.expr c.requires)
 
 pub normalize_children-normalize-requires : goal.normalize_children-normalize-requires
 normalize_children-normalize-requires t c =
     let o = c.loop-k in
-    let l : o.k < length (children_of c.args.row.now) = omega (arith, children-count c.args.row.now, c.wide-n.ensures) in
-    (omega (arith, loop_lower c.args.old c.args.firsts.now c.args.cells.now c.args.memo.now c.args.row.now c.args.expr c.requires o.cells o.memo o.row o.k o.invariant.1 l, c.decreases), loop_ready c.args.old c.args.firsts.now c.args.cells.now c.args.memo.now c.args.row.now c.args.expr c.requires o.cells o.memo o.row o.k o.invariant.1 l)
+    let l : o.k < length (children_of c.args.row.now) = omega (arith, children-count c.args.row.now, c.wide-k-end.ensures) in
+    (omega (arith, loop_lower c.args.old c.args.firsts.now c.args.cells.now c.args.memo.now c.args.row.now c.args.expr c.requires o.cells o.memo o.row o.k o.invariant l, c.decreases), loop_ready c.args.old c.args.firsts.now c.args.cells.now c.args.memo.now c.args.row.now c.args.expr c.requires o.cells o.memo o.row o.k o.invariant l)
 
-pub normalize_children-returns-in_default : goal.normalize_children-returns-in_default
-normalize_children-returns-in_default t c =
+pub normalize_children-returns-in_err-row : goal.normalize_children-returns-in_err-row
+normalize_children-returns-in_err-row t c =
     let o = c.loop-k in
-    let l : o.k < length (children_of c.args.row.now) = omega (arith, children-count c.args.row.now, c.wide-n.ensures) in
+    let l : o.k < length (children_of c.args.row.now) = omega (arith, children-count c.args.row.now, c.wide-k-end.ensures) in
     let x = c.normalize in
-    loop_fails c.args.old c.args.firsts.now c.args.cells.now c.args.memo.now c.args.row.now c.args.expr c.requires o.cells o.memo o.row o.k o.invariant.1 l x.new.cells x.new.memo x.result x.ensures c.in_default.field-0 c.in_default.is
+    rw (handed-on _ _ c.from_residual.ensures.1) (loop_fails c.args.old c.args.firsts.now c.args.cells.now c.args.memo.now c.args.row.now c.args.expr c.requires o.cells o.memo o.row o.k o.invariant l x.new.cells x.new.memo x.result x.ensures _ c.in_err-row.was)
 
 pub normalize_children-overflow_add-row : goal.normalize_children-overflow_add-row
 normalize_children-overflow_add-row t c =
     let o = c.loop-k in
-    let l : o.k < length (children_of c.args.row.now) = omega (arith, children-count c.args.row.now, c.wide-n.ensures) in
+    let l : o.k < length (children_of c.args.row.now) = omega (arith, children-count c.args.row.now, c.wide-k-end.ensures) in
     omega (arith, l, children_eight c.args.old c.args.firsts.now c.args.cells.now c.args.memo.now c.args.row.now c.args.expr c.requires)
 
 pub normalize_children-offset_bounds-row-k-in-loop-k : goal.normalize_children-offset_bounds-row-k-in-loop-k
 normalize_children-offset_bounds-row-k-in-loop-k t c =
     let o = c.loop-k in
-    let l : o.k < length (children_of c.args.row.now) = omega (arith, children-count c.args.row.now, c.wide-n.ensures) in
+    let l : o.k < length (children_of c.args.row.now) = omega (arith, children-count c.args.row.now, c.wide-k-end.ensures) in
     omega (arith, l, children_eight c.args.old c.args.firsts.now c.args.cells.now c.args.memo.now c.args.row.now c.args.expr c.requires)
 
 pub normalize_children-bounds-row-k-in-loop-k : goal.normalize_children-bounds-row-k-in-loop-k
 normalize_children-bounds-row-k-in-loop-k t c =
     let o = c.loop-k in
-    let l : o.k < length (children_of c.args.row.now) = omega (arith, children-count c.args.row.now, c.wide-n.ensures) in
+    let l : o.k < length (children_of c.args.row.now) = omega (arith, children-count c.args.row.now, c.wide-k-end.ensures) in
     omega (arith, l, children_eight c.args.old c.args.firsts.now c.args.cells.now c.args.memo.now c.args.row.now c.args.expr c.requires)
 
 pub normalize_children-loop-k-preserved : goal.normalize_children-loop-k-preserved
 normalize_children-loop-k-preserved t c =
     let o = c.loop-k in
-    let l : o.k < length (children_of c.args.row.now) = omega (arith, children-count c.args.row.now, c.wide-n.ensures) in
+    let l : o.k < length (children_of c.args.row.now) = omega (arith, children-count c.args.row.now, c.wide-k-end.ensures) in
     let x = c.normalize in
-    (search rules, loop_more c.args.old c.args.firsts.now c.args.cells.now c.args.memo.now c.args.row.now c.args.expr c.requires o.cells o.memo o.row o.k o.invariant.1 l x.new.cells x.new.memo x.result x.ensures c.in-Number.i c.in-Number.is)
+    loop_more c.args.old c.args.firsts.now c.args.cells.now c.args.memo.now c.args.row.now c.args.expr c.requires o.cells o.memo o.row o.k o.invariant l x.new.cells x.new.memo x.result x.ensures c.in_ok-row.field-0 c.in_ok-row.was
 
 pub normalize_children-returns : goal.normalize_children-returns
 normalize_children-returns t c =
     let o = c.loop-k in
-    let e : length (children_of c.args.row.now) ≡ o.k = omega (arith, children-count c.args.row.now, c.wide-n.ensures) in
-    through-ends (rewriting c.args.old c.args.firsts.now c.args.cells.now) c.args.cells.now c.args.row.now o.cells o.memo o.row o.k o.invariant.1 e
+    let e : length (children_of c.args.row.now) ≡ o.k = omega (arith, children-count c.args.row.now, c.wide-k-end.ensures) in
+    through-ends (rewriting c.args.old c.args.firsts.now c.args.cells.now) c.args.cells.now c.args.row.now o.cells o.memo o.row o.k o.invariant e
 
 pub normalize_operation-row_of-row-requires : goal.normalize_operation-row_of-row-requires
 normalize_operation-row_of-row-requires t c =
@@ -125,31 +127,31 @@ normalize_operation-normalize_children-requires t c =
     let a = ready-all c.args.old c.args.firsts.now c.args.cells.now c.args.memo.now c.args.expr c.requires.0 (λ z. omega (arith, z, c.requires.1)) r (rw c.wide.ensures at c.row_of-row.ensures) in
     (omega (arith, c.decreases), a)
 
-pub normalize_operation-returns-then-not-normalize_children : goal.normalize_operation-returns-then-not-normalize_children
-normalize_operation-returns-then-not-normalize_children t c =
+pub normalize_operation-returns-in_err-normalize_children : goal.normalize_operation-returns-in_err-normalize_children
+normalize_operation-returns-in_err-normalize_children t c =
     let r = c.row_of-row.result in
     let a = ready-all c.args.old c.args.firsts.now c.args.cells.now c.args.memo.now c.args.expr c.requires.0 (λ z. omega (arith, z, c.requires.1)) r (rw c.wide.ensures at c.row_of-row.ensures) in
     let x = c.normalize_children in
-    let w = subst (WalkedAll (rewriting c.args.old c.args.firsts.now c.args.cells.now) c.args.cells.now x.new.cells x.new.memo r x.new.row) c.if-not-normalize_children.true x.ensures in
-    children-full c.args.old c.args.firsts.now c.args.cells.now c.args.memo.now r c.args.expr a x.new.cells x.new.memo x.new.row w 3
+    let w = subst (λ (o : Result (Unit {0}) Refusal). WalkedAll (rewriting c.args.old c.args.firsts.now c.args.cells.now) c.args.cells.now x.new.cells x.new.memo r x.new.row (is_ok o)) c.in_err-normalize_children.was x.ensures in
+    rw (handed-on _ _ c.from_residual.ensures.1) (children-full c.args.old c.args.firsts.now c.args.cells.now c.args.memo.now r c.args.expr a x.new.cells x.new.memo x.new.row w _)
 
 pub normalize_operation-place-requires : goal.normalize_operation-place-requires
 normalize_operation-place-requires t c =
     let r = c.row_of-row.result in
     let a = ready-all c.args.old c.args.firsts.now c.args.cells.now c.args.memo.now c.args.expr c.requires.0 (λ z. omega (arith, z, c.requires.1)) r (rw c.wide.ensures at c.row_of-row.ensures) in
     let x = c.normalize_children in
-    let w = subst (WalkedAll (rewriting c.args.old c.args.firsts.now c.args.cells.now) c.args.cells.now x.new.cells x.new.memo r x.new.row) c.if-not-normalize_children.false x.ensures in
+    let w = subst (λ (o : Result (Unit {0}) Refusal). WalkedAll (rewriting c.args.old c.args.firsts.now c.args.cells.now) c.args.cells.now x.new.cells x.new.memo r x.new.row (is_ok o)) c.in_ok-normalize_children.was x.ensures in
     operation-placeable c.args.old c.args.firsts.now c.args.cells.now c.args.memo.now r c.args.expr a x.new.cells x.new.memo x.new.row w
 
-pub normalize_operation-returns-in_default : goal.normalize_operation-returns-in_default
-normalize_operation-returns-in_default t c =
+pub normalize_operation-returns-in_err-i : goal.normalize_operation-returns-in_err-i
+normalize_operation-returns-in_err-i t c =
     let r = c.row_of-row.result in
     let a = ready-all c.args.old c.args.firsts.now c.args.cells.now c.args.memo.now c.args.expr c.requires.0 (λ z. omega (arith, z, c.requires.1)) r (rw c.wide.ensures at c.row_of-row.ensures) in
     let x = c.normalize_children in
-    let w = subst (WalkedAll (rewriting c.args.old c.args.firsts.now c.args.cells.now) c.args.cells.now x.new.cells x.new.memo r x.new.row) c.if-not-normalize_children.false x.ensures in
+    let w = subst (λ (o : Result (Unit {0}) Refusal). WalkedAll (rewriting c.args.old c.args.firsts.now c.args.cells.now) c.args.cells.now x.new.cells x.new.memo r x.new.row (is_ok o)) c.in_ok-normalize_children.was x.ensures in
     let y = c.place in
-    let p = subst (PlacedRow x.new.row x.new.cells y.new.cells) c.in_default.is (placed_row x.new.row x.new.cells y.new.cells y.result (operation-placeable c.args.old c.args.firsts.now c.args.cells.now c.args.memo.now r c.args.expr a x.new.cells x.new.memo x.new.row w) y.ensures) in
-    operation-full c.args.old c.args.firsts.now c.args.cells.now c.args.memo.now r c.args.expr a x.new.cells x.new.memo x.new.row w y.new.cells c.in_default.field-0 p 3
+    let p = subst (PlacedRow x.new.row x.new.cells y.new.cells) c.in_err-i.was (placed_row x.new.row x.new.cells y.new.cells y.result (operation-placeable c.args.old c.args.firsts.now c.args.cells.now c.args.memo.now r c.args.expr a x.new.cells x.new.memo x.new.row w) y.ensures) in
+    rw (handed-on _ _ c.from_residual-in_err-i.ensures.1) (operation-full c.args.old c.args.firsts.now c.args.cells.now c.args.memo.now r c.args.expr a x.new.cells x.new.memo x.new.row w y.new.cells _ p _)
 
 pub normalize_operation-replacement-requires : goal.normalize_operation-replacement-requires
 normalize_operation-replacement-requires t c =
@@ -160,7 +162,7 @@ normalize_operation-returns t c =
     let r = c.row_of-row.result in
     let a = ready-all c.args.old c.args.firsts.now c.args.cells.now c.args.memo.now c.args.expr c.requires.0 (λ z. omega (arith, z, c.requires.1)) r (rw c.wide.ensures at c.row_of-row.ensures) in
     let x = c.normalize_children in
-    let w = subst (WalkedAll (rewriting c.args.old c.args.firsts.now c.args.cells.now) c.args.cells.now x.new.cells x.new.memo r x.new.row) c.if-not-normalize_children.false x.ensures in
+    let w = subst (λ (o : Result (Unit {0}) Refusal). WalkedAll (rewriting c.args.old c.args.firsts.now c.args.cells.now) c.args.cells.now x.new.cells x.new.memo r x.new.row (is_ok o)) c.in_ok-normalize_children.was x.ensures in
     let y = c.place in
-    let p = subst (PlacedRow x.new.row x.new.cells y.new.cells) c.in-Number.is (placed_row x.new.row x.new.cells y.new.cells y.result (operation-placeable c.args.old c.args.firsts.now c.args.cells.now c.args.memo.now r c.args.expr a x.new.cells x.new.memo x.new.row w) y.ensures) in
-    rw c.replacement.ensures (operation-walked c.args.old c.args.firsts.now c.args.cells.now c.args.memo.now r c.args.expr a x.new.cells x.new.memo x.new.row w y.new.cells c.in-Number.i p)
+    let p = subst (PlacedRow x.new.row x.new.cells y.new.cells) c.in_ok-i.was (placed_row x.new.row x.new.cells y.new.cells y.result (operation-placeable c.args.old c.args.firsts.now c.args.cells.now c.args.memo.now r c.args.expr a x.new.cells x.new.memo x.new.row w) y.ensures) in
+    rw c.replacement.ensures (operation-walked c.args.old c.args.firsts.now c.args.cells.now c.args.memo.now r c.args.expr a x.new.cells x.new.memo x.new.row w y.new.cells c.in_ok-i.i p)

@@ -5,23 +5,17 @@ use native.Mathlib.Omega.{arith}
 use lib.ListN.{length, length-set, length-replicate}
 use Rattle.classes.specs.Layout.{decode}
 use Rattle.normal.proofs.FirstMembers.{firsts_more}
-use borrow.Author.Rules.{rules}
 use Rattle.normal.proofs.table.class_firsts.Goals as goal
 
 pub loop-e-init : goal.loop-e-init
 loop-e-init c =
-    (search rules, (length-replicate {A = ℕ} 1024 0, λ j l. absurd (omega arith)))
+    (length-replicate {A = ℕ} 1024 0, λ j l. absurd (omega arith))
 
 pub loop-e-preserved : goal.loop-e-preserved
 loop-e-preserved c =
-    let r : c.loop-e.e < length c.loop-e.firsts = omega (arith, c.loop-e.invariant.1.0, c.requires.1) in (
-      search rules,
-      (
-        length-set c.loop-e.firsts c.loop-e.e c.first_of-first.result ∙ c.loop-e.invariant.1.0,
-        firsts_more (decode c.args.g) c.loop-e.firsts c.loop-e.e c.first_of-first.result r c.loop-e.invariant.1.1 (rw c.narrow.ensures at c.first_of-first.ensures),
-      ),
-    )
+    let r : c.loop-e.e < length c.loop-e.firsts = omega (arith, c.loop-e.invariant.0, c.requires.1) in
+    (length-set c.loop-e.firsts c.loop-e.e c.first_of.result ∙ c.loop-e.invariant.0, firsts_more (decode c.args.g) c.loop-e.firsts c.loop-e.e c.first_of.result r c.loop-e.invariant.1 (rw c.narrow.ensures at c.first_of.ensures))
 
 pub returns : goal.returns
 returns c =
-    λ j l. c.loop-e.invariant.1.1 j (omega arith)
+    λ j l. c.loop-e.invariant.1 j (omega arith)

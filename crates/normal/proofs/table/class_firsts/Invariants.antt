@@ -1,5 +1,4 @@
 -- `normal::table::class_firsts` meets its contract.
-use Prim.Native.Nat.{◌-◌, ◌≤◌}
 use mathlib.Core.Path.{◌≡◌}
 use lib.ListN.{length}
 use Rattle.classes.specs.Layout.{decode}
@@ -7,7 +6,4 @@ use Rattle.normal.specs.Inner.{Firsts}
 use Rattle.normal.proofs.table.class_firsts.Given as goal
 
 abbrev pub invariant-loop-e : goal.invariant-loop-e
-invariant-loop-e l = (l.e ≤ l.n) × ((length l.firsts ≡ 1024) × Firsts (decode l.g) l.e l.firsts)
-
-abbrev pub decreases-loop-e : goal.decreases-loop-e
-decreases-loop-e l = l.n - l.e
+invariant-loop-e l = (length l.firsts ≡ 1024) × Firsts (decode l.g) l.e l.firsts

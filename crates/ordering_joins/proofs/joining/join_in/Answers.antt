@@ -1,65 +1,15 @@
 -- `ordering_joins::joining::join_in` meets its contract.
-use mathlib.Core.Path.{sym, subst}
-use native.Mathlib.Nat.{mul-le-mul}
-use native.Mathlib.Omega.{arith}
-use borrow.Author.Rules.{rules}
-use Rattle.ordering_joins.specs.Inner.{Joined}
-use Rattle.orderings.specs.declared.Orderings.{Orderings}
-use Rattle.orderings.proofs.Codec.{count-few, place-held}
-use Rattle.ordering_joins.proofs.JoinLoops.{join-none, join-many, joined-begins, joined-room, joined-on, joined-stops, joined-ends}
+use mathlib.Core.Path.{◌∙◌}
+use Rattle.orderings.specs.Lists.{join_suffix}
+use Rattle.orderings.specs.Layout.{decode}
+use Rattle.orderings.proofs.Appending.{listed-done, listed-refused}
 use Rattle.ordering_joins.proofs.joining.join_in.Goals as goal
 
-pub returns-then-m-eq0 : goal.returns-then-m-eq0
-returns-then-m-eq0 c = join-none c.args.g c.args.h c.requires.0 c.requires.1 c.if-m-eq0.true
+pub join_lists-requires : goal.join_lists-requires
+join_lists-requires c = c.requires
 
-pub overflow_mul-n : goal.overflow_mul-n
-overflow_mul-n c =
-    let a = mul-le-mul (count-few c.args.g c.requires.0) (count-few c.args.h c.requires.1) in
-    omega arith
+pub returns-in-Ok : goal.returns-in-Ok
+returns-in-Ok c = listed-done c.args.g (join_suffix (decode c.args.g) (decode c.args.h)) c.in-Ok.list c.in-Ok.ensures
 
-pub returns-then-n-m-gt32 : goal.returns-then-n-m-gt32
-returns-then-n-m-gt32 c = join-many c.args.g c.args.h c.requires.0 c.requires.1 c.if-m-eq0.false (omega (arith, c.if-n-m-gt32.true))
-
-pub loop-j-init : goal.loop-j-init
-loop-j-init c =
-    (search rules, subst (λ (y : Orderings). Joined c.args.g c.args.h 0 y) (sym c.no_orderings-list.ensures) (joined-begins c.args.g c.args.h c.requires.0 c.requires.1))
-
-pub offset_bounds-h-j : goal.offset_bounds-h-j
-offset_bounds-h-j c = let b = count-few c.args.h c.requires.1 in search rules
-
-pub bounds-h-j : goal.bounds-h-j
-bounds-h-j c = let b = count-few c.args.h c.requires.1 in search rules
-
-pub suffix-next-requires : goal.suffix-next-requires
-suffix-next-requires c =
-    let l = c.loop-j in (
-      (l.invariant.1.short, c.requires.0),
-      (
-        place-held c.args.h c.requires.1 l.j (search rules),
-        joined-room c.args.g c.args.h c.requires.0 c.requires.1 c.if-m-eq0.false (omega arith) l.j l.list l.invariant.1 (search rules),
-      ),
-    )
-
-pub returns-then-next-ne0 : goal.returns-then-next-ne0
-returns-then-next-ne0 c =
-    let l = c.loop-j in
-    let e = c.suffix-next in
-    joined-stops c.args.g c.args.h c.requires.0 c.requires.1 c.if-m-eq0.false (omega arith)
-    l.j l.list l.invariant.1 e.result (search rules) e.ensures c.if-next-ne0.true
-
-pub overflow_add-j : goal.overflow_add-j
-overflow_add-j c = let b = count-few c.args.h c.requires.1 in search rules
-
-pub loop-j-preserved : goal.loop-j-preserved
-loop-j-preserved c =
-    let l = c.loop-j in
-    let e = c.suffix-next in (
-      search rules,
-      joined-on c.args.g c.args.h c.requires.0 c.requires.1 c.if-m-eq0.false (omega arith)
-          l.j l.list l.invariant.1 e.result (search rules) e.ensures c.if-next-ne0.false,
-    )
-
-pub returns : goal.returns
-returns c =
-    let l = c.loop-j in
-    joined-ends c.args.g c.args.h c.requires.0 c.requires.1 c.if-m-eq0.false (omega arith) l.j l.list l.invariant.1 (search rules)
+pub returns-in-Err : goal.returns-in-Err
+returns-in-Err c = c.refusal.ensures ∙ listed-refused c.args.g (join_suffix (decode c.args.g) (decode c.args.h)) c.in-Err.why c.in-Err.ensures

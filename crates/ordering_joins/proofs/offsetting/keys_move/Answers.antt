@@ -1,47 +1,21 @@
 -- `ordering_joins::offsetting::keys_move` meets its contract.
-use mathlib.Core.Path.{refl}
-use native.Mathlib.Omega.{arith}
-use borrow.Author.Rules.{rules}
+use Rattle.std.proofs.Common.{rules, tests, get_or, false, ◌∙◌, ◌<◌}
+use Rattle.std.proofs.lemmas.Iterator.{serves_from_Range}
+use Rattle.laws.proofs.RunsA.{all-table}
+use Rattle.orderings.specs.Ordering.{expr_of}
+use Rattle.orderings.specs.Layout.{keys_of}
 use Rattle.orderings.proofs.Codec.{size_few}
-use Rattle.ordering_joins.proofs.KeyTests.{key-low, move_stops, move_on, move_ends}
+use Rattle.ordering_joins.proofs.KeyTests.{key-low, keys-all}
 use Rattle.ordering_joins.proofs.offsetting.keys_move.Goals as goal
 
-pub loop-k-init : goal.loop-k-init
-loop-k-init c = (search rules, search rules, refl)
-
-pub offset_bounds-o-k : goal.offset_bounds-o-k
-offset_bounds-o-k c =
+pub all-requires-clause-callable : goal.all-requires-clause-callable
+all-requires-clause-callable c =
     let w = size_few c.args.o c.requires.held in
-    search rules
-
-pub bounds-o-k : goal.bounds-o-k
-bounds-o-k c =
-    let w = size_few c.args.o c.requires.held in
-    search rules
-
-pub bounds-table-e : goal.bounds-table-e
-bounds-table-e c =
-    let o = c.loop-k in
-    omega (arith, key-low c.args.o c.requires o.k (search rules), c.expr_of-e.ensures)
-
-pub returns-then-not-table-e : goal.returns-then-not-table-e
-returns-then-not-table-e c =
-    let o = c.loop-k in
-    let e = c.expr_of-e in
-    move_stops c.args.table.now c.args.o o.k o.invariant.2 (search rules) e.result e.ensures c.if-not-table-e.true
-
-pub overflow_add-k : goal.overflow_add-k
-overflow_add-k c =
-    let w = size_few c.args.o c.requires.held in
-    search rules
-
-pub loop-k-preserved : goal.loop-k-preserved
-loop-k-preserved c =
-    let o = c.loop-k in
-    let e = c.expr_of-e in
-    (search rules, search rules, move_on c.args.table.now c.args.o o.k o.invariant.2 (search rules) e.result e.ensures c.if-not-table-e.false)
+    serves_from_Range (λ x q k. search rules)
+    (λ x a b. let low : expr_of (get_or c.args.o.keys x 0) < 1024 = key-low c.args.o c.requires x b in search rules)
 
 pub returns : goal.returns
+unfolding keys_of
 returns c =
-    let o = c.loop-k in
-    move_ends c.args.table.now c.args.o o.k o.invariant.2 (search rules)
+    all-table (λ k. get_or c.args.table.now (expr_of k) false) (λ k. get_or c.args.o.keys k 0) c.args.o.size _ _ _ c.all.ensures.ran (λ x b q k. search (rules, tests))
+    ∙ keys-all c.args.table.now (keys_of c.args.o)

@@ -1,46 +1,21 @@
 -- `ordering_joins::offsetting::lists_move` meets its contract.
-use mathlib.Core.Path.{refl}
-use Rattle.orderings.proofs.Codec.{count-few}
-use Rattle.ordering_joins.proofs.KeyTests.{place-low, moves-stop, moves-on, moves_end}
-use borrow.Author.Rules.{rules}
+use Rattle.std.proofs.Common.{rules, ap, ◌∙◌}
+use Rattle.std.specs.List.{list_all}
+use Rattle.std.proofs.lemmas.Iterator.{serves_from_Range}
+use Rattle.laws.proofs.RunsA.{all-table}
+use Rattle.orderings.specs.Layout.{keys_of, decode}
+use Rattle.ordering_joins.specs.Inner.{LowKeys, keys_tabled}
+use Rattle.orderings.proofs.Codec.{count-few, place_in}
+use Rattle.ordering_joins.proofs.KeyTests.{place-low, lists-all, places-read}
 use Rattle.ordering_joins.proofs.offsetting.lists_move.Goals as goal
 
-pub loop-i-init : goal.loop-i-init
-loop-i-init c = (search rules, search rules, refl)
-
-pub offset_bounds-g-i : goal.offset_bounds-g-i
-offset_bounds-g-i c =
-    let f = count-few c.args.g c.requires.held in
-    search rules
-
-pub bounds-g-i : goal.bounds-g-i
-bounds-g-i c =
-    let f = count-few c.args.g c.requires.held in
-    search rules
-
-pub keys_move-requires : goal.keys_move-requires
-keys_move-requires c =
-    let o = c.loop-i in
-    place-low c.args.g c.requires o.i (search rules)
-
-pub returns-then-not-keys_move : goal.returns-then-not-keys_move
-returns-then-not-keys_move c =
-    let o = c.loop-i in
-    let m = c.keys_move in
-    moves-stop c.args.table.now c.args.g o.i c.requires.held o.invariant.2 (search rules) m.result m.ensures c.if-not-keys_move.true
-
-pub overflow_add-i : goal.overflow_add-i
-overflow_add-i c =
-    let f = count-few c.args.g c.requires.held in
-    search rules
-
-pub loop-i-preserved : goal.loop-i-preserved
-loop-i-preserved c =
-    let o = c.loop-i in
-    let m = c.keys_move in
-    (search rules, search rules, moves-on c.args.table.now c.args.g o.i c.requires.held o.invariant.2 (search rules) m.result m.ensures c.if-not-keys_move.false)
+pub all-requires-clause-callable : goal.all-requires-clause-callable
+all-requires-clause-callable c =
+    let w = count-few c.args.g c.requires.held in
+    serves_from_Range (λ x q k. search rules)
+    (λ x a b. let low : LowKeys (place_in c.args.g x) = place-low c.args.g c.requires x b in search rules)
 
 pub returns : goal.returns
 returns c =
-    let o = c.loop-i in
-    moves_end c.args.table.now c.args.g o.i c.requires.held o.invariant.2 (search rules)
+    all-table (keys_tabled c.args.table.now) (λ i. keys_of (place_in c.args.g i)) c.args.g.count _ _ _ c.all.ensures.ran (λ x b q k. search rules)
+    ∙ ap (list_all (keys_tabled c.args.table.now)) (places-read c.args.g c.requires.held) ∙ lists-all c.args.table.now (decode c.args.g)

@@ -1,9 +1,10 @@
 -- `ordering_joins::offsetting::offset_in` meets its contract.
 use Prim.Native.Nat.{ℕ, ◌<◌}
-use mathlib.Core.Path.{◌≡◌, subst, ◌∙◌}
+use mathlib.Core.Path.{◌≡◌, ap, subst, ◌∙◌}
 use native.Mathlib.Omega.{arith}
 use lib.IntN.{ℤ}
 use mir.Facts.{to_z-of_z}
+use Rattle.orderings.specs.declared.Listed.{Listed}
 use Rattle.shifting.specs.Shift.{moved}
 use Rattle.shifting.specs.Inner.{lifted}
 use Rattle.ordering_joins.proofs.KeyTests.{there-low}
@@ -24,10 +25,10 @@ returns-then-not-lists_move c =
     let n = c.node_count-n in
     let t = c.movable-table in
     let is = table-moves w.result c.args.cells.now c.args.g c.requires t.result n.result n.ensures t.ensures c.lists_move.result c.lists_move.ensures in
-    offset_out c.args.cells.now c.args.g c.args.offset w.result c.requires agree (is ∙ c.if-not-lists_move.true)
+    ap (λ (x : Listed). (x, c.args.cells.now)) c.refusal.ensures ∙ offset_out c.args.cells.now c.args.g c.args.offset w.result c.requires agree (is ∙ c.if-not-lists_move.true)
 
-pub shift_lists-list-requires : goal.shift_lists-list-requires
-shift_lists-list-requires c =
+pub shift_lists-requires : goal.shift_lists-requires
+shift_lists-requires c =
     let w = c.lift_of-lift in
     let agree : (i : ℕ) → i < 65536 → moved c.args.offset i ≡ lifted w.result i = subst (λ (z : ℤ). (i : ℕ) → i < 65536 → moved z i ≡ lifted w.result i) (to_z-of_z c.ranges.offset) w.ensures.1 in
     let n = c.node_count-n in
@@ -35,22 +36,23 @@ shift_lists-list-requires c =
     let is = table-moves w.result c.args.cells.now c.args.g c.requires t.result n.result n.ensures t.ensures c.lists_move.result c.lists_move.ensures in
     offset_ready c.args.cells.now c.args.g c.args.offset w.result c.requires agree (is ∙ c.if-not-lists_move.false) w.ensures.0 1024
 
-pub returns-then-list-ne0 : goal.returns-then-list-ne0
-returns-then-list-ne0 c =
+pub returns-in-Ok : goal.returns-in-Ok
+returns-in-Ok c =
     let w = c.lift_of-lift in
     let agree : (i : ℕ) → i < 65536 → moved c.args.offset i ≡ lifted w.result i = subst (λ (z : ℤ). (i : ℕ) → i < 65536 → moved z i ≡ lifted w.result i) (to_z-of_z c.ranges.offset) w.ensures.1 in
     let n = c.node_count-n in
     let t = c.movable-table in
     let is = table-moves w.result c.args.cells.now c.args.g c.requires t.result n.result n.ensures t.ensures c.lists_move.result c.lists_move.ensures in
-    let s = c.shift_lists-list in
-    offset_full c.args.cells.now c.args.g c.args.offset w.result c.requires agree (is ∙ c.if-not-lists_move.false) s.new.cells s.result s.ensures c.if-list-ne0.true
+    let s = c.shift_lists in
+    offset_done c.args.cells.now c.args.g c.args.offset w.result c.requires agree (is ∙ c.if-not-lists_move.false) s.new.cells s.result s.ensures c.in-Ok.list c.in-Ok.is
 
-pub returns : goal.returns
-returns c =
+pub returns-in-Err : goal.returns-in-Err
+returns-in-Err c =
     let w = c.lift_of-lift in
     let agree : (i : ℕ) → i < 65536 → moved c.args.offset i ≡ lifted w.result i = subst (λ (z : ℤ). (i : ℕ) → i < 65536 → moved z i ≡ lifted w.result i) (to_z-of_z c.ranges.offset) w.ensures.1 in
     let n = c.node_count-n in
     let t = c.movable-table in
     let is = table-moves w.result c.args.cells.now c.args.g c.requires t.result n.result n.ensures t.ensures c.lists_move.result c.lists_move.ensures in
-    let s = c.shift_lists-list in
-    offset_done c.args.cells.now c.args.g c.args.offset w.result c.requires agree (is ∙ c.if-not-lists_move.false) s.new.cells s.result s.ensures c.if-list-ne0.false
+    let s = c.shift_lists in
+    ap (λ (x : Listed). (x, c.args.cells.now)) c.refusal-in-Err.ensures
+    ∙ offset_full c.args.cells.now c.args.g c.args.offset w.result c.requires agree (is ∙ c.if-not-lists_move.false) s.new.cells s.result s.ensures c.in-Err.field-0 c.in-Err.is

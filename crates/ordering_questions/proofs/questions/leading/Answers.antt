@@ -1,5 +1,4 @@
 -- `ordering_questions::questions::leading` meets its contract.
-use mathlib.Core.Path.{◌∙◌}
 use borrow.Author.Rules.{rules}
 use Rattle.orderings.proofs.Codec.{count-few}
 use Rattle.ordering_questions.proofs.Leads.{leading-read}
@@ -12,4 +11,4 @@ pub bounds-g-i : goal.bounds-g-i
 bounds-g-i c = let b = count-few c.args.g c.requires.0 in search rules
 
 pub returns : goal.returns
-returns c = c.wide_key.ensures ∙ leading-read c.args.g c.requires.0 c.args.i c.requires.1
+returns c = let e = leading-read c.args.g c.requires.0 c.args.i c.requires.1 in cc

@@ -1,23 +1,13 @@
 -- `ordering_questions::questions::leads_with` meets its contract.
-use mathlib.Core.Path.{refl, sym, ◌∙◌}
-use borrow.Author.Rules.{rules}
-use Rattle.ordering_questions.proofs.Leads.{leads-hit, leads-on, leads_end}
+use Rattle.std.proofs.Common.{rules, ap, ◌∙◌}
+use Rattle.std.specs.List.{list_any}
+use Rattle.laws.proofs.RunsA.{any-table}
+use Rattle.orderings.specs.Lists.{ordering_at}
+use Rattle.orderings.specs.Layout.{decode}
+use Rattle.ordering_questions.proofs.Leads.{Led, leads-any, places}
 use Rattle.ordering_questions.proofs.questions.leads_with.Goals as goal
-
-pub loop-i-init : goal.loop-i-init
-loop-i-init c = (search rules, (search rules, refl))
-
-pub returns-then-led_by : goal.returns-then-led_by
-returns-then-led_by c =
-    let l = c.loop-i in
-    sym (l.invariant.1.1 ∙ leads-hit c.args.g c.args.e l.i c.leading-first.result (search rules) c.leading-first.ensures c.args.options (sym c.led_by.ensures ∙ c.if-led_by.true))
-
-pub loop-i-preserved : goal.loop-i-preserved
-loop-i-preserved c =
-    let l = c.loop-i in
-    (search rules, (search rules, l.invariant.1.1 ∙ leads-on c.args.g c.args.e l.i c.leading-first.result (search rules) c.leading-first.ensures c.args.options (sym c.led_by.ensures ∙ c.if-led_by.false)))
 
 pub returns : goal.returns
 returns c =
-    let l = c.loop-i in
-    sym (l.invariant.1.1 ∙ leads_end c.args.g c.args.e l.i (search rules) c.args.options)
+    any-table (Led c.args.e c.args.options) (ordering_at (decode c.args.g)) c.args.g.count _ _ _ c.any.ensures.ran (λ x b q k. search rules)
+    ∙ ap (list_any (Led c.args.e c.args.options)) (places c.args.g) ∙ leads-any (decode c.args.g) c.args.e c.args.options

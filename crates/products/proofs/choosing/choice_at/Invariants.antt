@@ -1,10 +1,6 @@
 -- `products::choosing::choice_at` meets its contract.
-use Prim.Native.Nat.{◌-◌}
 use Rattle.products.proofs.Choices.{Choosing}
 use Rattle.products.proofs.choosing.choice_at.Given as goal
 
 abbrev pub invariant-loop-j : goal.invariant-loop-j
 invariant-loop-j l = Choosing (record { shape = l.shape; found = l.found }) l.number l.j l.rest l.out
-
-abbrev pub decreases-loop-j : goal.decreases-loop-j
-decreases-loop-j l = l.shape.size - l.j

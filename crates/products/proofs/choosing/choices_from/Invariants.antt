@@ -6,6 +6,3 @@ use Rattle.products.proofs.choosing.choices_from.Given as goal
 
 abbrev pub invariant-loop-i : goal.invariant-loop-i
 invariant-loop-i l = ((l.j ≤ l.i) × (l.i ≤ l.s.size)) × (l.total ≡ choices_from l.s l.i)
-
-abbrev pub decreases-loop-i : goal.decreases-loop-i
-decreases-loop-i l = l.i

@@ -6,6 +6,3 @@ use Rattle.products.proofs.choosing.count_choices.Given as goal
 
 abbrev pub invariant-loop-j : goal.invariant-loop-j
 invariant-loop-j l = ((l.j ≤ l.s.size) × (l.orders * l.total ≤ 1024)) × (l.total ≡ choices_from l.s l.j)
-
-abbrev pub decreases-loop-j : goal.decreases-loop-j
-decreases-loop-j l = l.j

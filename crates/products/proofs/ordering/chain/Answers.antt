@@ -1,7 +1,8 @@
 -- `products::ordering::chain` meets its contract.
 use Prim.Native.Nat.{◌<◌, ◌≤◌}
 use native.Mathlib.Omega.{arith}
-use borrow.Author.Tests.{not-true, not-false}
+use mathlib.Core.Path.{◌∙◌}
+use Rattle.arena.proofs.Refusals.{handed-on}
 use Rattle.products.proofs.Chains.{chaining_begins, chaining_on, chaining_stops, chaining_ends, in_order, in_order-length, read_at, read_short, read_is}
 use borrow.Author.Rules.{rules}
 use Rattle.products.proofs.ordering.chain.Goals as goal
@@ -20,7 +21,7 @@ loop-i-init c =
     let some : 0 < c.args.order.size = omega (arith, c.requires.0.0.some, c.requires.0.1) in
     let h = c.requires.0.0 in
     let r = read_at c.args.choice c.args.order 0 in
-    (search rules, chaining_begins (in_order c.args.choice c.args.order) r (omega (arith, in_order-length c.args.choice c.args.order)) (read_short c.args.choice c.args.order h 0 some (c.requires.1 0 some)) (read_is c.args.choice c.args.order h 0 some (c.requires.1 0 some)))
+    chaining_begins (in_order c.args.choice c.args.order) r (omega (arith, in_order-length c.args.choice c.args.order)) (read_short c.args.choice c.args.order h 0 some (c.requires.1 0 some)) (read_is c.args.choice c.args.order h 0 some (c.requires.1 0 some))
 
 pub offset_bounds-choice-order-in-loop-i : goal.offset_bounds-choice-order-in-loop-i
 offset_bounds-choice-order-in-loop-i c =
@@ -35,30 +36,29 @@ bounds-choice-order-in-loop-i c =
     let in_it : l.i < c.args.order.size = search rules in
     omega (arith, c.requires.1 l.i in_it, c.requires.0.0.few)
 
-pub extend-next-requires : goal.extend-next-requires
-extend-next-requires c =
+pub extend-requires : goal.extend-requires
+extend-requires c =
     let l = c.loop-i in
     let in_it : l.i < c.args.order.size = search rules in
-    (l.invariant.1.short, read_short c.args.choice c.args.order c.requires.0.0 l.i in_it (c.requires.1 l.i in_it))
+    (l.invariant.short, read_short c.args.choice c.args.order c.requires.0.0 l.i in_it (c.requires.1 l.i in_it))
 
-pub returns-then-not-next : goal.returns-then-not-next
-returns-then-not-next c =
+pub returns-in_err-out : goal.returns-in_err-out
+returns-in_err-out c =
     let l = c.loop-i in
-    let e = c.extend-next in
     let h = c.requires.0.0 in
     let in_it : l.i < c.args.order.size = search rules in
-    chaining_stops (in_order c.args.choice c.args.order) l.i l.out l.invariant.1 e.result (read_at c.args.choice c.args.order l.i) (omega (arith, in_order-length c.args.choice c.args.order)) (read_is c.args.choice c.args.order h l.i in_it (c.requires.1 l.i in_it)) e.ensures (not-true e.result.fits c.if-not-next.true)
+    handed-on _ _ c.from_residual.ensures.1
+    ∙ chaining_stops (in_order c.args.choice c.args.order) l.i l.out l.invariant (read_at c.args.choice c.args.order l.i) (omega (arith, in_order-length c.args.choice c.args.order)) (read_is c.args.choice c.args.order h l.i in_it (c.requires.1 l.i in_it)) _ c.in_err-out.ensures
 
 pub loop-i-preserved : goal.loop-i-preserved
 loop-i-preserved c =
     let l = c.loop-i in
-    let e = c.extend-next in
     let h = c.requires.0.0 in
     let in_it : l.i < c.args.order.size = search rules in
-    (search rules, chaining_on (in_order c.args.choice c.args.order) l.i l.out l.invariant.1 e.result (read_at c.args.choice c.args.order l.i) (omega (arith, in_order-length c.args.choice c.args.order)) (read_is c.args.choice c.args.order h l.i in_it (c.requires.1 l.i in_it)) e.ensures (not-false e.result.fits c.if-not-next.false))
+    chaining_on (in_order c.args.choice c.args.order) l.i l.out l.invariant (read_at c.args.choice c.args.order l.i) (omega (arith, in_order-length c.args.choice c.args.order)) (read_is c.args.choice c.args.order h l.i in_it (c.requires.1 l.i in_it)) _ c.in_ok-out.ensures
 
 pub returns : goal.returns
 returns c =
     let l = c.loop-i in
     let out : c.args.order.size ≤ l.i = search rules in
-    chaining_ends (in_order c.args.choice c.args.order) l.i l.out l.invariant.1 (omega (arith, in_order-length c.args.choice c.args.order))
+    chaining_ends (in_order c.args.choice c.args.order) l.i l.out l.invariant (omega (arith, in_order-length c.args.choice c.args.order))

@@ -1,4 +1,5 @@
 -- `projection::walking::project_children`, `projection::walking::project_node` meet their contracts: one proof for their cycle of calls.
+use Rattle.arena.specs.declared.Refusal.TheVariants.{ArenaFull}
 use mathlib.Core.Path.{◌≡◌, sym, ap, subst, ◌∙◌}
 use native.Mathlib.Omega.{arith}
 use lib.ListN.{length, get_or}
@@ -56,14 +57,14 @@ pub project_children-project_children-requires : goal.project_children-project_c
 project_children-project_children-requires t c =
     let l : c.args.k < length (children_of c.args.row.now) = omega (arith, children-count c.args.row.now, c.wide.ensures, c.if-wide-k.false) in
     let x = c.project_node in
-    (omega (arith, l, c.decreases, c.requires.few), others-ready c.args.cells.now c.args.table.now c.args.row.now c.args.expr c.args.k c.requires l x.new.cells x.new.table x.result x.ensures c.in-Number.i c.in-Number.is)
+    (omega (arith, l, c.decreases, c.requires.few), others-ready c.args.cells.now c.args.table.now c.args.row.now c.args.expr c.args.k c.requires l x.new.cells x.new.table x.result x.ensures c.in-Ok.i c.in-Ok.is)
 
 pub project_children-returns : goal.project_children-returns
 project_children-returns t c =
     let l : c.args.k < length (children_of c.args.row.now) = omega (arith, children-count c.args.row.now, c.wide.ensures, c.if-wide-k.false) in
     let x = c.project_node in
     let y = c.project_children in
-    others-walked c.args.cells.now c.args.table.now c.args.row.now c.args.expr c.args.k c.requires l x.new.cells x.new.table x.result x.ensures c.in-Number.i c.in-Number.is y.new.cells y.new.table y.new.row y.result y.ensures
+    others-walked c.args.cells.now c.args.table.now c.args.row.now c.args.expr c.args.k c.requires l x.new.cells x.new.table x.result x.ensures c.in-Ok.i c.in-Ok.is y.new.cells y.new.table y.new.row y.result y.ensures
 
 pub project_node-offset_bounds-table-e : goal.project_node-offset_bounds-table-e
 project_node-offset_bounds-table-e t c =
@@ -101,7 +102,7 @@ project_node-returns-then-not-project_children t c =
     let x = c.project_children in
     let r = c.row_of-row.result in
     let w = subst (WalkedFrom c.args.cells.now c.args.table.now r x.new.cells x.new.table x.new.row c.args.expr 0) c.if-not-project_children.true x.ensures in
-    children-full c.args.cells.now c.args.table.now c.args.expr c.requires o r (rw v at c.row_of-row.ensures) x.new.cells x.new.table x.new.row w 3
+    children-full c.args.cells.now c.args.table.now c.args.expr c.requires o r (rw v at c.row_of-row.ensures) x.new.cells x.new.table x.new.row w ArenaFull
 
 pub project_node-place-answer-requires : goal.project_node-place-answer-requires
 project_node-place-answer-requires t c =

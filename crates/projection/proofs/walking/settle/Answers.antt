@@ -6,14 +6,14 @@ use Rattle.projection.proofs.walking.settle.Goals as goal
 
 pub overflow_add-table : goal.overflow_add-table
 overflow_add-table c =
-    omega (arith, c.requires.1 c.in-Number.i c.in-Number.is)
+    omega (arith, c.requires.1 c.in-Ok.i c.in-Ok.is)
 
-pub returns-in-Number : goal.returns-in-Number
+pub returns-in-Ok : goal.returns-in-Ok
 unfolding settled_as
-returns-in-Number c =
-    sym (ap (settled_as c.args.table.now c.args.e) c.in-Number.is)
+returns-in-Ok c =
+    sym (ap (settled_as c.args.table.now c.args.e) c.in-Ok.is)
 
-pub returns-in-Refused : goal.returns-in-Refused
+pub returns-in_default : goal.returns-in_default
 unfolding settled_as
-returns-in-Refused c =
-    sym (ap (settled_as c.args.table.now c.args.e) c.in-Refused.is)
+returns-in_default c =
+    sym (ap (settled_as c.args.table.now c.args.e) c.in_default.is)

@@ -1,5 +1,5 @@
 -- `projection_table::table::projection_table` meets its contract.
-use Prim.Native.Nat.{ℕ, ◌-◌, ◌≤◌, ◌<◌}
+use Prim.Native.Nat.{ℕ, ◌<◌}
 use mathlib.Core.List.{List}
 use mathlib.Core.Path.{◌≡◌}
 use lib.ListN.{length, get_or}
@@ -17,7 +17,4 @@ abbrev pub Entry : List ℕ → Group → Mapping → ℕ → ℕ → Type 0
 Entry cells g m j entry = Says (nodes cells) (projections (nodes cells) (classes g) (decode m)) (nodes cells) j entry
 
 abbrev pub invariant-loop-e : goal.invariant-loop-e
-invariant-loop-e l = (l.e ≤ l.n) × ((length l.table ≡ 1024) × ((j : ℕ) → j < l.e → Entry l.cells l.g l.m j (get_or l.table j 0)))
-
-abbrev pub decreases-loop-e : goal.decreases-loop-e
-decreases-loop-e l = l.n - l.e
+invariant-loop-e l = (length l.table ≡ 1024) × ((j : ℕ) → j < l.e → Entry l.cells l.g l.m j (get_or l.table j 0))

@@ -4,6 +4,7 @@ use native.Mathlib.Omega.{arith}
 use Rattle.questions.specs.Inner.{AnsweredConstant, AnsweredConstants}
 use Rattle.questions.proofs.Constancy.{literal-answered, seen-answered, class-constant, leaf_constant, constants-asked, constants-answered, constants-noted, passing_begins, passing-ends, child-there, child-less, child-asked, passing-on, passing-stops}
 use Rattle.questions.proofs.questions.+children_constant_node_constant.Goals as goal
+use Rattle.questions.proofs.questions.+children_constant_node_constant.Goals.{node_constant-then-cell_of-eq2-via-then-cell_of-eq2, node_constant-then-cell_of-eq2-via-else-cell_of-eq2+then-marks-i-ne0, node_constant-then-cell_of-eq2-via-else-cell_of-eq2+else-marks-i-ne0+then-seen-i-eq1}
 
 pub children_constant-loop-k-init : goal.children_constant-loop-k-init
 children_constant-loop-k-init t c =
@@ -43,24 +44,17 @@ children_constant-loop-k-preserved t c =
 pub children_constant-returns : goal.children_constant-returns
 children_constant-returns t c =
     let s = c.args in
-    passing-ends s.cells.now s.marks.now s.seen.now s.e s.n c.requires c.loop-k.seen c.loop-k.k c.loop-k.invariant c.loop-k-test.false
+    passing-ends s.cells.now s.marks.now s.seen.now s.e s.n c.requires c.loop-k.seen c.loop-k.k c.loop-k.invariant (omega arith) (omega arith)
 
 pub node_constant-returns-then-cell_of-eq2 : goal.node_constant-returns-then-cell_of-eq2
 node_constant-returns-then-cell_of-eq2 t c =
     let s = c.args in
     let m = rw c.wide-i.ensures at c.cell_of.ensures in
-    literal-answered s.cells.now s.marks.now s.seen.now s.e c.requires (sym m ∙ c.if-cell_of-eq2.true)
-
-pub node_constant-returns-then-marks-i-ne0 : goal.node_constant-returns-then-marks-i-ne0
-node_constant-returns-then-marks-i-ne0 t c =
-    let s = c.args in
-    let m = rw c.wide-i.ensures at c.cell_of.ensures in
-    class-constant s.cells.now s.marks.now s.seen.now s.e c.requires (λ z. c.if-cell_of-eq2.false (m ∙ z)) (rw c.wide-i.ensures at c.if-marks-i-ne0.true)
-
-pub node_constant-returns-then-seen-i-eq1 : goal.node_constant-returns-then-seen-i-eq1
-node_constant-returns-then-seen-i-eq1 t c =
-    let s = c.args in
-    seen-answered s.cells.now s.marks.now s.seen.now s.e c.requires (rw c.wide-i.ensures at c.if-seen-i-eq1.true)
+    elim c.then-cell_of-eq2.branch [
+      | node_constant-then-cell_of-eq2-via-then-cell_of-eq2 w ↦ literal-answered s.cells.now s.marks.now s.seen.now s.e c.requires (sym m ∙ w.if-cell_of-eq2.true)
+      | node_constant-then-cell_of-eq2-via-else-cell_of-eq2+then-marks-i-ne0 w ↦ class-constant s.cells.now s.marks.now s.seen.now s.e c.requires (λ z. w.if-cell_of-eq2.false (m ∙ z)) (rw c.wide-i.ensures at w.if-marks-i-ne0.true)
+      | node_constant-then-cell_of-eq2-via-else-cell_of-eq2+else-marks-i-ne0+then-seen-i-eq1 w ↦ seen-answered s.cells.now s.marks.now s.seen.now s.e c.requires (rw c.wide-i.ensures at w.if-seen-i-eq1.true)
+    ]
 
 pub node_constant-returns-then-n-eq0 : goal.node_constant-returns-then-n-eq0
 node_constant-returns-then-n-eq0 t c =

@@ -4,6 +4,7 @@ use native.Mathlib.Omega.{arith}
 use Rattle.questions.specs.Inner.{Answered, AnsweredAll}
 use Rattle.questions.proofs.Equality.{self-answered, class-answered, pair-answered, unpaired_answered, children-asked, children-answered, children-noted, going-begins, going-ends, left_there, right_there, left-lower, pair-asked, going_on, going-stops}
 use Rattle.questions.proofs.questions.+children_equal_nodes_equal.Goals as goal
+use Rattle.questions.proofs.questions.+children_equal_nodes_equal.Goals.{nodes_equal-then-a-b-via-then-a-b, nodes_equal-then-a-b-via-else-a-b+then-same_place}
 
 pub children_equal-loop-k-init : goal.children_equal-loop-k-init
 children_equal-loop-k-init t c =
@@ -52,18 +53,15 @@ children_equal-loop-k-preserved t c =
 pub children_equal-returns : goal.children_equal-returns
 children_equal-returns t c =
     let s = c.args in
-    going-ends s.cells.now s.places.now s.seen.now s.a s.b s.n c.requires c.loop-k.seen c.loop-k.k c.loop-k.invariant c.loop-k-test.false
+    going-ends s.cells.now s.places.now s.seen.now s.a s.b s.n c.requires c.loop-k.seen c.loop-k.k c.loop-k.invariant (omega arith) (omega arith)
 
 pub nodes_equal-returns-then-a-b : goal.nodes_equal-returns-then-a-b
 nodes_equal-returns-then-a-b t c =
     let s = c.args in
-    self-answered s.cells.now s.places.now s.seen.now s.a s.b c.requires c.if-a-b.true
-
-pub nodes_equal-returns-then-same_place : goal.nodes_equal-returns-then-same_place
-nodes_equal-returns-then-same_place t c =
-    let s = c.args in
-    let p = rw (c.wide-x.ensures, c.wide-y.ensures) at c.same_place.ensures in
-    class-answered s.cells.now s.places.now s.seen.now s.a s.b c.requires (sym p ∙ c.if-same_place.true)
+    elim c.then-a-b.branch [
+      | nodes_equal-then-a-b-via-then-a-b w ↦ self-answered s.cells.now s.places.now s.seen.now s.a s.b c.requires w.if-a-b.true
+      | nodes_equal-then-a-b-via-else-a-b+then-same_place w ↦ class-answered s.cells.now s.places.now s.seen.now s.a s.b c.requires (sym (rw (c.wide-x.ensures, c.wide-y.ensures) at w.same_place.ensures) ∙ w.if-same_place.true)
+    ]
 
 pub nodes_equal-returns-then-not-children_pair_up : goal.nodes_equal-returns-then-not-children_pair_up
 nodes_equal-returns-then-not-children_pair_up t c =

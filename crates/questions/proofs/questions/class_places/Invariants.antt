@@ -1,5 +1,4 @@
 -- `questions::questions::class_places` meets its contract.
-use Prim.Native.Nat.{◌-◌, ◌≤◌}
 use mathlib.Core.Path.{◌≡◌}
 use lib.ListN.{length}
 use Rattle.classes.specs.Layout.{decode}
@@ -7,7 +6,4 @@ use Rattle.questions.specs.Inner.{Placed}
 use Rattle.questions.proofs.questions.class_places.Given as goal
 
 abbrev pub invariant-loop-e : goal.invariant-loop-e
-invariant-loop-e l = (l.e ≤ l.n) × ((length l.places ≡ 1024) × Placed (decode l.g) l.e l.places)
-
-abbrev pub decreases-loop-e : goal.decreases-loop-e
-decreases-loop-e l = l.n - l.e
+invariant-loop-e l = (length l.places ≡ 1024) × Placed (decode l.g) l.e l.places

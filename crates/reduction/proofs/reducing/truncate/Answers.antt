@@ -1,38 +1,20 @@
 -- `reduction::reducing::truncate` meets its contract.
-use mathlib.Core.Path.{◌≡◌, refl}
-use native.Mathlib.Omega.{arith}
-use borrow.Author.Rules.{rules}
-use Rattle.orderings.proofs.Codec.{size_few, filled_next, filled-all}
+use Rattle.std.proofs.Common.{◌≡◌, ◌++◌, ℕ, List, rules, sym, ap, ◌∙◌, arith, take, drop, replicate}
+use Rattle.std.proofs.lemmas.List.{drop-replicate}
+use lib.Seq.{length-take-le}
+use Rattle.orderings.specs.Layout.{keys_of}
+use Rattle.orderings.proofs.Codec.{size_few, filled, filled-all}
+use Rattle.reduction.proofs.Meeting.{take-read}
 use Rattle.reduction.proofs.reducing.truncate.Goals as goal
 
-pub loop-k-init : goal.loop-k-init
-loop-k-init c = (search rules, refl)
-
-pub offset_bounds-o-k : goal.offset_bounds-o-k
-offset_bounds-o-k c = let b = size_few c.args.o c.requires.0 in search rules
-
-pub bounds-o-k : goal.bounds-o-k
-bounds-o-k c = let b = size_few c.args.o c.requires.0 in search rules
-
-pub offset_bounds-keys-k : goal.offset_bounds-keys-k
-offset_bounds-keys-k c = let b = size_few c.args.o c.requires.0 in search rules
-
-pub bounds-keys-k : goal.bounds-keys-k
-bounds-keys-k c = let b = size_few c.args.o c.requires.0 in search rules
-
-pub overflow_add-k : goal.overflow_add-k
-overflow_add-k c = let b = size_few c.args.o c.requires.0 in search rules
-
-pub loop-k-smaller : goal.loop-k-smaller
-loop-k-smaller c = let b = size_few c.args.o c.requires.0 in search rules
-
-pub loop-k-preserved : goal.loop-k-preserved
-loop-k-preserved c =
-    let l = c.loop-k in
-    (search rules, rw l.invariant.1 (filled_next c.args.o l.k c.requires.0 (search rules)))
+pub slice_bounds-copy_from_slice-end : goal.slice_bounds-copy_from_slice-end
+slice_bounds-copy_from_slice-end c =
+    let b = size_few c.args.o c.requires.0 in
+    sym (length-take-le c.args.n (replicate 16 0) (omega arith))
 
 pub returns : goal.returns
 returns c =
-    let l = c.loop-k in
-    let e : l.k ≡ c.args.n = omega arith in
-    rw (l.invariant.1, e) (filled-all c.args.o c.args.n c.requires.1)
+    let e : c.copy_from_slice.new.self ≡ take c.args.n c.args.o.keys = search rules in
+    let k : c.copy_from_slice.new.self ++ drop c.args.n (replicate 16 0) ≡ filled (keys_of c.args.o) c.args.n =
+    ap (λ (t : List ℕ). t ++ drop c.args.n (replicate 16 0)) (e ∙ take-read c.args.o c.args.n c.requires.0 c.requires.1) ∙ ap (λ (t : List ℕ). take c.args.n (keys_of c.args.o) ++ t) (drop-replicate c.args.n 16 0) in
+    ap (λ (t : List ℕ). record { size = c.args.n; keys = t }) k ∙ filled-all c.args.o c.args.n c.requires.1

@@ -7,7 +7,7 @@ use Rattle.arena.specs.Calls.{answered, in_cells, add_column}
 use Rattle.arena.proofs.Layouts.{holds-lawful}
 use Rattle.arena.proofs.Lending.{node-of, placeable}
 use Rattle.session_steps.specs.State.{added_reply}
-use Rattle.session_steps.proofs.Answering.{told_in}
+use Rattle.session_steps.proofs.Answering.{told_in, added-told}
 use Rattle.session_steps.proofs.steps.add_column_in.Goals as goal
 
 pub place-requires : goal.place-requires
@@ -20,5 +20,5 @@ unfolding Allowed add_column
 returns c =
     let ns = nodes_in c.args.cells.now in
     let n = node-of c.args.cells.now c.column_row-row.result (column c.args.name c.args.index) (holds-lawful c.args.cells.now c.requires) c.column_row-row.ensures c.ranges.index.fits in
-    told_in added_reply (add_column c.args.name c.args.index ns) c.place.result c.place.new.cells c.said_added.result
-    (c.place.ensures ∙ ap (λ (x : Node). in_cells (answered ns (add x ns))) n) c.said_added.ensures
+    told_in added_reply (add_column c.args.name c.args.index ns) c.place.result c.place.new.cells c.quiet.result
+    (c.place.ensures ∙ ap (λ (x : Node). in_cells (answered ns (add x ns))) n) (c.quiet.ensures ∙ added-told _)

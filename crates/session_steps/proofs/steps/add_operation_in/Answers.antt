@@ -17,7 +17,7 @@ use Rattle.arena.proofs.Lending.{node-of, placeable, operation-allowed}
 use Rattle.records.specs.Fields.{fields}
 use Rattle.records.proofs.Items.{length_fields}
 use Rattle.session_steps.specs.State.{added_reply}
-use Rattle.session_steps.proofs.Answering.{told_in}
+use Rattle.session_steps.proofs.Answering.{told_in, added-told}
 use Rattle.session_steps.proofs.Deciding.{operation-unknown, operation-many, operation-added}
 use Rattle.session_steps.proofs.steps.add_operation_in.Goals as goal
 
@@ -56,5 +56,5 @@ returns c =
     let q : c.operation_row-row.result ≡ row (operation c.args.label (fields c.args.body.now 4 c.args.n)) = c.operation_row-row.ensures ∙ ap (λ (t : List ℕ). row (operation c.args.label t)) c.children_of-children.ensures.1 in
     let w = operation-allowed c.args.label (fields c.args.body.now 4 c.args.n) c.args.cells.now (subst (λ (m : ℕ). each (λ k. ltb (get_or (fields c.args.body.now 4 c.args.n) k 0) (length (nodes_in c.args.cells.now))) m ≡ true) (sym (length_fields c.args.body.now 4 c.args.n)) a) (omega (arith, length_fields c.args.body.now 4 c.args.n, c.if-n-gt8.false)) in
     let n = node-of c.args.cells.now c.operation_row-row.result (operation c.args.label (fields c.args.body.now 4 c.args.n)) (holds-lawful c.args.cells.now c.requires.0) q w in
-    told_in added_reply (add_operation c.args.label (fields c.args.body.now 4 c.args.n) (nodes_in c.args.cells.now)) c.place.result c.place.new.cells c.said_added.result
-    (c.place.ensures ∙ ap (λ (x : Node). in_cells (answered (nodes_in c.args.cells.now) (add x (nodes_in c.args.cells.now)))) n ∙ sym (ap in_cells (operation-added c.args.label c.args.n c.args.body.now c.args.cells.now a c.if-n-gt8.false))) c.said_added.ensures
+    told_in added_reply (add_operation c.args.label (fields c.args.body.now 4 c.args.n) (nodes_in c.args.cells.now)) c.place.result c.place.new.cells c.quiet.result
+    (c.place.ensures ∙ ap (λ (x : Node). in_cells (answered (nodes_in c.args.cells.now) (add x (nodes_in c.args.cells.now)))) n ∙ sym (ap in_cells (operation-added c.args.label c.args.n c.args.body.now c.args.cells.now a c.if-n-gt8.false))) (c.quiet.ensures ∙ added-told _)

@@ -1,10 +1,6 @@
 -- `session_steps::steps::lent_keys` meets its contract.
-use Prim.Native.Nat.{◌-◌, ◌≤◌}
 use Rattle.session_steps.proofs.Bodies.{Copied}
 use Rattle.session_steps.proofs.steps.lent_keys.Given as goal
 
 abbrev pub invariant-loop-k : goal.invariant-loop-k
-invariant-loop-k l = (l.k ≤ l.n) × Copied l.body l.n l.numbers l.k
-
-abbrev pub decreases-loop-k : goal.decreases-loop-k
-decreases-loop-k l = l.n - l.k
+invariant-loop-k l = Copied l.body l.n l.numbers l.k

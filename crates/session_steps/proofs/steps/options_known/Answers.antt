@@ -1,32 +1,15 @@
 -- `session_steps::steps::options_known` meets its contract.
-use Prim.Native.Nat.{◌<◌}
-use native.Mathlib.Omega.{arith}
-use borrow.Author.Tests.{le-leb, lt-leb}
-use Rattle.laws.proofs.Each.{each_none, each_more, each-stops, each-ends}
+use Rattle.std.proofs.Common.{◌+◌, ◌*◌, leb, ◌∙◌, rules, tests}
+use Rattle.laws.proofs.Each.{each_cong}
+use Rattle.laws.proofs.Runs.{each-all}
+use Rattle.records.specs.Fields.{field}
 use Rattle.records.specs.Record.{keys_in}
 use Rattle.session_steps.specs.State.{key_options}
 use Rattle.session_steps.proofs.Bodies.{at-options}
-use borrow.Author.Rules.{rules}
-use Rattle.session_steps.proofs.steps.options_known.Invariants.{Test}
 use Rattle.session_steps.proofs.steps.options_known.Goals as goal
-
-pub loop-k-init : goal.loop-k-init
-loop-k-init c =
-    (search rules, each_none (Test c.args.body.now))
-
-pub returns-then-field-gt3 : goal.returns-then-field-gt3
-returns-then-field-gt3 c =
-    let l = c.loop-k in
-    let k : l.k < c.args.n = search rules in
-    each-stops (Test c.args.body.now) c.args.n l.k k (lt-leb (key_options (keys_in c.args.body.now) l.k) 3 (omega (arith, at-options c.args.body.now c.args.n c.requires l.k k, c.field.ensures, c.if-field-gt3.true)))
-
-pub loop-k-preserved : goal.loop-k-preserved
-loop-k-preserved c =
-    let l = c.loop-k in
-    let k : l.k < c.args.n = search rules in
-    (search rules, each_more (Test c.args.body.now) l.k l.invariant.1 (le-leb (key_options (keys_in c.args.body.now) l.k) 3 (omega (arith, at-options c.args.body.now c.args.n c.requires l.k k, c.field.ensures, c.if-field-gt3.false))))
 
 pub returns : goal.returns
 returns c =
-    let l = c.loop-k in
-    each-ends (Test c.args.body.now) c.args.n l.k (search rules) (search rules) l.invariant.1
+    let x = c.args in
+    each-all (λ k. leb (field x.body.now (4 * k + 2)) 3) x.n _ _ _ c.all.ensures.ran (λ k b q w. search (rules, tests))
+    ∙ each_cong (λ k. leb (field x.body.now (4 * k + 2)) 3) (λ k. leb (key_options (keys_in x.body.now) k) 3) x.n (λ i l. rw (at-options x.body.now x.n c.requires i l))

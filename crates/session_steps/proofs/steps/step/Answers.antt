@@ -1,4 +1,7 @@
 -- `session_steps::steps::step` meets its contract.
+use Rattle.std.specs.Prelude.{Result, Ok}
+use Rattle.arena.specs.declared.Refusal.{Refusal}
+use Rattle.records.specs.declared.Item.{Item}
 use Prim.Native.Nat.{ℕ, ◌<◌}
 use mathlib.Core.List.{List}
 use mathlib.Core.Path.{refl, sym, ap, ◌∙◌, subst}
@@ -16,14 +19,14 @@ use Rattle.orderings.specs.Layout.{decode as orderings_in}
 use Rattle.records.specs.Fields.{fields}
 use Rattle.records.specs.Record.{Record, column, literal, operation, equal_pair, constant, normal_form_of, equality_of, one_ordering, body_of, keys_in}
 use Rattle.records.proofs.Reading.{was_read}
-use Rattle.records.proofs.Items.{column-answer, literal-answer, operation-answer, equal_pair-answer, constant-answer, normal_form-answer, equality-answer, ordering-answer, malformed_answer}
+use Rattle.records.proofs.Items.{column-answer, literal-answer, operation-answer, equal_pair-answer, constant-answer, normal_form-answer, equality-answer, ordering-answer}
 use Rattle.session_steps.specs.State.{added_reply, normal_reply, equality_reply, say_constant, add_ordering, step}
 use Rattle.session_steps.specs.Inner.{Went, said_by, listed_of, state_of}
 use Rattle.session_steps.specs.declared.holding.Said.{Said}
 use Rattle.session_steps.proofs.NodesKept.{column-kept, literal-kept, operation-kept}
 use Rattle.session_steps.proofs.ClassesKept.{held-fit, equal-fit, constant-fit}
 use Rattle.session_steps.proofs.OrderingsKept.{ordering-good}
-use Rattle.session_steps.proofs.Answering.{only, none_read, nodes-went, asked-went, classes-went, orderings-went}
+use Rattle.session_steps.proofs.Answering.{only, nodes-went, asked-went, classes-went, orderings-went}
 use borrow.Author.Rules.{rules}
 use Rattle.session_steps.proofs.steps.step.Goals as goal
 
@@ -35,14 +38,14 @@ add_literal_in-requires c = c.requires.0.arena
 
 pub body_of-requires : goal.body_of-requires
 body_of-requires c =
-    let i = sym c.requires.1 ∙ c.in-Operation.is in
+    let i = sym c.requires.1 ∙ ap {B = Result Item Refusal} Ok c.in-Operation.is in
     let label = c.in-Operation.label in
     let n = c.in-Operation.n in
     (was_read c.args.bytes.now (operation label (fields (body_of c.args.bytes.now) 4 n)) (operation-answer c.args.bytes.now label n i).0).whole
 
 pub add_operation_in-requires : goal.add_operation_in-requires
 add_operation_in-requires c =
-    let i = sym c.requires.1 ∙ c.in-Operation.is in
+    let i = sym c.requires.1 ∙ ap {B = Result Item Refusal} Ok c.in-Operation.is in
     let label = c.in-Operation.label in
     let n = c.in-Operation.n in
     (c.requires.0.arena, ap (λ (t : List ℕ). length t) c.body_of.ensures ∙ (operation-answer c.args.bytes.now label n i).1)
@@ -61,13 +64,13 @@ equality_in-requires c = (c.requires.0.arena, c.requires.0.group)
 
 pub body_of-requires-in-OneOrdering : goal.body_of-requires-in-OneOrdering
 body_of-requires-in-OneOrdering c =
-    let i = sym c.requires.1 ∙ c.in-OneOrdering.is in
+    let i = sym c.requires.1 ∙ ap {B = Result Item Refusal} Ok c.in-OneOrdering.is in
     let n = c.in-OneOrdering.n in
     (was_read c.args.bytes.now (one_ordering (keys_in (body_of c.args.bytes.now))) (ordering-answer c.args.bytes.now n i).0).whole
 
 pub add_ordering_in-requires : goal.add_ordering_in-requires
 add_ordering_in-requires c =
-    let i = sym c.requires.1 ∙ c.in-OneOrdering.is in
+    let i = sym c.requires.1 ∙ ap {B = Result Item Refusal} Ok c.in-OneOrdering.is in
     let n = c.in-OneOrdering.n in
     let w = (ordering-answer c.args.bytes.now n i).1 in
     ((c.requires.0.arena, c.requires.0.list), (ap (λ (t : List ℕ). length t) c.body_of-in-OneOrdering.ensures ∙ w.0, w.1.1))
@@ -75,7 +78,7 @@ add_ordering_in-requires c =
 pub returns-in-Column : goal.returns-in-Column
 unfolding step state_of
 returns-in-Column c =
-    let i = sym c.requires.1 ∙ c.in-Column.is in
+    let i = sym c.requires.1 ∙ ap {B = Result Item Refusal} Ok c.in-Column.is in
     let name = c.in-Column.name in
     let index = c.in-Column.index in
     let f : index < 65536 = search rules in
@@ -85,7 +88,7 @@ returns-in-Column c =
 pub returns-in-Literal : goal.returns-in-Literal
 unfolding step state_of
 returns-in-Literal c =
-    let i = sym c.requires.1 ∙ c.in-Literal.is in
+    let i = sym c.requires.1 ∙ ap {B = Result Item Refusal} Ok c.in-Literal.is in
     let value = c.in-Literal.value in
     only c.args.bytes.now (λ (x : Record). Went c.args.cells.now c.args.h x c.add_literal_in.new.cells c.kept-in-Literal.result) (literal value) (literal-answer c.args.bytes.now value i)
     (nodes-went c.args.cells.now c.args.h (literal value) c.requires.0 (added_reply) (add_literal value (nodes_in c.args.cells.now)) (literal-kept value (nodes_in c.args.cells.now) c.requires.0.arena.sound) refl c.add_literal_in.result c.add_literal_in.new.cells c.add_literal_in.ensures c.kept-in-Literal.result c.kept-in-Literal.ensures)
@@ -93,7 +96,7 @@ returns-in-Literal c =
 pub returns-in-Operation : goal.returns-in-Operation
 unfolding step state_of
 returns-in-Operation c =
-    let i = sym c.requires.1 ∙ c.in-Operation.is in
+    let i = sym c.requires.1 ∙ ap {B = Result Item Refusal} Ok c.in-Operation.is in
     let label = c.in-Operation.label in
     let n = c.in-Operation.n in
     only c.args.bytes.now (λ (x : Record). Went c.args.cells.now c.args.h x c.add_operation_in.new.cells c.kept-in-Operation.result) (operation label (fields (body_of c.args.bytes.now) 4 n)) (operation-answer c.args.bytes.now label n i).0
@@ -102,7 +105,7 @@ returns-in-Operation c =
 pub returns-in-EqualPair : goal.returns-in-EqualPair
 unfolding step state_of
 returns-in-EqualPair c =
-    let i = sym c.requires.1 ∙ c.in-EqualPair.is in
+    let i = sym c.requires.1 ∙ ap {B = Result Item Refusal} Ok c.in-EqualPair.is in
     let p = c.in-EqualPair.a in
     let q = c.in-EqualPair.b in
     let f : Fit (nodes_in c.args.cells.now) 256 (decode c.args.h.group) = subst (λ (l : ℕ). Fit (nodes_in c.args.cells.now) l (decode c.args.h.group)) c.requires.0.limit (held-fit (nodes_in c.args.cells.now) c.args.h.group c.requires.0.group) in
@@ -112,7 +115,7 @@ returns-in-EqualPair c =
 pub returns-in-Constant : goal.returns-in-Constant
 unfolding step state_of
 returns-in-Constant c =
-    let i = sym c.requires.1 ∙ c.in-Constant.is in
+    let i = sym c.requires.1 ∙ ap {B = Result Item Refusal} Ok c.in-Constant.is in
     let e = c.in-Constant.e in
     let flavour = c.in-Constant.flavour in
     let value = c.in-Constant.value in
@@ -123,7 +126,7 @@ returns-in-Constant c =
 pub returns-in-NormalFormOf : goal.returns-in-NormalFormOf
 unfolding step state_of
 returns-in-NormalFormOf c =
-    let i = sym c.requires.1 ∙ c.in-NormalFormOf.is in
+    let i = sym c.requires.1 ∙ ap {B = Result Item Refusal} Ok c.in-NormalFormOf.is in
     let e = c.in-NormalFormOf.e in
     only c.args.bytes.now (λ (x : Record). Went c.args.cells.now c.args.h x c.normal_form_in.new.cells c.kept-in-NormalFormOf.result) (normal_form_of e) (normal_form-answer c.args.bytes.now e i)
     (nodes-went c.args.cells.now c.args.h (normal_form_of e) c.requires.0 (normal_reply e) (normalize_expr e (nodes_in c.args.cells.now) (decode c.args.h.group)) (form-kept e (nodes_in c.args.cells.now) (decode c.args.h.group) c.requires.0.arena.sound c.requires.0.group.good) refl c.normal_form_in.result c.normal_form_in.new.cells c.normal_form_in.ensures c.kept-in-NormalFormOf.result c.kept-in-NormalFormOf.ensures)
@@ -131,20 +134,16 @@ returns-in-NormalFormOf c =
 pub returns-in-EqualityOf : goal.returns-in-EqualityOf
 unfolding step state_of
 returns-in-EqualityOf c =
-    let i = sym c.requires.1 ∙ c.in-EqualityOf.is in
+    let i = sym c.requires.1 ∙ ap {B = Result Item Refusal} Ok c.in-EqualityOf.is in
     let p = c.in-EqualityOf.a in
     let q = c.in-EqualityOf.b in
     only c.args.bytes.now (λ (x : Record). Went c.args.cells.now c.args.h x c.args.cells.now c.kept-in-EqualityOf.result) (equality_of p q) (equality-answer c.args.bytes.now p q i)
-    (asked-went c.args.cells.now c.args.h (equality_of p q) c.requires.0 (equality_reply p q (equal_answer p q (nodes_in c.args.cells.now) (decode c.args.h.group))) refl c.kept-in-EqualityOf.result (c.kept-in-EqualityOf.ensures ∙ ap (λ (s : Said). record { said = s; holding = c.args.h }) c.equality_in.ensures))
+    (asked-went c.args.cells.now c.args.h (equality_of p q) c.requires.0 (equality_reply p q (equal_answer p q (nodes_in c.args.cells.now) (decode c.args.h.group))) refl c.kept-in-EqualityOf.result (c.kept-in-EqualityOf.ensures ∙ ap (λ (s : Result Said Refusal). record { said = s; holding = c.args.h }) c.equality_in.ensures))
 
 pub returns-in-OneOrdering : goal.returns-in-OneOrdering
 unfolding step state_of
 returns-in-OneOrdering c =
-    let i = sym c.requires.1 ∙ c.in-OneOrdering.is in
+    let i = sym c.requires.1 ∙ ap {B = Result Item Refusal} Ok c.in-OneOrdering.is in
     let n = c.in-OneOrdering.n in
     only c.args.bytes.now (λ (x : Record). Went c.args.cells.now c.args.h x c.args.cells.now c.with_list.result) (one_ordering (keys_in (body_of c.args.bytes.now))) (ordering-answer c.args.bytes.now n i).0
     (orderings-went c.args.cells.now c.args.h (one_ordering (keys_in (body_of c.args.bytes.now))) c.requires.0 (add_ordering (keys_in (body_of c.args.bytes.now)) (nodes_in c.args.cells.now) (orderings_in c.args.h.list)) (ordering-good (keys_in (body_of c.args.bytes.now)) (nodes_in c.args.cells.now) (orderings_in c.args.h.list) c.requires.0.list.good) refl c.add_ordering_in.result (c.add_ordering_in.ensures ∙ ap (λ (t : List ℕ). listed_of (add_ordering (keys_in t) (nodes_in c.args.cells.now) (orderings_in c.args.h.list))) c.body_of-in-OneOrdering.ensures) c.with_list.result c.with_list.ensures)
-
-pub returns-in-Malformed : goal.returns-in-Malformed
-returns-in-Malformed c =
-    none_read c.args.bytes.now (λ (x : Record). Went c.args.cells.now c.args.h x c.args.cells.now c.kept-in-Malformed.result) (malformed_answer c.args.bytes.now (sym c.requires.1 ∙ c.in-Malformed.is))

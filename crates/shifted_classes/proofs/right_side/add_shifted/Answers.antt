@@ -12,7 +12,7 @@ use Rattle.shifted_classes.proofs.right_side.add_shifted.Goals as goal
 
 pub loop-j-init : goal.loop-j-init
 loop-j-init c =
-    (search rules, search rules, total-none (decode c.args.right), add-begins (nodes c.args.cells.now) c.args.left c.args.right c.requires.0.0.0 c.args.members)
+    (total-none (decode c.args.right), add-begins (nodes c.args.cells.now) c.args.left c.args.right c.requires.0.0.0 c.args.members)
 
 pub offset_bounds-right-j : goal.offset_bounds-right-j
 offset_bounds-right-j c =
@@ -20,44 +20,38 @@ offset_bounds-right-j c =
 
 pub bounds-right-j : goal.bounds-right-j
 bounds-right-j c =
-    omega (arith, c.requires.0.1.0, c.loop-j-test.true, c.loop-j.invariant.0)
+    omega (arith, c.requires.0.1.0, c.loop-j-test.true)
 
 pub add_class_from-out-requires : goal.add_class_from-out-requires
 add_class_from-out-requires c =
     let o = c.loop-j in
     let mm : length c.args.members ≡ 256 = search rules in
-    let l : o.j < c.args.right.count = omega (arith, c.loop-j-test.true, o.invariant.0) in
+    let l : o.j < c.args.right.count = omega (arith, c.loop-j-test.true, c.loop-j-test) in
     let z = size_is c.args.right c.requires.0.0.1 o.j in
-    let i = part-inside c.args.right c.requires.0.0.1 o.j o.start _ o.invariant.2 z in (
-      add-room (nodes c.args.cells.now) c.args.left c.args.right c.requires.0.0.0 c.requires.0.0.1 c.requires.0.1.0 c.requires.0.1.1 c.args.members o.j l o.start _ o.invariant.2 z o.out o.invariant.3,
+    let i = part-inside c.args.right c.requires.0.0.1 o.j o.start _ o.invariant.0 z in (
+      add-room (nodes c.args.cells.now) c.args.left c.args.right c.requires.0.0.0 c.requires.0.0.1 c.requires.0.1.0 c.requires.0.1.1 c.args.members o.j l o.start _ o.invariant.0 z o.out o.invariant.1,
       (
         (c.requires.1.0, omega (arith, i, c.requires.0.0.1.small)),
-        part-below c.args.right c.requires.0.0.1 o.j o.start _ o.invariant.2 z c.args.members mm (length (nodes c.args.cells.now)) c.requires.1.1,
+        part-below c.args.right c.requires.0.0.1 o.j o.start _ o.invariant.0 z c.args.members mm (length (nodes c.args.cells.now)) c.requires.1.1,
       ),
     )
 
 pub overflow_add-start : goal.overflow_add-start
 overflow_add-start c =
     let o = c.loop-j in
-    let i = part-inside c.args.right c.requires.0.0.1 o.j o.start _ o.invariant.2 (size_is c.args.right c.requires.0.0.1 o.j) in
-    search rules
-
-pub overflow_add-j : goal.overflow_add-j
-overflow_add-j c =
+    let i = part-inside c.args.right c.requires.0.0.1 o.j o.start _ o.invariant.0 (size_is c.args.right c.requires.0.0.1 o.j) in
     search rules
 
 pub loop-j-preserved : goal.loop-j-preserved
 loop-j-preserved c =
     let o = c.loop-j in
-    let l : o.j < c.args.right.count = omega (arith, c.loop-j-test.true, o.invariant.0) in
+    let l : o.j < c.args.right.count = omega (arith, c.loop-j-test.true, c.loop-j-test) in
     let z = size_is c.args.right c.requires.0.0.1 o.j in (
-      o.invariant.0,
-      search rules,
-      part-next c.args.right c.requires.0.0.1 o.j o.start _ o.invariant.2 z,
-      add-next (nodes c.args.cells.now) c.args.left c.args.right c.requires.0.0.0 c.requires.0.0.1 c.requires.0.1.0 c.requires.0.1.1 c.args.members o.j l o.start _ o.invariant.2 z o.out o.invariant.3 c.add_class_from-out.result c.add_class_from-out.ensures,
+      part-next c.args.right c.requires.0.0.1 o.j o.start _ o.invariant.0 z,
+      add-next (nodes c.args.cells.now) c.args.left c.args.right c.requires.0.0.0 c.requires.0.0.1 c.requires.0.1.0 c.requires.0.1.1 c.args.members o.j l o.start _ o.invariant.0 z o.out o.invariant.1 c.add_class_from-out.result c.add_class_from-out.ensures,
     )
 
 pub returns : goal.returns
 returns c =
     let o = c.loop-j in
-    add-ends (nodes c.args.cells.now) c.args.left c.args.right c.requires.0.0.0 c.args.members o.j o.out (omega (arith, o.invariant.0, c.loop-j-test.false)) o.invariant.3
+    add-ends (nodes c.args.cells.now) c.args.left c.args.right c.requires.0.0.0 c.args.members o.j o.out (omega (arith, c.loop-j-test, c.loop-j-test.false)) o.invariant.1

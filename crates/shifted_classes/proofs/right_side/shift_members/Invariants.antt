@@ -1,5 +1,4 @@
 -- `shifted_classes::right_side::shift_members` meets its contract.
-use Prim.Native.Nat.{◌-◌}
 use mathlib.Core.Path.{◌≡◌}
 use lib.ListN.{length, take}
 use Rattle.classes.specs.Good.{flat}
@@ -8,7 +7,4 @@ use Rattle.shifted_classes.proofs.Placings.{NumbersTo}
 use Rattle.shifted_classes.proofs.right_side.shift_members.Given as goal
 
 abbrev pub invariant-loop-k : goal.invariant-loop-k
-invariant-loop-k l = (l.n ≡ l.g.used) × (length l.members ≡ 256) × NumbersTo l.lift l.initial.cells l.cells l.memo (flat (decode l.g)) (take l.k l.members) l.k
-
-abbrev pub decreases-loop-k : goal.decreases-loop-k
-decreases-loop-k l = l.n - l.k
+invariant-loop-k l = (length l.members ≡ 256) × NumbersTo l.lift l.initial.cells l.cells l.memo (flat (decode l.g)) (take l.k l.members) l.k

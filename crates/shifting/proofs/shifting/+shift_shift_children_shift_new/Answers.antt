@@ -1,9 +1,11 @@
 -- `shifting::shifting::shift`, `shifting::shifting::shift_children`, `shifting::shifting::shift_new` meet their contracts: one proof for their cycle of calls.
-use borrow.Author.Rules.{rules}
 use Prim.Native.Nat.{ℕ, ◌<◌}
 use mathlib.Core.Path.{◌≡◌, sym, ap, subst, ◌∙◌}
 use native.Mathlib.Omega.{arith}
 use lib.ListN.{length, get_or}
+use Rattle.std.specs.Prelude.{Result, is_ok}
+use Rattle.arena.specs.declared.Refusal.{Refusal}
+use Rattle.arena.proofs.Refusals.{handed-on}
 use Rattle.arena.specs.Expression.{expression_at}
 use Rattle.arena.specs.Layout.{cell_of, children_of, decode}
 use Rattle.shifting.specs.Inner.{shifted_by, Ready}
@@ -32,104 +34,102 @@ shift-returns t c =
 
 pub shift_children-loop-k-init : goal.shift_children-loop-k-init
 shift_children-loop-k-init t c =
-    (search rules, through-begins (shifted_by c.args.lift) c.args.cells.now c.args.row.now c.args.memo.now c.requires.ready.known.holds c.requires.ready.memo_true c.requires.row_is)
+    through-begins (shifted_by c.args.lift) c.args.cells.now c.args.row.now c.args.memo.now c.requires.ready.known.holds c.requires.ready.memo_true c.requires.row_is
 
 pub shift_children-overflow_add-k : goal.shift_children-overflow_add-k
 shift_children-overflow_add-k t c =
-    let l : c.loop-k.k < length (children_of c.args.row.now) = omega (arith, children-count c.args.row.now, c.wide-n.ensures) in
+    let l : c.loop-k.k < length (children_of c.args.row.now) = omega (arith, children-count c.args.row.now, c.wide-k-end.ensures) in
     omega (arith, l, children_eight c.args.lift c.args.cells.now c.args.memo.now c.args.row.now c.args.expr c.requires)
 
 pub shift_children-offset_bounds-row-k : goal.shift_children-offset_bounds-row-k
 shift_children-offset_bounds-row-k t c =
-    let l : c.loop-k.k < length (children_of c.args.row.now) = omega (arith, children-count c.args.row.now, c.wide-n.ensures) in
+    let l : c.loop-k.k < length (children_of c.args.row.now) = omega (arith, children-count c.args.row.now, c.wide-k-end.ensures) in
     omega (arith, l, children_eight c.args.lift c.args.cells.now c.args.memo.now c.args.row.now c.args.expr c.requires)
 
 pub shift_children-bounds-row-k : goal.shift_children-bounds-row-k
 shift_children-bounds-row-k t c =
-    let l : c.loop-k.k < length (children_of c.args.row.now) = omega (arith, children-count c.args.row.now, c.wide-n.ensures) in
+    let l : c.loop-k.k < length (children_of c.args.row.now) = omega (arith, children-count c.args.row.now, c.wide-k-end.ensures) in
     omega (arith, l, children_eight c.args.lift c.args.cells.now c.args.memo.now c.args.row.now c.args.expr c.requires)
 
 pub shift_children-shift-requires : goal.shift_children-shift-requires
 shift_children-shift-requires t c =
-    let l : c.loop-k.k < length (children_of c.args.row.now) = omega (arith, children-count c.args.row.now, c.wide-n.ensures) in
-    let h = c.loop-k.invariant.1 in
+    let l : c.loop-k.k < length (children_of c.args.row.now) = omega (arith, children-count c.args.row.now, c.wide-k-end.ensures) in
+    let h = c.loop-k.invariant in
     let q = through-child (shifted_by c.args.lift) c.args.cells.now c.args.row.now c.loop-k.cells c.loop-k.memo c.loop-k.row c.loop-k.k h l in
     (omega (arith, q, child-lower c.args.lift c.args.cells.now c.args.memo.now c.args.row.now c.args.expr c.requires c.loop-k.k l, c.decreases), subst (Ready c.args.lift c.loop-k.cells c.loop-k.memo) (sym q) (child-ready c.args.lift c.args.cells.now c.args.memo.now c.args.row.now c.args.expr c.requires c.loop-k.cells c.loop-k.memo c.loop-k.row c.loop-k.k h l))
 
-pub shift_children-returns-in_default : goal.shift_children-returns-in_default
-shift_children-returns-in_default t c =
-    let l : c.loop-k.k < length (children_of c.args.row.now) = omega (arith, children-count c.args.row.now, c.wide-n.ensures) in
-    let h = c.loop-k.invariant.1 in
+pub shift_children-returns-in_err-row : goal.shift_children-returns-in_err-row
+shift_children-returns-in_err-row t c =
+    let l : c.loop-k.k < length (children_of c.args.row.now) = omega (arith, children-count c.args.row.now, c.wide-k-end.ensures) in
+    let h = c.loop-k.invariant in
     let q = through-child (shifted_by c.args.lift) c.args.cells.now c.args.row.now c.loop-k.cells c.loop-k.memo c.loop-k.row c.loop-k.k h l in
-    through_fails (shifted_by c.args.lift) c.args.cells.now c.args.row.now c.loop-k.cells c.loop-k.memo c.loop-k.row c.loop-k.k h l c.shift.new.cells c.shift.new.memo (child-known c.args.lift c.args.cells.now c.args.memo.now c.args.row.now c.args.expr c.requires c.loop-k.k l) c.in_default.field-0
-    (subst (Walked (shifted_by c.args.lift) c.loop-k.cells c.shift.new.cells c.shift.new.memo (get_or (children_of c.args.row.now) c.loop-k.k 0)) c.in_default.is (rw q at c.shift.ensures))
+    rw (handed-on _ _ c.from_residual.ensures.1) (through_fails (shifted_by c.args.lift) c.args.cells.now c.args.row.now c.loop-k.cells c.loop-k.memo c.loop-k.row c.loop-k.k h l c.shift.new.cells c.shift.new.memo (child-known c.args.lift c.args.cells.now c.args.memo.now c.args.row.now c.args.expr c.requires c.loop-k.k l) _
+    (subst (Walked (shifted_by c.args.lift) c.loop-k.cells c.shift.new.cells c.shift.new.memo (get_or (children_of c.args.row.now) c.loop-k.k 0)) c.in_err-row.was (rw q at c.shift.ensures)))
 
 pub shift_children-overflow_add-row : goal.shift_children-overflow_add-row
 shift_children-overflow_add-row t c =
-    let l : c.loop-k.k < length (children_of c.args.row.now) = omega (arith, children-count c.args.row.now, c.wide-n.ensures) in
+    let l : c.loop-k.k < length (children_of c.args.row.now) = omega (arith, children-count c.args.row.now, c.wide-k-end.ensures) in
     omega (arith, l, children_eight c.args.lift c.args.cells.now c.args.memo.now c.args.row.now c.args.expr c.requires)
 
 pub shift_children-offset_bounds-row-k-in-loop-k : goal.shift_children-offset_bounds-row-k-in-loop-k
 shift_children-offset_bounds-row-k-in-loop-k t c =
-    let l : c.loop-k.k < length (children_of c.args.row.now) = omega (arith, children-count c.args.row.now, c.wide-n.ensures) in
+    let l : c.loop-k.k < length (children_of c.args.row.now) = omega (arith, children-count c.args.row.now, c.wide-k-end.ensures) in
     omega (arith, l, children_eight c.args.lift c.args.cells.now c.args.memo.now c.args.row.now c.args.expr c.requires)
 
 pub shift_children-bounds-row-k-in-loop-k : goal.shift_children-bounds-row-k-in-loop-k
 shift_children-bounds-row-k-in-loop-k t c =
-    let l : c.loop-k.k < length (children_of c.args.row.now) = omega (arith, children-count c.args.row.now, c.wide-n.ensures) in
+    let l : c.loop-k.k < length (children_of c.args.row.now) = omega (arith, children-count c.args.row.now, c.wide-k-end.ensures) in
     omega (arith, l, children_eight c.args.lift c.args.cells.now c.args.memo.now c.args.row.now c.args.expr c.requires)
 
 pub shift_children-loop-k-preserved : goal.shift_children-loop-k-preserved
 shift_children-loop-k-preserved t c =
-    let l : c.loop-k.k < length (children_of c.args.row.now) = omega (arith, children-count c.args.row.now, c.wide-n.ensures) in
-    let h = c.loop-k.invariant.1 in
-    let q = through-child (shifted_by c.args.lift) c.args.cells.now c.args.row.now c.loop-k.cells c.loop-k.memo c.loop-k.row c.loop-k.k h l in (
-      search rules,
-      through-more (shifted_by c.args.lift) c.args.cells.now c.args.row.now c.loop-k.cells c.loop-k.memo c.loop-k.row c.loop-k.k h l c.shift.new.cells c.shift.new.memo (child-known c.args.lift c.args.cells.now c.args.memo.now c.args.row.now c.args.expr c.requires c.loop-k.k l) c.in-Number.i
-          (subst (Walked (shifted_by c.args.lift) c.loop-k.cells c.shift.new.cells c.shift.new.memo (get_or (children_of c.args.row.now) c.loop-k.k 0)) c.in-Number.is (rw q at c.shift.ensures)),
-    )
+    let l : c.loop-k.k < length (children_of c.args.row.now) = omega (arith, children-count c.args.row.now, c.wide-k-end.ensures) in
+    let h = c.loop-k.invariant in
+    let q = through-child (shifted_by c.args.lift) c.args.cells.now c.args.row.now c.loop-k.cells c.loop-k.memo c.loop-k.row c.loop-k.k h l in
+    through-more (shifted_by c.args.lift) c.args.cells.now c.args.row.now c.loop-k.cells c.loop-k.memo c.loop-k.row c.loop-k.k h l c.shift.new.cells c.shift.new.memo (child-known c.args.lift c.args.cells.now c.args.memo.now c.args.row.now c.args.expr c.requires c.loop-k.k l) c.in_ok-row.field-0
+    (subst (Walked (shifted_by c.args.lift) c.loop-k.cells c.shift.new.cells c.shift.new.memo (get_or (children_of c.args.row.now) c.loop-k.k 0)) c.in_ok-row.was (rw q at c.shift.ensures))
 
 pub shift_children-returns : goal.shift_children-returns
 shift_children-returns t c =
-    let e : length (children_of c.args.row.now) ≡ c.loop-k.k = omega (arith, children-count c.args.row.now, c.wide-n.ensures) in
-    through-ends (shifted_by c.args.lift) c.args.cells.now c.args.row.now c.loop-k.cells c.loop-k.memo c.loop-k.row c.loop-k.k c.loop-k.invariant.1 e
+    let e : length (children_of c.args.row.now) ≡ c.loop-k.k = omega (arith, children-count c.args.row.now, c.wide-k-end.ensures) in
+    through-ends (shifted_by c.args.lift) c.args.cells.now c.args.row.now c.loop-k.cells c.loop-k.memo c.loop-k.row c.loop-k.k c.loop-k.invariant e
 
 pub shift_new-shift_column-requires : goal.shift_new-shift_column-requires
 shift_new-shift_column-requires t c =
     let d = c.requires in
-    rw c.wide-e.ensures ((d.known, d.small), (rw c.wide-e.ensures at (sym c.cell_of-kind.ensures ∙ c.if-kind-eq1.true), d.moves))
+    rw c.wide-e.ensures ((d.known, d.small), (rw c.wide-e.ensures at (sym c.cell_of.ensures ∙ c.in-1.is), d.moves))
 
-pub shift_new-returns-then-kind-eq1 : goal.shift_new-returns-then-kind-eq1
-shift_new-returns-then-kind-eq1 t c =
+pub shift_new-returns-in-1 : goal.shift_new-returns-in-1
+shift_new-returns-in-1 t c =
     let g = rw c.wide-e.ensures at c.shift_column.ensures in
     record { grew = g; memo_true = memo-kept (shifted_by c.args.lift) c.args.memo.now g.extends c.requires.memo_true }
 
-pub shift_new-returns-then-kind-eq2 : goal.shift_new-returns-then-kind-eq2
-shift_new-returns-then-kind-eq2 t c =
-    literal-stays c.args.lift c.args.cells.now c.args.memo.now c.args.expr c.requires (rw c.wide-e.ensures at (sym c.cell_of-kind.ensures ∙ c.if-kind-eq2.true))
+pub shift_new-returns-in-2 : goal.shift_new-returns-in-2
+shift_new-returns-in-2 t c =
+    literal-stays c.args.lift c.args.cells.now c.args.memo.now c.args.expr c.requires (rw c.wide-e.ensures at (sym c.cell_of.ensures ∙ c.in-2.is))
 
 pub shift_new-shift_children-requires : goal.shift_new-shift_children-requires
 shift_new-shift_children-requires t c =
-    let k : c.cell_of-kind.result ≡ cell_of c.args.cells.now c.args.expr 0 = rw c.wide-e.ensures at c.cell_of-kind.ensures in
-    (omega (arith, c.decreases), ready-all c.args.lift c.args.cells.now c.args.memo.now c.args.expr c.requires (λ z. c.if-kind-eq1.false (k ∙ z)) (λ z. c.if-kind-eq2.false (k ∙ z)) c.row_of-row.result (rw c.wide-e.ensures at c.row_of-row.ensures))
+    let k : c.cell_of.result ≡ cell_of c.args.cells.now c.args.expr 0 = rw c.wide-e.ensures at c.cell_of.ensures in
+    (omega (arith, c.decreases), ready-all c.args.lift c.args.cells.now c.args.memo.now c.args.expr c.requires (λ z. omega (arith, k ∙ z)) (λ z. omega (arith, k ∙ z)) c.row_of-row.result (rw c.wide-e.ensures at c.row_of-row.ensures))
 
-pub shift_new-returns-then-not-shift_children : goal.shift_new-returns-then-not-shift_children
-shift_new-returns-then-not-shift_children t c =
-    let k : c.cell_of-kind.result ≡ cell_of c.args.cells.now c.args.expr 0 = rw c.wide-e.ensures at c.cell_of-kind.ensures in
-    let a = ready-all c.args.lift c.args.cells.now c.args.memo.now c.args.expr c.requires (λ z. c.if-kind-eq1.false (k ∙ z)) (λ z. c.if-kind-eq2.false (k ∙ z)) c.row_of-row.result (rw c.wide-e.ensures at c.row_of-row.ensures) in
-    let w = subst (WalkedAll (shifted_by c.args.lift) c.args.cells.now c.shift_children.new.cells c.shift_children.new.memo c.row_of-row.result c.shift_children.new.row) c.if-not-shift_children.true c.shift_children.ensures in
-    children-full c.args.lift c.args.cells.now c.args.memo.now c.row_of-row.result c.args.expr a c.shift_children.new.cells c.shift_children.new.memo c.shift_children.new.row w 3
+pub shift_new-returns-in_err-shift_children-in_default : goal.shift_new-returns-in_err-shift_children-in_default
+shift_new-returns-in_err-shift_children-in_default t c =
+    let k : c.cell_of.result ≡ cell_of c.args.cells.now c.args.expr 0 = rw c.wide-e.ensures at c.cell_of.ensures in
+    let a = ready-all c.args.lift c.args.cells.now c.args.memo.now c.args.expr c.requires (λ z. omega (arith, k ∙ z)) (λ z. omega (arith, k ∙ z)) c.row_of-row.result (rw c.wide-e.ensures at c.row_of-row.ensures) in
+    let w = subst (λ (r : Result (Unit {0}) Refusal). WalkedAll (shifted_by c.args.lift) c.args.cells.now c.shift_children.new.cells c.shift_children.new.memo c.row_of-row.result c.shift_children.new.row (is_ok r)) c.in_err-shift_children-in_default.was c.shift_children.ensures in
+    rw (handed-on _ _ c.from_residual.ensures.1) (children-full c.args.lift c.args.cells.now c.args.memo.now c.row_of-row.result c.args.expr a c.shift_children.new.cells c.shift_children.new.memo c.shift_children.new.row w _)
 
 pub shift_new-place-requires : goal.shift_new-place-requires
 shift_new-place-requires t c =
-    let k : c.cell_of-kind.result ≡ cell_of c.args.cells.now c.args.expr 0 = rw c.wide-e.ensures at c.cell_of-kind.ensures in
-    let a = ready-all c.args.lift c.args.cells.now c.args.memo.now c.args.expr c.requires (λ z. c.if-kind-eq1.false (k ∙ z)) (λ z. c.if-kind-eq2.false (k ∙ z)) c.row_of-row.result (rw c.wide-e.ensures at c.row_of-row.ensures) in
-    let w = subst (WalkedAll (shifted_by c.args.lift) c.args.cells.now c.shift_children.new.cells c.shift_children.new.memo c.row_of-row.result c.shift_children.new.row) c.if-not-shift_children.false c.shift_children.ensures in
+    let k : c.cell_of.result ≡ cell_of c.args.cells.now c.args.expr 0 = rw c.wide-e.ensures at c.cell_of.ensures in
+    let a = ready-all c.args.lift c.args.cells.now c.args.memo.now c.args.expr c.requires (λ z. omega (arith, k ∙ z)) (λ z. omega (arith, k ∙ z)) c.row_of-row.result (rw c.wide-e.ensures at c.row_of-row.ensures) in
+    let w = subst (λ (r : Result (Unit {0}) Refusal). WalkedAll (shifted_by c.args.lift) c.args.cells.now c.shift_children.new.cells c.shift_children.new.memo c.row_of-row.result c.shift_children.new.row (is_ok r)) c.in_ok-shift_children-in_default.was c.shift_children.ensures in
     operation-placeable c.args.lift c.args.cells.now c.args.memo.now c.row_of-row.result c.args.expr a c.shift_children.new.cells c.shift_children.new.memo c.shift_children.new.row w
 
-pub shift_new-returns : goal.shift_new-returns
-shift_new-returns t c =
-    let k : c.cell_of-kind.result ≡ cell_of c.args.cells.now c.args.expr 0 = rw c.wide-e.ensures at c.cell_of-kind.ensures in
-    let a = ready-all c.args.lift c.args.cells.now c.args.memo.now c.args.expr c.requires (λ z. c.if-kind-eq1.false (k ∙ z)) (λ z. c.if-kind-eq2.false (k ∙ z)) c.row_of-row.result (rw c.wide-e.ensures at c.row_of-row.ensures) in
-    let w = subst (WalkedAll (shifted_by c.args.lift) c.args.cells.now c.shift_children.new.cells c.shift_children.new.memo c.row_of-row.result c.shift_children.new.row) c.if-not-shift_children.false c.shift_children.ensures in
+pub shift_new-returns-in_ok-shift_children-in_default : goal.shift_new-returns-in_ok-shift_children-in_default
+shift_new-returns-in_ok-shift_children-in_default t c =
+    let k : c.cell_of.result ≡ cell_of c.args.cells.now c.args.expr 0 = rw c.wide-e.ensures at c.cell_of.ensures in
+    let a = ready-all c.args.lift c.args.cells.now c.args.memo.now c.args.expr c.requires (λ z. omega (arith, k ∙ z)) (λ z. omega (arith, k ∙ z)) c.row_of-row.result (rw c.wide-e.ensures at c.row_of-row.ensures) in
+    let w = subst (λ (r : Result (Unit {0}) Refusal). WalkedAll (shifted_by c.args.lift) c.args.cells.now c.shift_children.new.cells c.shift_children.new.memo c.row_of-row.result c.shift_children.new.row (is_ok r)) c.in_ok-shift_children-in_default.was c.shift_children.ensures in
     operation-walked c.args.lift c.args.cells.now c.args.memo.now c.row_of-row.result c.args.expr a c.shift_children.new.cells c.shift_children.new.memo c.shift_children.new.row w c.place.new.cells c.place.result (placed_row _ _ _ _ (operation-placeable c.args.lift c.args.cells.now c.args.memo.now c.row_of-row.result c.args.expr a c.shift_children.new.cells c.shift_children.new.memo c.shift_children.new.row w) c.place.ensures)

@@ -1,43 +1,17 @@
 -- `shifting::shifting::children_move` meets its contract.
-use Prim.Native.Nat.{ℕ}
-use mathlib.Core.Bool.{false}
-use mathlib.Core.Path.{sym, ap, ◌∙◌}
-use native.Mathlib.Omega.{arith}
-use borrow.Author.Rules.{rules}
-use lib.ListN.{length, get_or}
-use Rattle.laws.proofs.Each.{each_none, each_more, each-stops, each-ends}
+use Rattle.std.proofs.Common.{rules, tests, false, ◌<◌, length, get_or, arith}
+use Rattle.std.proofs.lemmas.Iterator.{serves_from_Range}
+use Rattle.laws.proofs.Runs.{each-all}
+use Rattle.arena.specs.Node.{node_at, child_numbers}
+use Rattle.arena.specs.Layout.{decode}
 use Rattle.arena.proofs.Children.{child-place}
-use Rattle.shifting.proofs.shifting.children_move.Invariants.{Children, Child}
 use Rattle.shifting.proofs.shifting.children_move.Goals as goal
 
-pub loop-k-init : goal.loop-k-init
-loop-k-init c =
-    (search rules, each_none (Child c.args.cells.now c.args.table.now c.args.e))
-
-pub child_in-requires : goal.child_in-requires
-child_in-requires c = (c.requires, omega (arith, c.child_count-n.ensures))
-
-pub bounds-table-child : goal.bounds-table-child
-bounds-table-child c =
-    omega (arith, child-place c.args.cells.now c.args.e c.requires c.loop-k.k (omega arith), c.child_in.ensures, c.wide-child.ensures)
-
-pub returns-then-not-table-child : goal.returns-then-not-table-child
-returns-then-not-table-child c =
-    let s = c.args in
-    let e = c.wide-child.ensures ∙ c.child_in.ensures in
-    each-stops (Child s.cells.now s.table.now s.e) (length (Children s.cells.now s.e)) c.loop-k.k (omega arith)
-    (ap (λ (i : ℕ). get_or s.table.now i false) (sym e) ∙ c.if-not-table-child.true)
-
-pub loop-k-preserved : goal.loop-k-preserved
-loop-k-preserved c =
-    let s = c.args in
-    let e = c.wide-child.ensures ∙ c.child_in.ensures in (
-      search rules,
-      each_more (Child s.cells.now s.table.now s.e) c.loop-k.k c.loop-k.invariant.1
-          (ap (λ (i : ℕ). get_or s.table.now i false) (sym e) ∙ c.if-not-table-child.false),
-    )
+pub all-requires-clause-callable : goal.all-requires-clause-callable
+all-requires-clause-callable c =
+    serves_from_Range (λ x q k. search (rules, tests)) (λ x a b. let l : x < length (child_numbers (node_at (decode c.args.cells.now) c.args.e)) = omega arith in let p = child-place c.args.cells.now c.args.e c.requires x l in search (rules, arith))
 
 pub returns : goal.returns
 returns c =
-    let s = c.args in
-    each-ends (Child s.cells.now s.table.now s.e) (length (Children s.cells.now s.e)) c.loop-k.k (omega arith) (omega arith) c.loop-k.invariant.1
+    let ks = child_numbers (node_at (decode c.args.cells.now) c.args.e) in
+    rw (← c.child_count.ensures) (each-all (λ k. get_or c.args.table.now (get_or ks k 0) false) c.child_count.result _ _ _ c.all.ensures.ran (λ x b q k. search (rules, tests)))

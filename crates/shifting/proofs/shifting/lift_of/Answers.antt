@@ -12,16 +12,15 @@ use Rattle.shifting.specs.Shift.{moved}
 use Rattle.shifting.specs.Inner.{lifted}
 use Rattle.shifting.proofs.Lifts.{offset_low, offset_high, lift_small, lift_moves, lift_sum, lift_again}
 use Rattle.shifting.proofs.shifting.lift_of.Goals as goal
+use Rattle.shifting.proofs.shifting.lift_of.Goals.{then-offset-ltminus65535-via-then-offset-ltminus65535, then-offset-ltminus65535-via-else-offset-ltminus65535+then-offset-gt65535}
 
 pub returns-then-offset-ltminus65535 : goal.returns-then-offset-ltminus65535
 returns-then-offset-ltminus65535 c =
     let z = c.args.offset in
-    (search rules, offset_low z c.ranges.offset.sfits c.if-offset-ltminus65535.true)
-
-pub returns-then-offset-gt65535 : goal.returns-then-offset-gt65535
-returns-then-offset-gt65535 c =
-    let z = c.args.offset in
-    (search rules, offset_high z c.ranges.offset.sfits c.if-offset-gt65535.true)
+    let f = c.ranges.offset.sfits in (
+      search rules,
+      elim c.then-offset-ltminus65535.branch [ then-offset-ltminus65535-via-then-offset-ltminus65535 w ↦ offset_low z f w.if-offset-ltminus65535.true | then-offset-ltminus65535-via-else-offset-ltminus65535+then-offset-gt65535 w ↦ offset_high z f w.if-offset-gt65535.true ],
+    )
 
 pub overflow_add-result : goal.overflow_add-result
 overflow_add-result c =

@@ -3,19 +3,17 @@ use Prim.Native.Nat.{◌<◌}
 use mathlib.Core.Bool.{false}
 use mathlib.Core.Path.{◌∙◌}
 use native.Mathlib.Omega.{arith}
-use borrow.Author.Rules.{rules}
 use lib.ListN.{length, length-set, length-replicate}
 use Rattle.shifting.proofs.Moves.{table_more}
 use Rattle.shifting.proofs.shifting.movable.Invariants.{Moves}
 use Rattle.shifting.proofs.shifting.movable.Goals as goal
 
 pub loop-i-init : goal.loop-i-init
-loop-i-init c = (search rules, (length-replicate 1024 false, λ j l. absurd (omega arith)))
+loop-i-init c = (length-replicate 1024 false, λ j l. absurd (omega arith))
 
-pub node_moves-moves-requires : goal.node_moves-moves-requires
-node_moves-moves-requires c =
-    let l = c.loop-i in
-    ((record { holds = c.requires.0.0; below = omega (arith, c.requires.0.1) }, c.requires.1), l.invariant.1.1)
+pub node_moves-requires : goal.node_moves-requires
+node_moves-requires c =
+    ((record { holds = c.requires.0.0; below = omega (arith, c.requires.0.1) }, c.requires.1), c.loop-i.invariant.1)
 
 pub bounds-table-i : goal.bounds-table-i
 bounds-table-i c =
@@ -26,13 +24,7 @@ pub loop-i-preserved : goal.loop-i-preserved
 loop-i-preserved c =
     let l = c.loop-i in
     let k = c.requires.0 in
-    let r : l.i < length l.table = omega (arith, l.invariant.1.0, k.1, k.0.few) in (
-      search rules,
-      (
-        length-set l.table l.i c.node_moves-moves.result ∙ l.invariant.1.0,
-        table_more (Moves c.args.cells.now c.args.lift) l.table l.i c.node_moves-moves.result r l.invariant.1.1 c.node_moves-moves.ensures,
-      ),
+    let r : l.i < length l.table = omega (arith, l.invariant.0, k.1, k.0.few) in (
+      length-set l.table l.i c.node_moves.result ∙ l.invariant.0,
+      table_more (Moves c.args.cells.now c.args.lift) l.table l.i c.node_moves.result r l.invariant.1 c.node_moves.ensures,
     )
-
-pub returns : goal.returns
-returns c = λ j m. c.loop-i.invariant.1.1 j (omega arith)

@@ -1,5 +1,5 @@
 -- `shifting::shifting::movable` meets its contract.
-use Prim.Native.Nat.{ℕ, ◌-◌, ◌≤◌, ◌<◌}
+use Prim.Native.Nat.{ℕ, ◌<◌}
 use mathlib.Core.Bool.{Bool, false}
 use mathlib.Core.List.{List}
 use mathlib.Core.Path.{◌≡◌}
@@ -15,7 +15,4 @@ abbrev pub Moves : List ℕ → ℕ → ℕ → Bool
 Moves cells lift j = can_move (lifted lift) (expression_at (decode cells) j)
 
 abbrev pub invariant-loop-i : goal.invariant-loop-i
-invariant-loop-i l = (l.i ≤ l.n) × ((length l.table ≡ 1024) × ((j : ℕ) → j < l.i → get_or l.table j false ≡ Moves l.cells l.lift j))
-
-abbrev pub decreases-loop-i : goal.decreases-loop-i
-decreases-loop-i l = l.n - l.i
+invariant-loop-i l = (length l.table ≡ 1024) × ((j : ℕ) → j < l.i → get_or l.table j false ≡ Moves l.cells l.lift j)

@@ -1,10 +1,6 @@
 -- `sort_keys::keys::sort_all` meets its contract.
-use Prim.Native.Nat.{◌-◌, ◌≤◌}
 use Rattle.sort_keys.proofs.Sorting.{SortedTo}
 use Rattle.sort_keys.proofs.keys.sort_all.Given as goal
 
 abbrev pub invariant-loop-k : goal.invariant-loop-k
-invariant-loop-k l = (l.k ≤ l.n) × SortedTo l.old l.firsts l.marks l.initial.cells l.cells l.memo l.keys l.out l.k
-
-abbrev pub decreases-loop-k : goal.decreases-loop-k
-decreases-loop-k l = l.n - l.k
+invariant-loop-k l = SortedTo l.old l.firsts l.marks l.initial.cells l.cells l.memo l.keys l.out l.k

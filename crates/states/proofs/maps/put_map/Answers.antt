@@ -22,7 +22,7 @@ put_node-requires c =
     let m = c.args.map in
     let i = c.loop-i.i in
     let l = c.loop-i-test.true in
-    (omega (arith, c.put_node-arg-1.given.0.1, l), subst NodeFits (sym (read_is m (sized m _ c.well_formed.0) i l)) (c.requires.nodes i))
+    (omega (arith, l), subst NodeFits (sym (read_is m (sized m _ c.well_formed.0) i l)) (c.requires.nodes i))
 
 pub loop-i-preserved : goal.loop-i-preserved
 loop-i-preserved c =
@@ -30,7 +30,7 @@ loop-i-preserved c =
     let s = c.loop-i in
     let l = c.loop-i-test.true in
     let w = c.put_node in
-    rows_more (λ j. node_cells (place_in m j)) m.count 19 64 s.i s.cells w.new.cells l s.invariant c.put_node-arg-1.given.0.1 w.auto.cells
+    rows_more (λ j. node_cells (place_in m j)) m.count 19 64 s.i s.cells w.new.cells l s.invariant (omega arith) w.auto.cells
     (w.ensures ∙ ap (λ (n : DependencyNode). take (1 + 19 * s.i) s.cells ++ node_cells n) (read_is m (sized m _ c.well_formed.0) s.i l))
 
 pub returns : goal.returns

@@ -4,4 +4,4 @@ use Rattle.states.proofs.orders.ordering_from.Goals as goal
 
 pub returns : goal.returns
 unfolding ordering_from
-returns c = λ t. record { size = c.widened.ensures t; keys = c.keys_from-keys.ensures t }
+returns c = λ t. record { size = c.widened.ensures t; keys = c.keys_from.ensures t }

@@ -21,7 +21,7 @@ put_ordering-requires c =
     let g = c.args.orderings in
     let i = c.loop-i.i in
     let l = c.loop-i-test.true in (
-      omega (arith, c.put_ordering-arg-1.given.0.1, l),
+      omega (arith, l),
       omega (arith, ap (λ (o : Ordering). o.size) (read_is g (sized g _ c.well_formed.0) i l), c.requires.sizes i),
     )
 
@@ -31,7 +31,7 @@ loop-i-preserved c =
     let s = c.loop-i in
     let l = c.loop-i-test.true in
     let w = c.put_ordering in
-    rows_more (λ j. ordering_cells (place_in g j)) g.count 17 32 s.i s.cells w.new.cells l s.invariant c.put_ordering-arg-1.given.0.1 w.auto.cells
+    rows_more (λ j. ordering_cells (place_in g j)) g.count 17 32 s.i s.cells w.new.cells l s.invariant (omega arith) w.auto.cells
     (w.ensures ∙ ap (λ (o : Ordering). take (1 + 17 * s.i) s.cells ++ ordering_cells o) (read_is g (sized g _ c.well_formed.0) s.i l))
 
 pub returns : goal.returns
