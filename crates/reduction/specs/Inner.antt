@@ -1,6 +1,6 @@
 -- What the inner functions ask and promise each other. The public contracts cite nothing of this file.
 use Rattle.std.specs.Prelude.{ℕ, ◌+◌, ◌<◌, ◌≤◌, Bool, true, ◌&&◌, List, ◌≡◌, eqb, leb, length, if◌then◌else◌, Option, None, Some, Result, Ok, Err}
-use Rattle.reduction.specs.Lent.{key_count, expr_lent, options_lent, exprs_inside, options_known}
+use Rattle.reduction.specs.Lent.{key_count, expr_lent, options_lent, exprs_inside, options_known, whole, orderings_lent}
 use Rattle.reduction.specs.Reduction.{Way, onward, again, anew, Compared, Turn, Reduced, keys_in}
 use Rattle.orderings.specs.Layout.{encode, decode, lawful_list, keys_inside}
 use Rattle.orderings.specs.declared.Orderings.{Orderings}
@@ -51,6 +51,10 @@ pub record KeysFit (numbers : List ℕ) (at : ℕ) : Type 0 where
 pub record LentFit (numbers : List ℕ) : Type 0 where
   pub exprs : exprs_inside 1024 numbers ≡ true
   pub options : options_known numbers ≡ true
+
+-- no count runs past what is lent, and each list is an ordering where that is asked
+unfoldable pub parts_lent : Bool → List ℕ → Bool
+parts_lent orderings numbers = if orderings then whole numbers && orderings_lent numbers else whole numbers
 
 -- the check of a list and of what is lent with it, by whether its parts are whole
 unfoldable pub checked_number : List ℕ → Orderings → Bool → List ℕ → ℕ

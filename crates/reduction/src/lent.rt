@@ -8,7 +8,7 @@ ghost use Rattle.orderings.specs.Layout.{decode};
 ghost use Rattle.reduction.specs.Calls.{lent_number, extend_number, reduced_list};
 ghost use Rattle.arena.specs.Refusals.{outcome};
 ghost use Rattle.orderings.specs.Inner.{Held, Short, extended_of, made};
-ghost use Rattle.reduction.specs.Inner.{KeysFit, LentFit, checked_number, added_one};
+ghost use Rattle.reduction.specs.Inner.{KeysFit, LentFit, parts_lent, checked_number, added_one};
 
 use crate::reducing::remove_redundant_entries;
 use arena::Refusal;
@@ -101,37 +101,6 @@ fn exprs_inside(numbers: &[u16], n: usize) -> bool
     true
 }
 
-// The check of a list and of what is lent with it, where it is known whether its parts are whole.
-#[tactic(auto, unfolding(crate::specs::Inner::checked_number, arena::specs::Refusals::outcome, arena::specs::Refusals::refusal))]
-fn check_lent(
-    cells: &[u32; 11265],
-    g: Orderings,
-    numbers: &[u16],
-    parts: bool,
-) -> Result<(), Refusal>
-    ensures { result ≡ outcome (checked_number cells.now g parts numbers.now) }
-{
-    if !options_known(numbers) {
-        return Err(Refusal::BadNumber);
-    }
-    if !(lawful_arena(cells) && lawful_list(g) && parts) {
-        return Err(Refusal::BadState);
-    }
-    let n = node_count(cells);
-    if !(keys_below(g, n) && exprs_inside(numbers, n)) {
-        return Err(Refusal::UnknownExpression);
-    }
-    Ok(())
-}
-
-// The check of a list and of lists of keys that are lent with it.
-#[tactic(auto, unfolding(crate::specs::Inner::checked_number, crate::specs::Calls::lent_number))]
-pub fn lent_number(cells: &[u32; 11265], g: Orderings, numbers: &[u16]) -> Result<(), Refusal>
-    ensures { result ≡ outcome (lent_number cells.now g numbers.now) }
-{
-    check_lent(cells, g, numbers, is_whole(numbers))
-}
-
 // The expression of key k of the list at a place does not stand before it.
 fn fresh_lent(numbers: &[u16], at: usize, k: usize) -> bool
     requires { (at < length numbers.now) × (k < 65536) }
@@ -173,17 +142,56 @@ fn orderings_lent(numbers: &[u16]) -> bool
     true
 }
 
+// No count runs past what is lent, and each list is an ordering where that is asked.
+#[tactic(auto, unfolding(crate::specs::Inner::parts_lent))]
+fn parts_lent(numbers: &[u16], orderings: bool) -> bool
+    ensures { result ≡ parts_lent orderings numbers.now }
+{
+    if orderings {
+        is_whole(numbers) && orderings_lent(numbers)
+    } else {
+        is_whole(numbers)
+    }
+}
+
+// The check of a list and of what is lent with it, lists of keys or orderings. The orderings are looked at last of all that
+// is answered with 11, since that takes the square of their keys.
+#[tactic(auto, unfolding(crate::specs::Inner::checked_number, arena::specs::Refusals::outcome, arena::specs::Refusals::refusal))]
+fn check_lent(
+    cells: &[u32; 11265],
+    g: Orderings,
+    numbers: &[u16],
+    orderings: bool,
+) -> Result<(), Refusal>
+    ensures { result ≡ outcome (checked_number cells.now g (parts_lent orderings numbers.now) numbers.now) }
+{
+    if !options_known(numbers) {
+        return Err(Refusal::BadNumber);
+    }
+    if !(lawful_arena(cells) && lawful_list(g) && parts_lent(numbers, orderings)) {
+        return Err(Refusal::BadState);
+    }
+    let n = node_count(cells);
+    if !(keys_below(g, n) && exprs_inside(numbers, n)) {
+        return Err(Refusal::UnknownExpression);
+    }
+    Ok(())
+}
+
+// The check of a list and of lists of keys that are lent with it.
+#[tactic(auto, unfolding(crate::specs::Inner::checked_number, crate::specs::Inner::parts_lent, crate::specs::Calls::lent_number))]
+pub fn lent_number(cells: &[u32; 11265], g: Orderings, numbers: &[u16]) -> Result<(), Refusal>
+    ensures { result ≡ outcome (lent_number cells.now g numbers.now) }
+{
+    check_lent(cells, g, numbers, false)
+}
+
 // The check of a list and of orderings that are lent with it.
-#[tactic(auto, unfolding(crate::specs::Inner::checked_number, crate::specs::Calls::extend_number))]
+#[tactic(auto, unfolding(crate::specs::Inner::checked_number, crate::specs::Inner::parts_lent, crate::specs::Calls::extend_number))]
 pub fn extend_number(cells: &[u32; 11265], g: Orderings, numbers: &[u16]) -> Result<(), Refusal>
     ensures { result ≡ outcome (extend_number cells.now g numbers.now) }
 {
-    check_lent(
-        cells,
-        g,
-        numbers,
-        is_whole(numbers) && orderings_lent(numbers),
-    )
+    check_lent(cells, g, numbers, true)
 }
 
 // The ordering that is built from the list at a place; too large where it has more than 16 keys.
