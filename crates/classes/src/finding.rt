@@ -12,11 +12,10 @@ pub fn find_class(g: Group, e: u32) -> Option<usize>
     requires { Coded g }
     ensures { result ≡ class_of (decode g) e }
 {
-    let members = g.members;
     let mut start = 0;
     for i in 0..g.count {
         let size = g.sizes[i];
-        if among(&members, start, size, e) {
+        if among(&g.members, start, size, e) {
             return Some(i);
         }
         start += size;
