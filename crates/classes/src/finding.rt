@@ -28,5 +28,5 @@ fn among(members: &[u32; 256], start: usize, n: usize, e: u32) -> bool
     requires { start + n ≤ 256 }
     ensures { result ≡ is_among e (table (λ k. get_or members.now (start + k) 0) n) }
 {
-    members[start..start + n].contains(&e)
+    (0..n).any(|k| members[start + k] == e)
 }
