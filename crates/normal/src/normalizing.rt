@@ -43,7 +43,9 @@ fn normalize_children(
     ensures { WalkedAll (rewriting old firsts.now cells.old) cells.old cells.new memo.new row.old row.new (is_ok result) }
 {
     for k in 0..wide(row[2]) {
-        row[3 + k] = normalize(cells, firsts, memo, row[3 + k], old)?;
+        let child = row[3 + k];
+        let i = normalize(cells, firsts, memo, child, old)?;
+        row[3 + k] = i;
     }
     Ok(())
 }

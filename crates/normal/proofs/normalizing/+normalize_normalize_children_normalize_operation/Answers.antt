@@ -55,8 +55,8 @@ pub normalize_children-loop-k-init : goal.normalize_children-loop-k-init
 normalize_children-loop-k-init t c =
     loop_begins c.args.old c.args.firsts.now c.args.cells.now c.args.memo.now c.args.row.now c.args.expr c.requires
 
-pub normalize_children-overflow_add-k : goal.normalize_children-overflow_add-k
-normalize_children-overflow_add-k t c =
+pub normalize_children-overflow_add-child : goal.normalize_children-overflow_add-child
+normalize_children-overflow_add-child t c =
     let o = c.loop-k in
     let l : o.k < length (children_of c.args.row.now) = omega (arith, children-count c.args.row.now, c.wide-k-end.ensures) in
     omega (arith, l, children_eight c.args.old c.args.firsts.now c.args.cells.now c.args.memo.now c.args.row.now c.args.expr c.requires)
@@ -79,12 +79,12 @@ normalize_children-normalize-requires t c =
     let l : o.k < length (children_of c.args.row.now) = omega (arith, children-count c.args.row.now, c.wide-k-end.ensures) in
     (omega (arith, loop_lower c.args.old c.args.firsts.now c.args.cells.now c.args.memo.now c.args.row.now c.args.expr c.requires o.cells o.memo o.row o.k o.invariant l, c.decreases), loop_ready c.args.old c.args.firsts.now c.args.cells.now c.args.memo.now c.args.row.now c.args.expr c.requires o.cells o.memo o.row o.k o.invariant l)
 
-pub normalize_children-returns-in_err-row : goal.normalize_children-returns-in_err-row
-normalize_children-returns-in_err-row t c =
+pub normalize_children-returns-in_err-i : goal.normalize_children-returns-in_err-i
+normalize_children-returns-in_err-i t c =
     let o = c.loop-k in
     let l : o.k < length (children_of c.args.row.now) = omega (arith, children-count c.args.row.now, c.wide-k-end.ensures) in
     let x = c.normalize in
-    rw (handed-on _ _ c.from_residual.ensures.1) (loop_fails c.args.old c.args.firsts.now c.args.cells.now c.args.memo.now c.args.row.now c.args.expr c.requires o.cells o.memo o.row o.k o.invariant l x.new.cells x.new.memo x.result x.ensures _ c.in_err-row.was)
+    rw (handed-on _ _ c.from_residual.ensures.1) (loop_fails c.args.old c.args.firsts.now c.args.cells.now c.args.memo.now c.args.row.now c.args.expr c.requires o.cells o.memo o.row o.k o.invariant l x.new.cells x.new.memo x.result x.ensures _ c.in_err-i.was)
 
 pub normalize_children-overflow_add-row : goal.normalize_children-overflow_add-row
 normalize_children-overflow_add-row t c =
@@ -109,7 +109,7 @@ normalize_children-loop-k-preserved t c =
     let o = c.loop-k in
     let l : o.k < length (children_of c.args.row.now) = omega (arith, children-count c.args.row.now, c.wide-k-end.ensures) in
     let x = c.normalize in
-    loop_more c.args.old c.args.firsts.now c.args.cells.now c.args.memo.now c.args.row.now c.args.expr c.requires o.cells o.memo o.row o.k o.invariant l x.new.cells x.new.memo x.result x.ensures c.in_ok-row.field-0 c.in_ok-row.was
+    loop_more c.args.old c.args.firsts.now c.args.cells.now c.args.memo.now c.args.row.now c.args.expr c.requires o.cells o.memo o.row o.k o.invariant l x.new.cells x.new.memo x.result x.ensures c.in_ok-i.i c.in_ok-i.was
 
 pub normalize_children-returns : goal.normalize_children-returns
 normalize_children-returns t c =
