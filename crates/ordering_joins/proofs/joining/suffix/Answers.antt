@@ -19,7 +19,9 @@ bounds-g-i c = let b = count-few c.args.g c.requires.0.1 in search rules
 pub extend-requires : goal.extend-requires
 extend-requires c =
     let l = c.loop-i in
-    (held-short (place_in c.args.g l.i) (place-held c.args.g c.requires.0.1 l.i c.loop-i-test.true), held-short c.args.p c.requires.1.0)
+    let a = held-short (place_in c.args.g l.i) (place-held c.args.g c.requires.0.1 l.i c.loop-i-test.true) in
+    let b = held-short c.args.p c.requires.1.0 in
+    (search rules, search rules)
 
 pub returns-in_err-one : goal.returns-in_err-one
 returns-in_err-one c =
