@@ -34,6 +34,28 @@ pub fn maybe_of(number: Option<u32>) -> [u32; 2]
     }
 }
 
+// Writes one number.
+pub fn put_1(answer: &mut [u32; 1], a: u32)
+    ensures { answer.new ≡ a ∷ [] }
+{
+    *answer = [a];
+}
+
+// Writes two numbers.
+pub fn put_2(answer: &mut [u32; 2], a: u32, b: u32)
+    ensures { answer.new ≡ a ∷ b ∷ [] }
+{
+    *answer = [a, b];
+}
+
+// Writes two sizes.
+pub fn put_sizes(answer: &mut [usize; 2], a: usize, b: usize)
+    ensures { answer.new ≡ a ∷ b ∷ [] }
+{
+    let sizes = [a, b];
+    *answer = sizes;
+}
+
 // Writes one ordering.
 pub fn put_one(ordering: Ordering, answer: &mut [u16; 17])
     requires { ordering.size < 65536 }
@@ -63,7 +85,7 @@ pub fn put_partial(is: Result<bool, Refusal>, answer: &mut [u32; 1]) -> u32
 {
     match is {
         Ok(partly) => {
-            *answer = [bit_of(partly)];
+            put_1(answer, bit_of(partly));
             0
         }
         Err(why) => u32::from(why),
@@ -92,7 +114,7 @@ pub fn put_enumerated(enumerated: Result<Enumerated, Refusal>, answer: &mut [usi
 {
     match enumerated {
         Ok(done) => {
-            *answer = [done.count, done.used];
+            put_sizes(answer, done.count, done.used);
             0
         }
         Err(why) => u32::from(why),

@@ -6,7 +6,7 @@ ghost use Rattle.transcript.specs.Session.{session};
 ghost use Rattle.group_states.specs.Groups.{stored_group};
 ghost use Rattle.answers.specs.Answers.{on_first, item_in, written_in, side, chosen_in};
 
-use answers::{put_record, put_written};
+use answers::{put_record, put_sizes, put_written};
 use arena::cells::wide;
 use group_states::groups::store_group;
 use states::numbers::short;
@@ -51,7 +51,7 @@ pub fn galthumir_chosen<'a>(
         return u32::from(why);
     }
     let part = records::chosen(small, left, right);
-    *answer = [side_of(kind), part.len()];
+    put_sizes(answer, side_of(kind), part.len());
     0
 }
 

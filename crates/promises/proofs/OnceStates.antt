@@ -13,6 +13,9 @@ use Rattle.group_states.proofs.groups.load_group.Reads as GroupStatesGroupsLoadG
 use Rattle.group_states.proofs.groups.store_group.Reads as GroupStatesGroupsStoreGroup
 use Rattle.answers.proofs.bit_of.Reads as AnswersBitOf
 use Rattle.answers.proofs.maybe_of.Reads as AnswersMaybeOf
+use Rattle.answers.proofs.put_1.Reads as AnswersPut1
+use Rattle.answers.proofs.put_2.Reads as AnswersPut2
+use Rattle.answers.proofs.put_sizes.Reads as AnswersPutSizes
 use Rattle.answers.proofs.put_one.Reads as AnswersPutOne
 use Rattle.answers.proofs.put_options.Reads as AnswersPutOptions
 use Rattle.answers.proofs.put_partial.Reads as AnswersPutPartial
@@ -79,6 +82,15 @@ answers-bit_of κs a r r' s s' = one-result
 
 pub answers-maybe_of : (κs : _) (a : _) → OneAnswer (AnswersMaybeOf.Learnt κs a)
 answers-maybe_of κs a r r' s s' = one-result
+
+pub answers-put-1 : (κs : _) (a : _) → OneLent (λ s. s.0.now) (AnswersPut1.Learnt κs a)
+answers-put-1 κs a r r' s s' = one-result
+
+pub answers-put-2 : (κs : _) (a : _) → OneLent (λ s. s.0.now) (AnswersPut2.Learnt κs a)
+answers-put-2 κs a r r' s s' = one-result
+
+pub answers-put_sizes : (κs : _) (a : _) → OneLent (λ s. s.0.now) (AnswersPutSizes.Learnt κs a)
+answers-put_sizes κs a r r' s s' = one-result
 
 pub answers-put_one : (κs : _) (a : _) → OneLent (λ s. s.1.0.now) (AnswersPutOne.Learnt κs a)
 answers-put_one κs a r r' s s' = one-result

@@ -14,5 +14,5 @@ returns-in-Err c =
 pub returns : goal.returns
 returns c =
     let e = sym c.chosen_number.ensures ∙ c.in_default.is in
-    rw (c.side_of.ensures, c.chosen-part.ensures, c.short-small.ensures, c.wide.ensures)
+    rw (c.put_sizes.ensures, c.side_of.ensures, c.chosen-part.ensures, c.short-small.ensures, c.wide.ensures)
     (chosen-done c.args.answer.now c.args.kind c.args.left.now c.args.right.now (rw (c.short-small.ensures, c.wide.ensures) at e))
