@@ -504,9 +504,9 @@ module _ (m : DependencyMap) (ks : List ℕ) (out : List ℕ) where
     gathers-done e = gathered_done m (once_each [] ks) h.all-lists g h.gathering out e
 
 -- then the lists lie in their struct
-pub gathers-laid : (g : Gathered) → GatheredBy g → over_bound g ≡ false → Laid g.lists
+pub gathers-laid : (g : Gathered) → GatheredBy (Ok g) → over_bound g ≡ false → Laid g.lists
 gathers-laid g h e =
-    let w = h.gathers in
+    let w : GathersOn h.map h.keys g = h.gathers in
     let p = gathered_passes h.map (once_each [] h.keys) w.all-lists g w.gathering e in
     gathered_laid h.map (once_each [] h.keys) w.all-lists g w.gathering p.1.1 p.1.0
 

@@ -115,10 +115,10 @@ Gathers m ks (Ok r) = GathersOn m ks r
 Gathers m ks (Err why) = contributing (decode m) (once_each [] ks) ≡ stops (refusal_number why)
 
 -- what was gathered, of some map and some keys
-pub record GatheredBy (r : Gathered) : Type 0 where
+pub record GatheredBy (r : Result Gathered Refusal) : Type 0 where
   pub map : DependencyMap
   pub keys : List ℕ
-  pub gathers : GathersOn map keys r
+  pub gathers : Gathers map keys r
 
 -- what is gathered is over a bound
 unfoldable pub over_bound : Gathered → Bool

@@ -9,7 +9,7 @@ ghost use Rattle.enumeration.specs.Inner.{Room, Rows};
 ghost use Rattle.products.specs.Generate.{once_each, contributing, generated};
 ghost use Rattle.products.specs.Inner.{lists_of, Laid};
 ghost use Rattle.dependency_orderings.specs.Calls.{answered, walk_answer, gathered_answer};
-ghost use Rattle.dependency_orderings.specs.Inner.{one_list, over_bound, GathersOn, GatheredBy};
+ghost use Rattle.dependency_orderings.specs.Inner.{one_list, over_bound, Gathers, GatheredBy};
 
 use crate::writing::{measure_all, write_all};
 use crate::{Enumerated, Gathered};
@@ -100,11 +100,15 @@ fn over_bound(g: Gathered) -> bool
     16 < g.different || g.many || g.lists.found.over
 }
 
-// Answers with the orderings of what was gathered.
-pub fn answer_gathered(g: Gathered, out: &mut [u16]) -> Result<Enumerated, Refusal>
-    requires { GatheredBy g }
-    ensures { (m : MapOf) (ks : List ℕ) → GathersOn m ks g → (result, out.new) ≡ gathered_answer (contributing (decode m) (once_each [] ks)) (length (once_each [] ks)) out.old }
+// Answers with the orderings of what was gathered; where a walk stopped, with its refusal.
+pub fn answer_gathered(
+    gathered: Result<Gathered, Refusal>,
+    out: &mut [u16],
+) -> Result<Enumerated, Refusal>
+    requires { GatheredBy gathered }
+    ensures { (m : MapOf) (ks : List ℕ) → Gathers m ks gathered → (result, out.new) ≡ gathered_answer (contributing (decode m) (once_each [] ks)) (length (once_each [] ks)) out.old }
 {
+    let g = gathered?;
     if over_bound(g) {
         return Err(Refusal::TooLarge);
     }

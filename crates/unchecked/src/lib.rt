@@ -37,10 +37,7 @@ ghost use Rattle.answers.specs.Answers.{on_first, enumerated_in, bit};
 ghost use Rattle.group_answers.specs.Answers.{added_in};
 
 use answers::{bit_of, put_enumerated};
-use arena::Refusal;
 use conditions::equating::equal_condition_in;
-use dependencies::DependencyMap;
-use dependency_orderings::Enumerated;
 use dependency_orderings::answering::answer_gathered;
 use dependency_orderings::gathering::gather;
 use group_answers::put_added;
@@ -107,14 +104,6 @@ pub fn unchecked_add_orderings(orderings: &mut [u16; 545], numbers: &[u16]) -> u
     store_orderings(listed, orderings)
 }
 
-// The enumeration over some keys of a map.
-fn enumerate(map: DependencyMap, keys: &[u32], output: &mut [u16]) -> Result<Enumerated, Refusal>
-    requires { HeldMap map × KeysFit keys.now }
-    ensures { (result, output.new) ≡ gathered_answer (contributing (entries_of map) (different keys.now)) (length (different keys.now)) output.old }
-{
-    answer_gathered(gather(map, keys)?, output)
-}
-
 // Enumerates the orderings of some keys.
 pub fn unchecked_generate_dependency_orderings(
     map: &[u16; 1217],
@@ -125,6 +114,6 @@ pub fn unchecked_generate_dependency_orderings(
     requires { HeldMap (map_from map.now) × KeysFit keys.now }
     ensures { ((result, answer.new), output.new) ≡ on_first (enumerated_in answer.old) (gathered_answer (contributing (entries_of (map_from map.now)) (different keys.now)) (length (different keys.now)) output.old) }
 {
-    let enumerated = enumerate(load_map(map), keys, output);
+    let enumerated = answer_gathered(gather(load_map(map), keys), output);
     put_enumerated(enumerated, answer)
 }

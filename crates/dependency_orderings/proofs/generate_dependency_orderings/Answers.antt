@@ -8,7 +8,7 @@ use Rattle.sort_keys.specs.Layout.{keys_of, packed}
 use Rattle.dependencies.proofs.MapCodec.{arrays_sized}
 use Rattle.dependency_orderings.specs.Calls.{Answer}
 use Rattle.dependency_orderings.specs.declared.Enumerated.{Enumerated}
-use Rattle.dependency_orderings.proofs.AnswerLaws.{generate_zero, generate_passes, generate_refused, generate_answered, gathers-stopped, map-held, keys-fit}
+use Rattle.dependency_orderings.proofs.AnswerLaws.{generate_zero, generate_passes, generate_refused, generate_answered, map-held, keys-fit}
 use Rattle.dependency_orderings.proofs.generate_dependency_orderings.Goals as goal
 
 pub returns-in_err-generate_number : goal.returns-in_err-generate_number
@@ -21,17 +21,11 @@ gather-requires c =
     let p = generate_passes c.args.cells.now c.args.map c.args.keys.now (generate_zero c.args.cells.now c.args.map c.args.keys.now (sym c.in_ok-generate_number.ensures)) in
     (map-held c.args.cells.now c.args.map p.map (arrays_sized c.args.map _ c.well_formed.1.0), keys-fit c.args.cells.now c.args.map p.map c.args.keys.now p)
 
-pub returns-in_err-gather : goal.returns-in_err-gather
-returns-in_err-gather c =
-    let z = generate_zero c.args.cells.now c.args.map c.args.keys.now (sym c.in_ok-generate_number.ensures) in
-    ap {B = Answer} (λ (r : Result Enumerated Refusal). (r, c.args.out.now)) (handed-on _ _ c.from_residual-in_err-gather.ensures.1)
-    ∙ gathers-stopped c.args.map (map packed (keys_of c.args.keys.now)) c.args.out.now _ c.in_err-gather.ensures ∙ generate_answered c.args.cells.now c.args.map c.args.keys.now z c.args.out.now
-
 pub answer_gathered-requires : goal.answer_gathered-requires
 answer_gathered-requires c =
-    record { map = c.args.map; keys = map packed (keys_of c.args.keys.now); gathers = c.in_ok-gather.ensures }
+    record { map = c.args.map; keys = map packed (keys_of c.args.keys.now); gathers = c.gather.ensures }
 
 pub returns : goal.returns
 returns c =
     let z = generate_zero c.args.cells.now c.args.map c.args.keys.now (sym c.in_ok-generate_number.ensures) in
-    c.answer_gathered.ensures c.args.map (map packed (keys_of c.args.keys.now)) c.in_ok-gather.ensures ∙ generate_answered c.args.cells.now c.args.map c.args.keys.now z c.args.out.now
+    c.answer_gathered.ensures c.args.map (map packed (keys_of c.args.keys.now)) c.gather.ensures ∙ generate_answered c.args.cells.now c.args.map c.args.keys.now z c.args.out.now
