@@ -253,22 +253,30 @@ fn with_list(h: Holding, listed: Listed) -> Stepped
 }
 
 // One record: what is answered, and what is held afterwards.
-pub fn step(cells: &mut [u32; 11265], h: Holding, bytes: &[u8], item: Item) -> Stepped
-    requires { Fit cells.old h × (Ok item ≡ item_of (read_record bytes.now)) }
+pub fn step(
+    cells: &mut [u32; 11265],
+    h: Holding,
+    bytes: &[u8],
+    item: Result<Item, Refusal>,
+) -> Stepped
+    requires { Fit cells.old h × (item ≡ item_of (read_record bytes.now)) }
     ensures { (x : Record) → read_record bytes.now ≡ Some x → Went cells.old h x cells.new result }
 {
     let group = h.group;
     let list = h.list;
     match item {
-        Item::Column(name, index) => kept(add_column_in(cells, name, index), h),
-        Item::Literal(value) => kept(add_literal_in(cells, value), h),
-        Item::Operation(label, n) => { kept(add_operation_in(cells, label, body_of(bytes), n), h) }
-        Item::EqualPair(a, b) => with_group(h, equal_pair_in(cells, group, a, b)),
-        Item::Constant(e, flavour, value) => {
+        Ok(Item::Column(name, index)) => kept(add_column_in(cells, name, index), h),
+        Ok(Item::Literal(value)) => kept(add_literal_in(cells, value), h),
+        Ok(Item::Operation(label, n)) => {
+            kept(add_operation_in(cells, label, body_of(bytes), n), h)
+        }
+        Ok(Item::EqualPair(a, b)) => with_group(h, equal_pair_in(cells, group, a, b)),
+        Ok(Item::Constant(e, flavour, value)) => {
             with_group(h, say_constant_in(cells, group, e, flavour, value))
         }
-        Item::NormalFormOf(e) => kept(normal_form_in(cells, group, e), h),
-        Item::EqualityOf(a, b) => kept(equality_in(cells, group, a, b), h),
-        Item::OneOrdering(n) => with_list(h, add_ordering_in(cells, list, body_of(bytes), n)),
+        Ok(Item::NormalFormOf(e)) => kept(normal_form_in(cells, group, e), h),
+        Ok(Item::EqualityOf(a, b)) => kept(equality_in(cells, group, a, b), h),
+        Ok(Item::OneOrdering(n)) => with_list(h, add_ordering_in(cells, list, body_of(bytes), n)),
+        Err(why) => kept(Err(why), h),
     }
 }

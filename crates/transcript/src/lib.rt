@@ -46,7 +46,7 @@ fn run(input: &[u8], output: &mut [u8]) -> usize
             done = put_refusal(output, done, k, 9);
             return put_end(output, done, state);
         };
-        let next = step(&mut cells, state, &input[at..], item);
+        let next = step(&mut cells, state, &input[at..], Ok(item));
         done = put_said(output, done, k, next.said);
         state = next.holding;
         at += record_size(&input[at..]);
