@@ -1,9 +1,10 @@
 // The right side of a join, shifted behind the left one: which expressions can move, their numbers, and the shifted
 // classes.
-ghost use Rattle.std.specs.Prelude.{is_ok, false, List, [], ◌∷◌, ◌++◌, ◌≡◌, ℕ, ◌≤◌, ◌<◌, ◌+◌, ◌*◌, ◌/◌, pos, length, get_or, take, drop};
+ghost use Rattle.std.specs.Prelude.{is_ok, IsOkUnless, false, List, [], ◌∷◌, ◌++◌, ◌≡◌, ℕ, ◌≤◌, ◌<◌, ◌+◌, ◌*◌, ◌/◌, pos, length, get_or, take, drop};
 ghost use Rattle.laws.specs.Tests.{each};
 ghost use Rattle.shifting.specs.Shift.{moved};
 ghost use Rattle.arena.specs.Layout.{decode as nodes};
+ghost use Rattle.arena.specs.declared.Refusal.TheVariants.{ArenaFull};
 ghost use Rattle.arena.specs.Inner.{Holds};
 ghost use Rattle.shifting.specs.Inner.{lifted};
 ghost use Rattle.classes.specs.declared.Constant.TheVariants.{NoConstant as no_constant};
@@ -55,11 +56,14 @@ pub fn shift_members(
     lift: u32,
 ) -> Result<[u32; 256], Refusal>
     requires { Coded g × ReadyAll lift cells.old memo.old (flat (decode g)) }
-    ensures { ShiftedAll lift cells.old cells.new memo.new (flat (decode g)) (is_ok result) (take g.used (members_of result)) }
+    ensures { ShiftedAll lift cells.old cells.new memo.new (flat (decode g)) (is_ok result) (take g.used (members_of result)) × IsOkUnless result ArenaFull }
 {
     let mut members = [0u32; 256];
     for k in 0..g.used {
-        members[k] = shift(cells, memo, g.members[k], lift)?;
+        let Ok(e) = shift(cells, memo, g.members[k], lift) else {
+            return Err(Refusal::ArenaFull);
+        };
+        members[k] = e;
     }
     Ok(members)
 }
@@ -72,10 +76,13 @@ pub fn shift_rights(
     lift: u32,
 ) -> Result<(), Refusal>
     requires { ReadyAll lift cells.old memo.old (rights_lent pairs.now) }
-    ensures { (ks : List ℕ) × ShiftedAll lift cells.old cells.new memo.new (rights_lent pairs.now) (is_ok result) ks }
+    ensures { ((ks : List ℕ) × ShiftedAll lift cells.old cells.new memo.new (rights_lent pairs.now) (is_ok result) ks) × IsOkUnless result ArenaFull }
 {
     for k in 0..pairs.len() / 2 {
-        shift(cells, memo, pairs[2 * k + 1], lift)?;
+        match shift(cells, memo, pairs[2 * k + 1], lift) {
+            Ok(_) => {}
+            Err(_) => return Err(Refusal::ArenaFull),
+        }
     }
     Ok(())
 }

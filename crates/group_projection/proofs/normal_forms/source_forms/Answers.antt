@@ -3,7 +3,6 @@ use mathlib.Core.Path.{refl}
 use native.Mathlib.Omega.{arith}
 use lib.ListN.{replicate}
 use Rattle.arena.specs.Layout.{decode as nodes}
-use Rattle.arena.proofs.Refusals.{handed-on}
 use Rattle.arena.proofs.Walking.{memo-none}
 use Rattle.normal.specs.Inner.{rewriting}
 use Rattle.group_projection.proofs.FormLaws.{forms-begin, form-ready, forms-more, forms-fail, forms_end}
@@ -23,12 +22,12 @@ normalize-requires c =
     let o = c.loop-i in
     form-ready c.args.old c.args.firsts.now c.args.cells.now m c.requires o.cells o.memo o.numbers o.i o.invariant c.loop-i-test.true
 
-pub returns-in_err-numbers : goal.returns-in_err-numbers
-returns-in_err-numbers c =
+pub returns-in_default : goal.returns-in_default
+returns-in_default c =
     let m = c.args.m in
     let o = c.loop-i in
     let w = c.normalize in
-    rw (handed-on _ _ c.from_residual.ensures.1) (forms-fail c.args.old c.args.firsts.now c.args.cells.now m c.requires o.cells o.memo o.numbers o.i o.invariant c.loop-i-test.true w.new.cells w.new.memo w.result w.ensures _ c.in_err-numbers.was _)
+    (forms-fail c.args.old c.args.firsts.now c.args.cells.now m c.requires o.cells o.memo o.numbers o.i o.invariant c.loop-i-test.true w.new.cells w.new.memo w.result w.ensures c.in_default.field-0 c.in_default.is _, refl)
 
 pub bounds-numbers-i : goal.bounds-numbers-i
 bounds-numbers-i c = omega (arith, c.loop-i-test.true, c.requires.few)
@@ -38,10 +37,10 @@ loop-i-preserved c =
     let m = c.args.m in
     let o = c.loop-i in
     let w = c.normalize in
-    forms-more c.args.old c.args.firsts.now c.args.cells.now m c.requires o.cells o.memo o.numbers o.i o.invariant c.loop-i-test.true w.new.cells w.new.memo w.result w.ensures c.requires.few c.in_ok-numbers.field-0 c.in_ok-numbers.was
+    forms-more c.args.old c.args.firsts.now c.args.cells.now m c.requires o.cells o.memo o.numbers o.i o.invariant c.loop-i-test.true w.new.cells w.new.memo w.result w.ensures c.requires.few c.in-Ok.e c.in-Ok.is
 
 pub returns : goal.returns
 returns c =
     let m = c.args.m in
     let o = c.loop-i in
-    forms_end c.args.old c.args.firsts.now c.args.cells.now m c.requires o.cells o.memo o.numbers o.i o.invariant (omega (arith, c.loop-i-test.false))
+    (forms_end c.args.old c.args.firsts.now c.args.cells.now m c.requires o.cells o.memo o.numbers o.i o.invariant (omega (arith, c.loop-i-test.false)), tt)

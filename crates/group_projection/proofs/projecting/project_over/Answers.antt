@@ -51,7 +51,7 @@ returns-in_default c =
     let p = c.projection_table-table in
     let f = c.class_firsts-firsts in
     let n = c.node_count-old in
-    forms-full c.args.cells.now c.args.g c.args.m c.requires n.result f.result p.result n.ensures f.ensures p.ensures w.new.cells w.new.table w.result w.ensures c.if-not-project_all.false o.new.cells false _ (rw c.in_default.is at o.ensures) refl
+    forms-full c.args.cells.now c.args.g c.args.m c.requires n.result f.result p.result n.ensures f.ensures p.ensures w.new.cells w.new.table w.result w.ensures c.if-not-project_all.false o.new.cells false _ (rw c.in_default.is at o.ensures.0) refl
 
 pub projected_group-requires : goal.projected_group-requires
 projected_group-requires c =
@@ -60,7 +60,7 @@ projected_group-requires c =
     let p = c.projection_table-table in
     let f = c.class_firsts-firsts in
     let n = c.node_count-old in
-    group-ready c.args.cells.now c.args.g c.args.m c.requires n.result f.result p.result n.ensures f.ensures p.ensures w.new.cells w.new.table w.result w.ensures c.if-not-project_all.false o.new.cells true (take c.args.m.count c.in-Ok.numbers) (rw c.in-Ok.is at o.ensures)
+    group-ready c.args.cells.now c.args.g c.args.m c.requires n.result f.result p.result n.ensures f.ensures p.ensures w.new.cells w.new.table w.result w.ensures c.if-not-project_all.false o.new.cells true (take c.args.m.count c.in-Ok.numbers) (rw c.in-Ok.is at o.ensures.0)
 
 pub returns : goal.returns
 returns c =
@@ -69,4 +69,4 @@ returns c =
     let p = c.projection_table-table in
     let f = c.class_firsts-firsts in
     let n = c.node_count-old in
-    group-made c.args.cells.now c.args.g c.args.m c.requires n.result f.result p.result n.ensures f.ensures p.ensures w.new.cells w.new.table w.result w.ensures c.if-not-project_all.false o.new.cells true (take c.args.m.count c.in-Ok.numbers) (rw c.in-Ok.is at o.ensures) c.projected_group.result refl c.projected_group.ensures
+    group-made c.args.cells.now c.args.g c.args.m c.requires n.result f.result p.result n.ensures f.ensures p.ensures w.new.cells w.new.table w.result w.ensures c.if-not-project_all.false o.new.cells true (take c.args.m.count c.in-Ok.numbers) (rw c.in-Ok.is at o.ensures.0) c.projected_group.result refl c.projected_group.ensures

@@ -1,9 +1,9 @@
 -- `shifted_classes::right_side::shift_rights` meets its contract.
 use Prim.Native.Nat.{◌/◌, ◌<◌}
 use mathlib.Core.List.{[], ◌∷◌, ◌++◌}
+use mathlib.Core.Path.{refl}
 use native.Mathlib.Omega.{arith}
 use lib.ListN.{length}
-use Rattle.arena.proofs.Refusals.{handed-on}
 use Rattle.shifted_classes.specs.Inner.{rights_lent}
 use Rattle.shifted_classes.proofs.PairPlaces.{length-rights, right-at, right-inside}
 use Rattle.shifted_classes.proofs.Placings.{walk-begin, walk-ready, walk_more, walk-fail, walk_end}
@@ -23,30 +23,33 @@ shift-requires c =
     let l : o.k < length (rights_lent c.args.pairs.now) = omega (arith, h, length-rights c.args.pairs.now) in
     walk-ready c.args.lift c.args.cells.now c.args.memo.now (rights_lent c.args.pairs.now) c.requires o.cells o.memo o.invariant.0 o.k o.invariant.1 _ l (right-at c.args.pairs.now o.k h)
 
-pub returns-in_err-shift : goal.returns-in_err-shift
-returns-in_err-shift c =
+pub returns-in-Err : goal.returns-in-Err
+returns-in-Err c =
     let o = c.loop-k in
     let w = c.shift in
     let h : o.k < length c.args.pairs.now / 2 = omega (arith, c.loop-k-test.true) in
     let l : o.k < length (rights_lent c.args.pairs.now) = omega (arith, h, length-rights c.args.pairs.now) in (
-      [],
-      rw (handed-on _ _ c.from_residual.ensures.1) (walk-fail c.args.lift c.args.cells.now c.args.memo.now (rights_lent c.args.pairs.now) c.requires o.cells o.memo o.invariant.0 o.k o.invariant.1 _ l (right-at c.args.pairs.now o.k h)
-          w.new.cells w.new.memo w.result w.ensures _ c.in_err-shift.was []),
+      (
+        [],
+        walk-fail c.args.lift c.args.cells.now c.args.memo.now (rights_lent c.args.pairs.now) c.requires o.cells o.memo o.invariant.0 o.k o.invariant.1 _ l (right-at c.args.pairs.now o.k h)
+            w.new.cells w.new.memo w.result w.ensures c.in-Err.field-0 c.in-Err.is [],
+      ),
+      refl,
     )
 
 pub loop-k-preserved : goal.loop-k-preserved
 loop-k-preserved c =
     let o = c.loop-k in
     let w = c.shift in
-    let e = c.in_ok-shift.field-0 in
+    let e = c.in-Ok.field-0 in
     let h : o.k < length c.args.pairs.now / 2 = omega (arith, c.loop-k-test.true) in
     let l : o.k < length (rights_lent c.args.pairs.now) = omega (arith, h, length-rights c.args.pairs.now) in (
       o.invariant.0 ++ (e ∷ []),
       walk_more c.args.lift c.args.cells.now c.args.memo.now (rights_lent c.args.pairs.now) c.requires o.cells o.memo o.invariant.0 o.k o.invariant.1 _ l (right-at c.args.pairs.now o.k h)
-          w.new.cells w.new.memo w.result w.ensures e c.in_ok-shift.was,
+          w.new.cells w.new.memo w.result w.ensures e c.in-Ok.is,
     )
 
 pub returns : goal.returns
 returns c =
     let o = c.loop-k in
-    (o.invariant.0, walk_end c.args.lift c.args.cells.now c.args.memo.now (rights_lent c.args.pairs.now) c.requires o.cells o.memo o.invariant.0 o.k o.invariant.1 (omega (arith, c.loop-k-test.false, length-rights c.args.pairs.now)))
+    ((o.invariant.0, walk_end c.args.lift c.args.cells.now c.args.memo.now (rights_lent c.args.pairs.now) c.requires o.cells o.memo o.invariant.0 o.k o.invariant.1 (omega (arith, c.loop-k-test.false, length-rights c.args.pairs.now))), tt)
