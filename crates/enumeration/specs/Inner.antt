@@ -167,6 +167,11 @@ abbrev pub Comes : DependencyMap → DependencyEnumerator → (List (ℕ × ℕ)
 Comes m e w (Ok t) = CameOn m e w t
 Comes m e w (Err why) = Stops m e w why
 
+-- what a function that changes its account answers, with the account after it
+unfoldable pub turned : DependencyEnumerator → Result (Option (Result Ordering Refusal)) Refusal → Result Turned Refusal
+turned w (Ok leaf) = Ok (record { leaf = leaf; walk = w })
+turned w (Err why) = Err why
+
 -- what visiting a place comes to
 abbrev pub Visited : DependencyMap → DependencyEnumerator → ℕ → Result Turned Refusal → Type 0
 Visited m e i r = Comes m e (λ s. upward (walk_from m) (way_of m e) (at_entry (walk_from m) (entry_at (decode m) i).target (entry_at (decode m) i).dependencies s)) r

@@ -1,10 +1,10 @@
 // The walk from a key (`construct_orderings`): turn by turn, each pair of target and dependency expanded once.
 ghost use Rattle.std.specs.Prelude.{[], ◌∷◌, ◌≡◌, ◌≤◌, ◌<◌, ◌+◌, None};
 ghost use Rattle.orderings.specs.Inner.{extended_of};
-ghost use Rattle.enumeration.specs.Inner.{Walking, Room, up_all, frames_of, left, deeper, Visited, Entered, Went, kept, Walked};
+ghost use Rattle.enumeration.specs.Inner.{Walking, Room, up_all, frames_of, left, deeper, turned, Visited, Entered, Went, kept, Walked};
 
 use crate::marking::{mark, next_open};
-use crate::{Constructed, DependencyEnumerator, Found, Frame, Turned};
+use crate::{Constructed, DependencyEnumerator, Found, Frame};
 use arena::Refusal;
 use dependencies::DependencyMap;
 use dependencies::inserting::find_key;
@@ -27,47 +27,44 @@ fn way_up(m: DependencyMap, walk: DependencyEnumerator, target: u16) -> Result<O
     Ok(out)
 }
 
-// The walk goes on, and nothing was found.
-fn go_on(walk: DependencyEnumerator) -> Turned
-    ensures { result ≡ record { leaf = None; walk = walk } }
-{
-    Turned { leaf: None, walk }
-}
-
 // The walk goes one key down.
-fn go_down(walk: DependencyEnumerator, place: usize) -> Turned
-    requires { walk.depth < 1025 }
-    ensures { result ≡ record { leaf = None; walk = deeper walk place } }
+fn go_down(walk: &mut DependencyEnumerator, place: usize)
+    requires { walk.old.depth < 1025 }
+    ensures { walk.new ≡ deeper walk.old place }
 {
     let at = walk.depth;
-    let mut next = walk;
-    next.frames[at] = Frame { place, next: 0 };
-    next.depth = at + 1;
-    go_on(next)
+    walk.frames[at] = Frame { place, next: 0 };
+    walk.depth = at + 1;
 }
 
 // The walk comes to a place of the map: 7 where it has no target, an ordering where it depends on nothing.
-fn visit(m: DependencyMap, walk: DependencyEnumerator, place: usize) -> Result<Turned, Refusal>
-    requires { (Walking m walk × (walk.depth + left walk ≤ 1024)) × (place < m.count) }
-    ensures { Visited m walk place result }
+fn visit(
+    m: DependencyMap,
+    walk: &mut DependencyEnumerator,
+    place: usize,
+) -> Result<Option<Result<Ordering, Refusal>>, Refusal>
+    requires { (Walking m walk.old × (walk.old.depth + left walk.old ≤ 1024)) × (place < m.count) }
+    ensures { Visited m walk.old place (turned walk.new result) }
 {
     let node = m.list[place];
     if !node.projected {
         return Err(Refusal::NoTarget);
     }
     if node.size == 0 {
-        return Ok(Turned {
-            leaf: Some(way_up(m, walk, node.target)),
-            walk,
-        });
+        return Ok(Some(way_up(m, *walk, node.target)));
     }
-    Ok(go_down(walk, place))
+    go_down(walk, place);
+    Ok(None)
 }
 
 // The walk comes to a key: 6 where it is not in the map.
-fn enter(m: DependencyMap, walk: DependencyEnumerator, key: u16) -> Result<Turned, Refusal>
-    requires { Walking m walk × (walk.depth + left walk ≤ 1024) }
-    ensures { Entered m walk key result }
+fn enter(
+    m: DependencyMap,
+    walk: &mut DependencyEnumerator,
+    key: u16,
+) -> Result<Option<Result<Ordering, Refusal>>, Refusal>
+    requires { Walking m walk.old × (walk.old.depth + left walk.old ≤ 1024) }
+    ensures { Entered m walk.old key (turned walk.new result) }
 {
     match find_key(m, key) {
         Some(i) => visit(m, walk, i),
@@ -76,9 +73,12 @@ fn enter(m: DependencyMap, walk: DependencyEnumerator, key: u16) -> Result<Turne
 }
 
 // One turn of the walk: the next pair of the lowest key is expanded, or the walk leaves this key.
-fn turn(m: DependencyMap, walk: DependencyEnumerator) -> Result<Turned, Refusal>
-    requires { Walking m walk × (0 < walk.depth) }
-    ensures { Went m walk result }
+fn turn(
+    m: DependencyMap,
+    walk: &mut DependencyEnumerator,
+) -> Result<Option<Result<Ordering, Refusal>>, Refusal>
+    requires { Walking m walk.old × (0 < walk.old.depth) }
+    ensures { Went m walk.old (turned walk.new result) }
 {
     let at = walk.depth - 1;
     let top = walk.frames[at];
@@ -86,14 +86,13 @@ fn turn(m: DependencyMap, walk: DependencyEnumerator) -> Result<Turned, Refusal>
     let node = m.list[place];
     let k = next_open(walk.seen[place], top.next, node.size);
     if node.size <= k {
-        let mut up = walk;
-        up.depth = at;
-        return Ok(go_on(up));
+        walk.depth = at;
+        return Ok(None);
     }
     let key = node.dependencies[k];
-    let mut next = mark(m, walk, node.target, key);
-    next.frames[at] = Frame { place, next: k + 1 };
-    enter(m, next, key)
+    *walk = mark(m, *walk, node.target, key);
+    walk.frames[at] = Frame { place, next: k + 1 };
+    enter(m, walk, key)
 }
 
 // The orderings with the one that a turn found, if it found one.
@@ -102,11 +101,13 @@ fn keep(found: Found, leaf: Option<Result<Ordering, Refusal>>) -> Found
     requires { found.count ≤ 1024 }
     ensures { result ≡ kept found leaf }
 {
+    let Some(one) = leaf else {
+        return found;
+    };
     let n = found.count;
     let mut more = found;
-    match leaf {
-        None => {}
-        Some(Ok(ordering)) => {
+    match one {
+        Ok(ordering) => {
             if n < 1024 {
                 more.rows[n] = ordering;
                 more.count = n + 1;
@@ -114,7 +115,7 @@ fn keep(found: Found, leaf: Option<Result<Ordering, Refusal>>) -> Found
                 more.over = true;
             }
         }
-        Some(Err(_)) => {
+        Err(_) => {
             more.over = true;
         }
     }
@@ -131,14 +132,13 @@ pub fn construct_orderings(
     requires { (Walking m walk × (walk.depth ≡ 0)) × Room found }
     ensures { Walked m walk found key result }
 {
-    let start = enter(m, walk, key)?;
-    let mut way = start.walk;
-    let mut rows = keep(found, start.leaf);
+    let mut way = walk;
+    let leaf = enter(m, &mut way, key)?;
+    let mut rows = keep(found, leaf);
     // No count drives this loop: a turn makes the way down longer or shorter.
     while 0 < way.depth {
-        let next = turn(m, way)?;
-        rows = keep(rows, next.leaf);
-        way = next.walk;
+        let next = turn(m, &mut way)?;
+        rows = keep(rows, next);
     }
     Ok(Constructed {
         walk: way,
