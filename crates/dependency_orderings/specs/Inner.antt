@@ -103,6 +103,11 @@ abbrev pub Steps : DependencyMap → Gathered → ℕ → Result Gathered Refusa
 Steps m g k (Ok r) = StepsOn m g k r
 Steps m g k (Err why) = (ks : List ℕ) (ls : List (List (List ℕ))) → Gathering m ks ls g → contributing (decode m) (with_dependency ks (Some k)) ≡ stops (refusal_number why)
 
+-- what a function that changes what is gathered answers, with what is gathered after it
+unfoldable pub stepped : Gathered → Result (Unit {0}) Refusal → Result Gathered Refusal
+stepped g (Ok u) = Ok g
+stepped g (Err why) = Err why
+
 -- what all given keys come to, where no walk stops
 pub record GathersOn (m : DependencyMap) (ks : List ℕ) (r : Gathered) : Type 0 where
   pub standing : Standing r

@@ -5,7 +5,7 @@ ghost use Rattle.sort_keys.specs.Layout.{keys_of, packed as packed_key};
 ghost use Rattle.dependencies.specs.Map.{place_of};
 ghost use Rattle.dependencies.specs.Layout.{decode};
 ghost use Rattle.dependencies.specs.Inner.{Held};
-ghost use Rattle.dependency_orderings.specs.Inner.{no_lists, with_found, with_key, counting, ungathered, Standing, Gathers, Steps, KeysFit, key_at};
+ghost use Rattle.dependency_orderings.specs.Inner.{no_lists, with_found, with_key, counting, ungathered, Standing, Gathers, Steps, stepped, KeysFit, key_at};
 
 use crate::Gathered;
 use arena::Refusal;
@@ -98,22 +98,23 @@ fn note_key(g: Gathered, place: usize) -> Gathered
     more
 }
 
-// What is gathered after the key at a place of the map; a key that was walked adds nothing.
-fn add_place(m: DependencyMap, g: Gathered, place: usize) -> Result<Gathered, Refusal>
-    requires { (Held m × (place < m.count)) × Standing g }
-    ensures { (k : ℕ) → place_of (decode m) k ≡ Some place → Steps m g k result }
+// The key at a place of the map: what is gathered after it; a key that was walked adds nothing.
+fn add_place(m: DependencyMap, g: &mut Gathered, place: usize) -> Result<(), Refusal>
+    requires { (Held m × (place < m.count)) × Standing g.old }
+    ensures { (k : ℕ) → place_of (decode m) k ≡ Some place → Steps m g.old k (stepped g.new result) }
 {
     if g.walked[place] {
-        return Ok(g);
+        return Ok(());
     }
     let found = prefixes_at(m, place, g.lists.found)?;
-    Ok(add_found(note_key(g, place), found))
+    *g = add_found(note_key(*g, place), found);
+    Ok(())
 }
 
-// What is gathered after a key: 6 where it is not in the map.
-fn add_key(m: DependencyMap, g: Gathered, key: u16) -> Result<Gathered, Refusal>
-    requires { Held m × Standing g }
-    ensures { Steps m g key result }
+// A key: what is gathered after it; 6 where it is not in the map.
+fn add_key(m: DependencyMap, g: &mut Gathered, key: u16) -> Result<(), Refusal>
+    requires { Held m × Standing g.old }
+    ensures { Steps m g.old key (stepped g.new result) }
 {
     match find_key(m, key) {
         Some(i) => add_place(m, g, i),
@@ -136,7 +137,7 @@ pub fn gather(m: DependencyMap, keys: &[u32]) -> Result<Gathered, Refusal>
 {
     let mut g = nothing_gathered();
     for k in 0..keys.len() / 2 {
-        g = add_key(m, g, key_at(keys, k))?;
+        add_key(m, &mut g, key_at(keys, k))?;
     }
     Ok(g)
 }

@@ -1,6 +1,7 @@
 -- `dependency_orderings::gathering::add_key` meets its contract.
 use mathlib.Core.Path.{sym, ◌∙◌}
 use Rattle.dependencies.proofs.MapInserts.{key-inside}
+use Rattle.dependency_orderings.specs.Inner.{stepped}
 use Rattle.dependency_orderings.proofs.GatherLaws.{steps-missing}
 use Rattle.dependency_orderings.proofs.gathering.add_key.Goals as goal
 
@@ -14,4 +15,5 @@ pub returns-in-Some : goal.returns-in-Some
 returns-in-Some c = c.add_place.ensures c.args.key (sym c.find_key.ensures ∙ c.in-Some.is)
 
 pub returns-in-None : goal.returns-in-None
-returns-in-None c = steps-missing c.args.m c.args.g c.args.key c.requires.1 (sym c.find_key.ensures ∙ c.in-None.is)
+unfolding stepped
+returns-in-None c = steps-missing c.args.m c.args.g.now c.args.key c.requires.1 (sym c.find_key.ensures ∙ c.in-None.is)
