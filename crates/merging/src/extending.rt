@@ -36,9 +36,11 @@ pub fn contains_any(g: Group, i: usize, j: usize) -> bool
 {
     let sizes = g.sizes;
     let start = class_start(sizes, i);
+    let other = class_start(sizes, j);
+    let others = &g.members[other..other + g.sizes[j]];
     g.members[start..start + g.sizes[i]]
         .iter()
-        .any(|e| class_holds(g, j, *e))
+        .any(|e| others.contains(e))
 }
 
 // A class says nothing: it is empty, or has one member and no constant.
